@@ -75,3 +75,43 @@ impl Model for Funcs {
 
     ghost view = { λ n. n.0.items };
 }
+
+/// An item of a file, with the line on which it begins.
+#[derive(Debug, Drop)]
+pub enum Item {
+    Word {
+        line: u32,
+        name: Name,
+        /// How many cells an array has, as the file says; `None` for a plain word.
+        cells: Option<u64>,
+        /// The first value of a plain word; 0 for an array.
+        first: i64,
+    },
+    Mutex {
+        line: u32,
+        name: Name,
+    },
+    Sema {
+        line: u32,
+        name: Name,
+        first: u32,
+    },
+    Func(Func),
+}
+
+/// The items of a file, in the order of the text.
+#[derive(Debug, Drop)]
+pub struct Items(pub Vec<Item>);
+
+impl Model for Items {
+    ghost use Rattle.std.specs.Prelude.{List};
+    ghost use Rattle.loom_tree.specs.declared.item.Item.{Item};
+    ghost use Rattle.loom_tree.specs.contracts.item.Item as i;
+    ghost use Rattle.std.specs.Coded.{codes};
+
+    ghost Value = { List Item };
+
+    ghost coded = { Prim.hlevel (codes, i.the_row.coded) };
+
+    ghost view = { λ n. n.0.items };
+}

@@ -1,0 +1,2 @@
+//! The language: programs, and their parser.
+#![tactic(auto)]

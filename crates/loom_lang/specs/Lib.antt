@@ -1,1 +1,5 @@
 pub mod Rules
+pub mod Numbers
+pub mod Places
+pub mod Values
+pub mod Trace

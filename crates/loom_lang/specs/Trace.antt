@@ -14,11 +14,32 @@ use Rattle.loom_lang.specs.Values.{is_zero, applied, divides, negated, inverted}
 abbrev pub Locals : Type 0
 Locals = List (List ℕ × ℤ)
 
+-- why a thread traps: a divisor of 0, an index outside its array, `unlock` of a mutex, `join` of a value, a `spawn`,
+-- a call, `up` of a semaphore
+pub data Cause : Type 0 where
+  division : Cause
+  index : Cause
+  not_held : ℕ → Cause
+  not_spawned : ℤ → Cause
+  threads : Cause
+  frames : Cause
+  overflow : ℕ → Cause
+
+-- the number of a cause in the journal
+abbrev pub reason : Cause → ℕ
+reason division = 1
+reason index = 2
+reason (not_held m) = 3
+reason (not_spawned v) = 4
+reason threads = 5
+reason frames = 6
+reason (overflow s) = 7
+
 -- what a thread does that the journal tells
 pub data Act : Type 0 where
   begin : Act
   end : Act
-  trap : ℕ → Act
+  trap : Cause → Act
   read : ℕ → ℤ → Act
   write : ℕ → ℤ → Act
   lock : ℕ → Act
@@ -78,8 +99,8 @@ pub record Thread : Type 1 where
   pub program : Source
   pub stopped : Lists
 
-abbrev pub trapped : Thread → ℕ → ℕ → Lists
-trapped t line n = emit (made line (trap n)) t.stopped
+abbrev pub trapped : Thread → ℕ → Cause → Lists
+trapped t line c = emit (made line (trap c)) t.stopped
 
 -- with the number of a name; in a program each name has one
 abbrev pub numbered : Option ℕ → (ℕ → Lists) → Lists
@@ -108,8 +129,8 @@ variable t line None x more = reading_word line (cells_named t.program x) more
 -- with the number of an array's cell, where the index is one of the array
 abbrev pub within : Thread → ℕ → ℕ → Option ℕ → ℤ → (ℕ → Lists) → Lists
 within t line first None v more = broken
-within t line first (Some n) (pos i) more = choice (nat_lt i n) (more (first + i)) (trapped t line 2)
-within t line first (Some n) (negsuc i) more = trapped t line 2
+within t line first (Some n) (pos i) more = choice (nat_lt i n) (more (first + i)) (trapped t line index)
+within t line first (Some n) (negsuc i) more = trapped t line index
 
 abbrev pub indexed : Thread → ℕ → Option Cells → ℤ → (ℕ → Lists) → Lists
 indexed t line None v more = broken
@@ -117,7 +138,7 @@ indexed t line (Some c) v more = within t line c.first c.count v more
 
 -- a division by 0 traps
 abbrev pub operated : Thread → ℕ → Op → ℤ → ℤ → (ℤ → Lists) → Lists
-operated t line o a b more = choice (divides o && is_zero b) (trapped t line 1) (more (applied o a b))
+operated t line o a b more = choice (divides o && is_zero b) (trapped t line division) (more (applied o a b))
 
 -- operands from left to right, both sides of each operator
 abbrev pub expression : Thread → ℕ → Locals → Expression → (ℤ → Lists) → Lists
@@ -143,7 +164,7 @@ right t calls line env (Right.value e) more = expression t line env e more
 right t calls line env (Right.call f es) more = arguments t line env es (λ vs. numbered (function_number t.program f) (λ n. calls line n vs more))
 right t calls line env (Right.spawn f es) more =
     arguments t line env es (λ vs. numbered (function_number t.program f) (λ n.
-      either (trapped t line 5) (any (λ c. emit (made line (spawn c n vs)) (more (pos c))))))
+      either (trapped t line threads) (any (λ c. emit (made line (spawn c n vs)) (more (pos c))))))
 
 abbrev pub updated : Locals → List ℕ → ℤ → Locals
 updated [] x v = []
@@ -160,8 +181,8 @@ stored t line env None x v more = writing_word line (cells_named t.program x) v 
 
 -- `join` needs a thread's number
 abbrev pub joined : Thread → ℕ → ℤ → Lists → Lists
-joined t line (pos c) more = either (trapped t line 4) (emit (made line (join c)) more)
-joined t line (negsuc c) more = trapped t line 4
+joined t line (pos c) more = either (trapped t line (not_spawned (pos c))) (emit (made line (join c)) more)
+joined t line (negsuc c) more = trapped t line (not_spawned (negsuc c))
 
 -- A statement that can trap by the store may give its entry or the trap.
 abbrev pub effect : Thread → Calls → ℕ → Locals → Simple Expression → (ℤ → Lists) → (Locals → Lists) → Lists
@@ -173,9 +194,9 @@ effect t calls line env (Simple.call f es) ret more = arguments t line env es (�
 effect t calls line env (return None) ret more = emit (done line) (ret (pos 0))
 effect t calls line env (return (Some e)) ret more = expression t line env e (λ v. emit (done line) (ret v))
 effect t calls line env (tree.lock x) ret more = numbered (mutex_number t.program x) (λ m. emit (made line (lock m)) (more env))
-effect t calls line env (tree.unlock x) ret more = numbered (mutex_number t.program x) (λ m. either (trapped t line 3) (emit (made line (unlock m)) (more env)))
+effect t calls line env (tree.unlock x) ret more = numbered (mutex_number t.program x) (λ m. either (trapped t line (not_held m)) (emit (made line (unlock m)) (more env)))
 effect t calls line env (tree.down x) ret more = numbered (sema_number t.program x) (λ s. emit (made line (down s)) (more env))
-effect t calls line env (tree.up x) ret more = numbered (sema_number t.program x) (λ s. either (trapped t line 7) (emit (made line (up s)) (more env)))
+effect t calls line env (tree.up x) ret more = numbered (sema_number t.program x) (λ s. either (trapped t line (overflow s)) (emit (made line (up s)) (more env)))
 effect t calls line env (tree.join e) ret more = expression t line env e (λ v. joined t line v (more env))
 effect t calls line env (tree.print e) ret more = expression t line env e (λ v. emit (made line (print v)) (more env))
 effect t calls line env tree.skip ret more = more env
@@ -224,7 +245,7 @@ framed t deeper n f vs more (Some g) =
 
 -- A call is described by its depth: so many frames fit, and the next one traps.
 abbrev pub calls_to : Thread → ℕ → ℕ → Calls
-calls_to t n zero line f vs more = trapped t line 6
+calls_to t n zero line f vs more = trapped t line frames
 calls_to t n (suc d) line f vs more = framed t (calls_to t n d) n f vs more (found t.program.funcs f)
 
 abbrev pub frame_limit : ℕ

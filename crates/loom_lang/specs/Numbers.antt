@@ -1,5 +1,5 @@
 -- The numbers of what a program declares, each counted from 0 in the order of the text.
-use Rattle.std.specs.Prelude.{ℕ, zero, suc, ◌+◌, ◌==◌, List, [], ◌∷◌, map, Option, Some, None, option_map, if◌then◌else◌}
+use Rattle.std.specs.Prelude.{ℕ, suc, ◌+◌, ◌==◌, List, [], ◌∷◌, map, Option, Some, None, option_map, if◌then◌else◌}
 use Rattle.std.specs.Cmp.Lexicographic.{pointwise}
 use Rattle.loom_tree.specs.declared.item.Word.{Word}
 use Rattle.loom_tree.specs.declared.item.Sema.{Sema}
@@ -32,9 +32,3 @@ sema_number p x = position x (map (λ (s : Sema). s.name) p.semas)
 
 abbrev pub function_number : Source → List ℕ → Option ℕ
 function_number p x = position x (map (λ (f : Function). f.name) p.funcs)
-
--- the element of a number
-abbrev pub found : {A : Type 0} → List A → ℕ → Option A
-found [] n = None
-found (x ∷ xs) zero = Some x
-found (x ∷ xs) (suc n) = found xs n

@@ -1,7 +1,6 @@
 -- The places of a program: where a thread can stand.
-use Rattle.std.specs.Prelude.{ℕ, suc, List, [], ◌∷◌, ◌++◌, Option, Some, None}
+use Rattle.std.specs.Prelude.{slice_get, ℕ, suc, List, [], ◌∷◌, ◌++◌, Option, Some, None}
 use Rattle.loom_tree.specs.Tree.{Body, end, simple, if_, while_, Function, Source}
-use Rattle.loom_lang.specs.Numbers.{found}
 
 -- A statement is told by the line on which it begins, a function by its number.
 pub data Place : Type 0 where
@@ -29,7 +28,7 @@ abbrev pub places : Source → List Place
 places p = nowhere ∷ places_from 0 p.funcs
 
 abbrev pub place_at : Source → ℕ → Option Place
-place_at p k = found (places p) k
+place_at p k = slice_get (places p) k
 
 abbrev pub line_of_function : Option Function → ℕ
 line_of_function None = 0
@@ -38,7 +37,7 @@ line_of_function (Some f) = f.line
 -- the line of a place: an entry or out place has that of the `fn`
 abbrev pub line_of_place : Source → Place → ℕ
 line_of_place p nowhere = 0
-line_of_place p (entry n) = line_of_function (found p.funcs n)
+line_of_place p (entry n) = line_of_function (slice_get p.funcs n)
 line_of_place p (inside l) = l
 line_of_place p (back_edge l) = l
-line_of_place p (out n) = line_of_function (found p.funcs n)
+line_of_place p (out n) = line_of_function (slice_get p.funcs n)

@@ -1,13 +1,13 @@
 -- Marked traces: what one thread may make, whatever its reads give.
 --
 -- A part of a program stands for the lists of items that it may give, each part with what comes behind it.
-use Rattle.std.specs.Prelude.{ℕ, zero, suc, ◌+◌, ◌≡◌, ◌⊎◌, ◌==◌, List, [], ◌∷◌, ◌++◌, ℤ, pos, negsuc, Option, Some, None, Bool, true, false, nat_lt, ◌&&◌, if◌then◌else◌, map}
+use Rattle.std.specs.Prelude.{slice_get, ℕ, zero, suc, ◌+◌, ◌≡◌, ◌⊎◌, ◌==◌, List, [], ◌∷◌, ◌++◌, ℤ, pos, negsuc, Option, Some, None, Bool, true, false, nat_lt, ◌&&◌, if◌then◌else◌, map}
 use Rattle.std.specs.Cmp.Lexicographic.{pointwise}
 use Rattle.loom_tree.specs.declared.expression.Op.{Op}
 use Rattle.loom_tree.specs.Tree.{Expression, num, var, cell, neg, inverse, bin, Right, Simple, let_, set, set_cell, return, Body, simple, if_, while_, Function, Source}
 use Rattle.loom_tree.specs.Tree as tree
 use Rattle.loom_lang.specs.Rules.{lets}
-use Rattle.loom_lang.specs.Numbers.{Cells, cells_named, mutex_number, sema_number, function_number, found}
+use Rattle.loom_lang.specs.Numbers.{Cells, cells_named, mutex_number, sema_number, function_number}
 use Rattle.loom_lang.specs.Values.{is_zero, applied, divides, negated, inverted}
 
 -- the locals of a frame and their values
@@ -246,7 +246,7 @@ framed t deeper n f vs more (Some g) =
 -- A call is described by its depth: so many frames fit, and the next one traps.
 abbrev pub calls_to : Thread → ℕ → ℕ → Calls
 calls_to t n zero line f vs more = trapped t line frames
-calls_to t n (suc d) line f vs more = framed t (calls_to t n d) n f vs more (found t.program.funcs f)
+calls_to t n (suc d) line f vs more = framed t (calls_to t n d) n f vs more (slice_get t.program.funcs f)
 
 abbrev pub frame_limit : ℕ
 frame_limit = 256
@@ -263,4 +263,4 @@ thread p (Some g) f vs n =
 pub record IsTrace (p : Source) (f : ℕ) (vs : List ℤ) (items : List Item) (r : Outcome) : Type 0 where
   -- no loop makes more turns
   pub most_turns : ℕ
-  pub gives : thread p (found p.funcs f) f vs most_turns items r
+  pub gives : thread p (slice_get p.funcs f) f vs most_turns items r

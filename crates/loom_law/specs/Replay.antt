@@ -1,11 +1,11 @@
 -- The replay of events: words, mutexes, semaphores and threads.
-use Rattle.std.specs.Prelude.{ℕ, zero, suc, ◌+◌, ◌<◌, ◌≤◌, ◌≡◌, ◌≢◌, ℤ, pos, Bool, true, false, List, [], ◌∷◌, ◌++◌, length, map, flat_map, replicate, slice_set, Option, Some, None, codes}
+use Rattle.std.specs.Prelude.{slice_get, ℕ, zero, suc, ◌+◌, ◌<◌, ◌≤◌, ◌≡◌, ◌≢◌, ℤ, pos, Bool, true, false, List, [], ◌∷◌, ◌++◌, length, map, flat_map, replicate, slice_set, Option, Some, None, codes}
 use Rattle.loom_tree.specs.declared.item.Word.{Word}
 use Rattle.loom_tree.specs.declared.item.Sema.{Sema}
 use Rattle.loom_tree.specs.Tree.{Source}
 use Rattle.loom_trace.specs.declared.entry.What.{What}
 use Rattle.loom_trace.specs.declared.entry.What.TheVariants as w
-use Rattle.loom_lang.specs.Numbers.{found, function_number}
+use Rattle.loom_lang.specs.Numbers.{function_number}
 use Rattle.loom_lang.specs.Trace.{Cause, division, index, not_held, not_spawned, threads, frames, overflow, Act, begin, end, trap, read, write, lock, unlock, down, up, spawn, join, print}
 use Rattle.loom_law.specs.Event.{Event}
 
@@ -51,7 +51,7 @@ start p = record {
 -- the thread of a number, from 1
 abbrev pub thread_at : Store → ℕ → Option Spawned
 thread_at s zero = None
-thread_at s (suc n) = found s.spawned n
+thread_at s (suc n) = slice_get s.spawned n
 
 pub record IsRunning (s : Store) (t : ℕ) : Type 0 where
   pub state : Spawned
@@ -81,22 +81,22 @@ abbrev pub IsCaused : Store → ℕ → Cause → Type 0
 IsCaused s t division = Unit {0}
 IsCaused s t index = Unit {0}
 IsCaused s t frames = Unit {0}
-IsCaused s t (not_held m) = found s.holders m ≢ Some (Some t)
+IsCaused s t (not_held m) = slice_get s.holders m ≢ Some (Some t)
 IsCaused s t (not_spawned v) = (c : ℕ) → v ≡ pos c → thread_at s c ≡ None
 IsCaused s t threads = thread_limit ≤ length s.spawned
-IsCaused s t (overflow k) = found s.semas k ≡ Some sema_limit
+IsCaused s t (overflow k) = slice_get s.semas k ≡ Some sema_limit
 
 -- what a thread that runs may do
 abbrev pub MayDo : Store → ℕ → Act → Type 0
 MayDo s t begin = ⊥
 MayDo s t end = Unit {0}
 MayDo s t (trap c) = IsCaused s t c
-MayDo s t (read x v) = found s.words x ≡ Some v
+MayDo s t (read x v) = slice_get s.words x ≡ Some v
 MayDo s t (write x v) = Unit {0}
-MayDo s t (lock m) = found s.holders m ≡ Some None
-MayDo s t (unlock m) = found s.holders m ≡ Some (Some t)
-MayDo s t (down k) = (n : ℕ) × (found s.semas k ≡ Some (suc n))
-MayDo s t (up k) = (n : ℕ) × (found s.semas k ≡ Some n) × (n < sema_limit)
+MayDo s t (lock m) = slice_get s.holders m ≡ Some None
+MayDo s t (unlock m) = slice_get s.holders m ≡ Some (Some t)
+MayDo s t (down k) = (n : ℕ) × (slice_get s.semas k ≡ Some (suc n))
+MayDo s t (up k) = (n : ℕ) × (slice_get s.semas k ≡ Some n) × (n < sema_limit)
 MayDo s t (spawn c f vs) = (c ≡ length s.spawned + 1) × (c ≤ thread_limit)
 MayDo s t (join c) = HasEnded s c
 MayDo s t (print v) = Unit {0}
@@ -137,8 +137,8 @@ after_act s t (read x v) = s
 after_act s t (write x v) = record s { words = slice_set s.words x v }
 after_act s t (lock m) = record s { holders = slice_set s.holders m (Some t) }
 after_act s t (unlock m) = record s { holders = slice_set s.holders m None }
-after_act s t (down k) = record s { semas = slice_set s.semas k (counted_down (found s.semas k)) }
-after_act s t (up k) = record s { semas = slice_set s.semas k (counted_up (found s.semas k)) }
+after_act s t (down k) = record s { semas = slice_set s.semas k (counted_down (slice_get s.semas k)) }
+after_act s t (up k) = record s { semas = slice_set s.semas k (counted_up (slice_get s.semas k)) }
 after_act s t (spawn c f vs) = record s { spawned = s.spawned ++ new_thread f vs ∷ [] }
 after_act s t (join c) = s
 after_act s t (print v) = s
@@ -158,8 +158,8 @@ AreAllowed s (x ∷ xs) = IsAllowed s x × AreAllowed (after s x) xs
 -- What a thread asks for is disabled: a mutex that is held, a semaphore at 0, the end of a thread that lives.
 -- No filter is installed, so nobody waits at one.
 abbrev pub IsDisabled : Store → What → Type 0
-IsDisabled s (w.Lock m) = (t : ℕ) × (found s.holders m ≡ Some (Some t))
-IsDisabled s (w.Down k) = found s.semas k ≡ Some 0
+IsDisabled s (w.Lock m) = (t : ℕ) × (slice_get s.holders m ≡ Some (Some t))
+IsDisabled s (w.Down k) = slice_get s.semas k ≡ Some 0
 IsDisabled s (w.Join c) = (x : Spawned) × (thread_at s c ≡ Some x) × (x.ended ≡ false)
 IsDisabled s (w.Enter k c) = ⊥
 IsDisabled s (w.Wait k e) = ⊥

@@ -1,1 +1,4 @@
 pub mod Facts
+pub mod Traced
+pub mod Replayed
+pub mod Whole

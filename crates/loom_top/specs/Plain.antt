@@ -1,5 +1,5 @@
 -- The one run of a program that is built so far, as functions of the values of its words.
-use Rattle.std.specs.Prelude.{ℕ, suc, ℤ, pos, ◌==◌, List, [], ◌∷◌, ◌++◌, map, slice_index_or, slice_set, if◌then◌else◌}
+use Rattle.std.specs.Prelude.{Bool, false, ℕ, suc, ℤ, pos, ◌==◌, List, [], ◌∷◌, ◌++◌, map, slice_index_or, slice_set, if◌then◌else◌}
 use Rattle.std.specs.Cmp.Lexicographic.{pointwise}
 use Rattle.loom_tree.specs.declared.item.Word.{Word}
 use Rattle.loom_tree.specs.Tree.{Expression, num, var, bin, Right, Simple, set, Body, simple, Function, Source}
@@ -56,3 +56,7 @@ entries ws f = e.Begin 1 f.line ∷ (map tells (body_deeds ws (first_values ws) 
 abbrev pub entries_of : List Word → List Function → List Entry
 entries_of ws [] = []
 entries_of ws (f ∷ fs) = entries ws f
+
+-- No stop test is given.
+abbrev pub never : Entry → Bool
+never x = false

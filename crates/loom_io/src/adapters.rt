@@ -85,3 +85,34 @@ impl<P: Print> Sink for OutSink<'_, P> {
         }
     }
 }
+
+#[cfg(test)]
+mod tests {
+    use super::*;
+    use std::test::Fail;
+
+    #[test]
+    fn reads_files_of_the_system(rt: HostRuntime) -> Result<(), Fail> {
+        let name = "loom_io_test.lm";
+        fs::write(&rt, name, "fn main() {}\n")?;
+        let mut shelf = DirShelf { rt: &rt, faults: 0 };
+        let whole = shelf.read(rt.alloc(), name, 100);
+        let front = shelf.read(rt.alloc(), name, 6);
+        fs::remove_file(&rt, name)?;
+        assert_eq!(rt; whole?.bytes(), "fn main() {}\n".as_bytes());
+        assert_eq!(rt; front?.bytes(), "fn main".as_bytes());
+        assert_eq!(rt; shelf.faults, 0);
+        let missing = shelf.read(rt.alloc(), name, 100).err();
+        assert_eq!(rt; missing, Some(ShelfError::Failed));
+        assert_eq!(rt; shelf.faults, 1);
+        Ok(())
+    }
+
+    #[test]
+    fn writes_a_line(rt: HostRuntime) -> Result<(), Fail> {
+        let mut sink = OutSink { rt: &rt, faults: 0 };
+        assert_eq!(rt; sink.put(b"line\n")?, 5);
+        assert_eq!(rt; sink.faults, 0);
+        Ok(())
+    }
+}

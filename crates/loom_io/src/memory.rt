@@ -90,7 +90,9 @@ impl Shelf for MemShelf {
         ensures failed { (result ≡ Err ShelfError.Failed) ↔ (Contains self.old.failing self.new.calls ⊎ IsNone (bytes_of self.old.files name.now)) }
     {
         self.calls = self.calls.saturating_add(1);
-        if !self.failing.has(self.calls) && let Some(file) = self.files.find(name) {
+        if !self.failing.has(self.calls)
+            && let Some(file) = self.files.find(name)
+        {
             let bytes = file.bytes();
             let end = bytes.len().min(limit + 1);
             return Ok(Name::copied(alloc, &bytes[..end])?);
@@ -160,10 +162,67 @@ impl Sink for MemSink {
         self.calls = self.calls.saturating_add(1);
         let room = self.taken.0.capacity() - self.taken.0.len();
         let n = piece.len().min(self.most).min(room);
-        if n > 0 && !self.failing.has(self.calls) && self.taken.0.extend_from_slice(&piece[..n]).is_ok() {
+        if n > 0
+            && !self.failing.has(self.calls)
+            && self.taken.0.extend_from_slice(&piece[..n]).is_ok()
+        {
             return Ok(n);
         }
         self.faults = self.faults.saturating_add(1);
         Err(SinkFailed)
+    }
+}
+
+#[cfg(test)]
+mod tests {
+    use super::*;
+    use std::test::Fail;
+
+    fn shelf(alloc: Global) -> Result<MemShelf, NoMemory> {
+        let mut files = Vec::new(alloc);
+        for (name, bytes) in [
+            ("a.lm", "fn main() {}"),
+            ("b.lm", "more"),
+            ("a.lm", "later"),
+        ] {
+            files.push((
+                Name::copied(alloc, name.as_bytes())?,
+                Name::copied(alloc, bytes.as_bytes())?,
+            ))?;
+        }
+        let mut failing = Vec::new(alloc);
+        failing.push(3)?;
+        Ok(MemShelf {
+            files: Files(files),
+            failing: Calls(failing),
+            calls: 0,
+            faults: 0,
+        })
+    }
+
+    #[test]
+    fn reads_files(rt: HostRuntime) -> Result<(), Fail> {
+        let alloc = rt.alloc();
+        let mut shelf = shelf(alloc)?;
+        assert_eq!(rt;
+            shelf.read(alloc, "a.lm", 12)?.bytes(),
+            "fn main() {}".as_bytes()
+        );
+        assert_eq!(rt; shelf.read(alloc, "b.lm", 2)?.bytes(), "mor".as_bytes());
+        assert_eq!(rt; shelf.faults, 0);
+        assert_eq!(rt;
+            shelf.read(alloc, "b.lm", 4).err(),
+            Some(ShelfError::Failed),
+            "the third call"
+        );
+        assert_eq!(rt; shelf.read(alloc, "b.lm", 4)?.bytes(), "more".as_bytes());
+        assert_eq!(rt;
+            shelf.read(alloc, "c.lm", 4).err(),
+            Some(ShelfError::Failed),
+            "no such file"
+        );
+        assert_eq!(rt; shelf.calls, 5);
+        assert_eq!(rt; shelf.faults, 2);
+        Ok(())
     }
 }

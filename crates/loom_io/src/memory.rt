@@ -119,7 +119,8 @@ pub struct MemSink {
 
 impl MemSink {
     /// A sink that has taken nothing, with room for `room` bytes, that takes at most `most` bytes a
-    /// call, at least 1. No call is to fail. An `Err` is want of memory.
+    /// call, at least 1. No call is to fail. An `Err` is want of memory. The clauses see the bytes
+    /// of `taken` and not its room.
     pub fn make(alloc: Global, room: usize, most: usize) -> Result<MemSink, NoMemory>
         requires { 1 ≤ most }
         ensures taken { IfOk result (λ s. s.taken ≡ []) }
@@ -143,8 +144,9 @@ impl Sink for MemSink {
 
     ghost taken = { λ s. Some s.taken };
 
-    /// Takes as many bytes as the piece has, as a call may take and as there is room for. Taking
-    /// none is a fault, and so is a call that is to fail.
+    /// Takes as many bytes as the piece has, as a call may take and as there is room for, and takes
+    /// no memory. Taking none is a fault, and so is a call that is to fail. The clauses see the
+    /// bytes of `taken` and not its room, so that a fault comes only where room lacks is for tests.
     fn put(&mut self, piece: &[u8]) -> Result<usize, SinkFailed>
         requires { 0 < length piece.now }
         ensures most { self.new.most ≡ self.old.most }

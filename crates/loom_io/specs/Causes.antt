@@ -1,0 +1,15 @@
+-- Counts of faults, by which an answer has its cause, and what a sink takes.
+use Rattle.std.specs.Prelude.{ℕ, ◌+◌, ◌-◌, ◌^◌, ◌≤◌, min, List, take, Option, Result, MatchResult}
+use Rattle.std.specs.Io.KnownBytes.{Appends, Keeps}
+
+-- the next number of a count, which stands once it is at its end
+abbrev pub next : ℕ → ℕ
+next count = min (count + 1) (2 ^ 64 - 1)
+
+-- a count rose, unless it stands at its end
+abbrev pub Rose : ℕ → ℕ → Type 0
+Rose before now = next before ≤ now
+
+-- at `Ok(n)` the first n bytes of the piece were taken, and at an error none
+abbrev pub Took : {E : Type 0} → Option (List ℕ) → Option (List ℕ) → Result ℕ E → List ℕ → Type 0
+Took old new r piece = MatchResult r (λ n. Appends old new (take n piece)) (λ _. Keeps old new)

@@ -1,5 +1,5 @@
 -- The parts of which the line of an entry is put together.
-use Rattle.std.specs.Prelude.{ℕ, List, [], ◌∷◌, ◌++◌, map, codes}
+use Rattle.std.specs.Prelude.{ℕ, List, [], ◌∷◌, ◌++◌, map, codes, Option, Some, None}
 use Rattle.loom_trace.specs.declared.entry.Entry.{Entry}
 use Rattle.loom_trace.specs.declared.entry.Entry.TheVariants as e
 use Rattle.loom_trace.specs.Text.{decimal, signed_decimal, thread_at, what_fields, ending_word}
@@ -8,31 +8,36 @@ use Rattle.loom_trace.specs.Text.{decimal, signed_decimal, thread_at, what_field
 abbrev pub thread_before : ℕ → ℕ → List ℕ
 thread_before thread line = thread_at thread line ++ 32 ∷ []
 
--- what stands before the word
-abbrev pub before_of : Entry → List ℕ
-before_of (e.Begin t l) = thread_before t l
-before_of (e.End t l) = thread_before t l
-before_of (e.Trap t l reason) = thread_before t l
-before_of (e.Read t l word value) = thread_before t l
-before_of (e.Write t l word value) = thread_before t l
-before_of (e.Lock t l m) = thread_before t l
-before_of (e.Unlock t l m) = thread_before t l
-before_of (e.Down t l s) = thread_before t l
-before_of (e.Up t l s) = thread_before t l
-before_of (e.Spawn t l child func args) = thread_before t l
-before_of (e.Join t l child) = thread_before t l
-before_of (e.Print t l value) = thread_before t l
-before_of (e.Tick t l place) = thread_before t l
-before_of (e.Blocked t l what) = thread_before t l
-before_of (e.At t l k events) = thread_before t l
-before_of (e.Past t l k events) = thread_before t l
-before_of (e.Back t l) = thread_before t l
-before_of (e.Enter t l k clause) = thread_before t l
-before_of (e.Leave t l k clause) = thread_before t l
-before_of (e.Post t l k event) = thread_before t l
-before_of (e.Wait t l k event) = thread_before t l
-before_of (e.Cross t l place version passed) = thread_before t l
-before_of _ = []
+-- what stands before a word
+abbrev pub before : Option (ℕ × ℕ) → List ℕ
+before None = []
+before (Some place) = thread_before place.0 place.1
+
+-- the thread and the line of what a thread does
+abbrev pub place_of : Entry → Option (ℕ × ℕ)
+place_of (e.Begin t l) = Some (t, l)
+place_of (e.End t l) = Some (t, l)
+place_of (e.Trap t l reason) = Some (t, l)
+place_of (e.Read t l word value) = Some (t, l)
+place_of (e.Write t l word value) = Some (t, l)
+place_of (e.Lock t l m) = Some (t, l)
+place_of (e.Unlock t l m) = Some (t, l)
+place_of (e.Down t l s) = Some (t, l)
+place_of (e.Up t l s) = Some (t, l)
+place_of (e.Spawn t l child func args) = Some (t, l)
+place_of (e.Join t l child) = Some (t, l)
+place_of (e.Print t l value) = Some (t, l)
+place_of (e.Tick t l place) = Some (t, l)
+place_of (e.Blocked t l what) = Some (t, l)
+place_of (e.At t l k events) = Some (t, l)
+place_of (e.Past t l k events) = Some (t, l)
+place_of (e.Back t l) = Some (t, l)
+place_of (e.Enter t l k clause) = Some (t, l)
+place_of (e.Leave t l k clause) = Some (t, l)
+place_of (e.Post t l k event) = Some (t, l)
+place_of (e.Wait t l k event) = Some (t, l)
+place_of (e.Cross t l place version passed) = Some (t, l)
+place_of _ = None
 
 -- the word
 abbrev pub word_of : Entry → List ℕ

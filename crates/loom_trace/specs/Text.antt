@@ -1,5 +1,5 @@
 -- The text of a journal.
-use Rattle.std.specs.Prelude.{ℕ, zero, suc, ◌+◌, ◌/◌, ◌%◌, ℤ, pos, negsuc, nat_lt, if◌then◌else◌, List, [], ◌∷◌, ◌++◌, map, flat_map, codes}
+use Rattle.std.specs.Prelude.{ℕ, zero, suc, ◌+◌, ◌/◌, ◌%◌, ℤ, pos, negsuc, nat_lt, if◌then◌else◌, List, [], ◌∷◌, ◌++◌, map, codes}
 use Rattle.loom_trace.specs.declared.entry.Ending.{Ending}
 use Rattle.loom_trace.specs.declared.entry.Ending.TheVariants as ending
 use Rattle.loom_trace.specs.declared.entry.What.{What}

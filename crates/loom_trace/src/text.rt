@@ -1,7 +1,7 @@
 //! The text of an entry.
 ghost use Rattle.std.specs.Prelude.{◌≡◌, ◌+◌, ◌*◌, ◌<◌, ◌≤◌, [], ◌∷◌, ◌++◌, length, map};
 ghost use Rattle.loom_trace.specs.Text.{decimal, signed_decimal, spaced, what_fields, ending_word, entry_line};
-ghost use Rattle.loom_trace.specs.Parts.{thread_before, before_of, word_of, fields_of};
+ghost use Rattle.loom_trace.specs.Parts.{thread_before, place_of, before, word_of, fields_of};
 
 use crate::entry::{Ending, Entry, What};
 use crate::line::Line;
@@ -9,184 +9,184 @@ use crate::row::{Args, Events, PlaceRow};
 use itoa::Buffer;
 
 #[tactic(auto, using(crate::proofs::Decimal::same_decimal))]
-fn put_byte(n: u8, line: &mut Line)
-    requires { length line.old ≤ 157 }
-    ensures text { line.new ≡ line.old ++ decimal n }
-    ensures short { length line.new ≤ length line.old + 3 }
+fn put_byte(n: u8, out: &mut Line)
+    requires { length out.old ≤ 157 }
+    ensures text { out.new ≡ out.old ++ decimal n }
+    ensures short { length out.new ≤ length out.old + 3 }
 {
     let mut buffer = Buffer::new();
-    line.add(buffer.format(n).as_bytes());
+    out.add(buffer.format(n).as_bytes());
 }
 
 #[tactic(auto, using(crate::proofs::Decimal::same_decimal))]
-fn put_number(n: u32, line: &mut Line)
-    requires { length line.old ≤ 150 }
-    ensures text { line.new ≡ line.old ++ decimal n }
-    ensures short { length line.new ≤ length line.old + 10 }
+fn put_number(n: u32, out: &mut Line)
+    requires { length out.old ≤ 150 }
+    ensures text { out.new ≡ out.old ++ decimal n }
+    ensures short { length out.new ≤ length out.old + 10 }
 {
     let mut buffer = Buffer::new();
-    line.add(buffer.format(n).as_bytes());
+    out.add(buffer.format(n).as_bytes());
 }
 
 #[tactic(auto, using(crate::proofs::Decimal::same_signed))]
-fn put_value(n: i64, line: &mut Line)
-    requires { length line.old ≤ 140 }
-    ensures text { line.new ≡ line.old ++ signed_decimal n }
-    ensures short { length line.new ≤ length line.old + 20 }
+fn put_value(n: i64, out: &mut Line)
+    requires { length out.old ≤ 140 }
+    ensures text { out.new ≡ out.old ++ signed_decimal n }
+    ensures short { length out.new ≤ length out.old + 20 }
 {
     let mut buffer = Buffer::new();
-    line.add(buffer.format(n).as_bytes());
+    out.add(buffer.format(n).as_bytes());
 }
 
 // The thread and the line of what a thread does, and a space.
-fn put_thread(thread: u8, at: u32, line: &mut Line)
-    requires { length line.old ≤ 145 }
-    ensures text { line.new ≡ line.old ++ thread_before thread at }
-    ensures short { length line.new ≤ length line.old + 15 }
+fn put_thread(thread: u8, at: u32, out: &mut Line)
+    requires { length out.old ≤ 145 }
+    ensures text { out.new ≡ out.old ++ thread_before thread at }
+    ensures short { length out.new ≤ length out.old + 15 }
 {
-    put_byte(thread, line);
-    line.push(b':');
-    put_number(at, line);
-    line.push(b' ');
+    put_byte(thread, out);
+    out.push(b':');
+    put_number(at, out);
+    out.push(b' ');
 }
 
 // Numbers, each behind a space.
-fn put_bytes(numbers: &[u8], line: &mut Line)
-    requires { length line.old + 4 * length numbers.now ≤ 160 }
-    ensures text { line.new ≡ line.old ++ spaced (map decimal numbers.now) }
-    ensures short { length line.new ≤ length line.old + 4 * length numbers.now }
+fn put_bytes(numbers: &[u8], out: &mut Line)
+    requires { length out.old + 4 * length numbers.now ≤ 160 }
+    ensures text { out.new ≡ out.old ++ spaced (map decimal numbers.now) }
+    ensures short { length out.new ≤ length out.old + 4 * length numbers.now }
 {
     for n in numbers {
-        line.push(b' ');
-        put_byte(*n, line);
+        out.push(b' ');
+        put_byte(*n, out);
     }
 }
 
-fn put_numbers(numbers: &[u32], line: &mut Line)
-    requires { length line.old + 11 * length numbers.now ≤ 160 }
-    ensures text { line.new ≡ line.old ++ spaced (map decimal numbers.now) }
-    ensures short { length line.new ≤ length line.old + 11 * length numbers.now }
+fn put_numbers(numbers: &[u32], out: &mut Line)
+    requires { length out.old + 11 * length numbers.now ≤ 160 }
+    ensures text { out.new ≡ out.old ++ spaced (map decimal numbers.now) }
+    ensures short { length out.new ≤ length out.old + 11 * length numbers.now }
 {
     for n in numbers {
-        line.push(b' ');
-        put_number(*n, line);
+        out.push(b' ');
+        put_number(*n, out);
     }
 }
 
-fn put_places(places: &[u16], line: &mut Line)
-    requires { length line.old + 11 * length places.now ≤ 160 }
-    ensures text { line.new ≡ line.old ++ spaced (map decimal places.now) }
+fn put_places(places: &[u16], out: &mut Line)
+    requires { length out.old + 11 * length places.now ≤ 160 }
+    ensures text { out.new ≡ out.old ++ spaced (map decimal places.now) }
 {
     for place in places {
-        line.push(b' ');
-        put_number(*place as u32, line);
+        out.push(b' ');
+        put_number(*place as u32, out);
     }
 }
 
-fn put_values(values: &[i64], line: &mut Line)
-    requires { length line.old + 21 * length values.now ≤ 160 }
-    ensures text { line.new ≡ line.old ++ spaced (map signed_decimal values.now) }
+fn put_values(values: &[i64], out: &mut Line)
+    requires { length out.old + 21 * length values.now ≤ 160 }
+    ensures text { out.new ≡ out.old ++ spaced (map signed_decimal values.now) }
 {
     for value in values {
-        line.push(b' ');
-        put_value(*value, line);
+        out.push(b' ');
+        put_value(*value, out);
     }
 }
 
 // A word behind a space.
-fn put_word(word: &[u8], line: &mut Line)
-    requires { length line.old + length word.now < 160 }
-    ensures text { line.new ≡ line.old ++ 32 ∷ word.now }
-    ensures len { length line.new ≡ length line.old + length word.now + 1 }
+fn put_word(word: &[u8], out: &mut Line)
+    requires { length out.old + length word.now < 160 }
+    ensures text { out.new ≡ out.old ++ 32 ∷ word.now }
+    ensures len { length out.new ≡ length out.old + length word.now + 1 }
 {
-    line.push(b' ');
-    line.add(word);
+    out.push(b' ');
+    out.add(word);
 }
 
 #[tactic(auto, using(std::proofs::Common::append_assoc))]
-fn put_what(what: &What, line: &mut Line)
-    requires { length line.old ≤ 100 }
-    ensures { line.new ≡ line.old ++ spaced (what_fields what.now) }
+fn put_what(what: &What, out: &mut Line)
+    requires { length out.old ≤ 100 }
+    ensures { out.new ≡ out.old ++ spaced (what_fields what.now) }
 {
     match what {
         What::Lock(m) => {
-            put_word(b"lock", line);
-            put_bytes(&[*m], line);
+            put_word(b"lock", out);
+            put_bytes(&[*m], out);
         }
         What::Down(s) => {
-            put_word(b"down", line);
-            put_bytes(&[*s], line);
+            put_word(b"down", out);
+            put_bytes(&[*s], out);
         }
         What::Join(child) => {
-            put_word(b"join", line);
-            put_bytes(&[*child], line);
+            put_word(b"join", out);
+            put_bytes(&[*child], out);
         }
         What::Enter(k, clause) => {
-            put_word(b"enter", line);
-            put_bytes(&[*k, *clause], line);
+            put_word(b"enter", out);
+            put_bytes(&[*k, *clause], out);
         }
         What::Wait(k, event) => {
-            put_word(b"wait", line);
-            put_bytes(&[*k, *event], line);
+            put_word(b"wait", out);
+            put_bytes(&[*k, *event], out);
         }
     }
 }
 
-fn put_ending(kind: &Ending, line: &mut Line)
-    requires { length line.old ≤ 100 }
-    ensures { line.new ≡ line.old ++ spaced (ending_word kind.now ∷ []) }
+fn put_ending(kind: &Ending, out: &mut Line)
+    requires { length out.old ≤ 100 }
+    ensures { out.new ≡ out.old ++ spaced (ending_word kind.now ∷ []) }
 {
     match kind {
-        Ending::Done => put_word(b"done", line),
-        Ending::Stuck => put_word(b"stuck", line),
-        Ending::Limit => put_word(b"limit", line),
-        Ending::Stopped => put_word(b"stopped", line),
+        Ending::Done => put_word(b"done", out),
+        Ending::Stuck => put_word(b"stuck", out),
+        Ending::Limit => put_word(b"limit", out),
+        Ending::Stopped => put_word(b"stopped", out),
     }
 }
 
 // A word's number and a value.
-fn put_access(word: u32, value: i64, line: &mut Line)
-    requires { length line.old ≤ 100 }
-    ensures { line.new ≡ line.old ++ spaced (decimal word ∷ signed_decimal value ∷ []) }
+fn put_access(word: u32, value: i64, out: &mut Line)
+    requires { length out.old ≤ 100 }
+    ensures { out.new ≡ out.old ++ spaced (decimal word ∷ signed_decimal value ∷ []) }
 {
-    put_numbers(&[word], line);
-    put_values(&[value], line);
+    put_numbers(&[word], out);
+    put_values(&[value], out);
 }
 
-fn put_spawn(child: u8, func: u8, args: &Args, line: &mut Line)
-    requires { length line.old ≤ 24 }
-    ensures { line.new
-        ≡ line.old ++ spaced (decimal child ∷ decimal func ∷ map signed_decimal args.now) }
+fn put_spawn(child: u8, func: u8, args: &Args, out: &mut Line)
+    requires { length out.old ≤ 24 }
+    ensures { out.new
+        ≡ out.old ++ spaced (decimal child ∷ decimal func ∷ map signed_decimal args.now) }
 {
-    put_bytes(&[child, func], line);
-    put_values(args.as_slice(), line);
+    put_bytes(&[child, func], out);
+    put_values(args.as_slice(), out);
 }
 
-fn put_events(k: u8, events: &Events, line: &mut Line)
-    requires { length line.old ≤ 24 }
-    ensures { line.new ≡ line.old ++ spaced (decimal k ∷ map decimal events.now) }
+fn put_events(k: u8, events: &Events, out: &mut Line)
+    requires { length out.old ≤ 24 }
+    ensures { out.new ≡ out.old ++ spaced (decimal k ∷ map decimal events.now) }
 {
-    put_bytes(&[k], line);
-    put_bytes(events.as_slice(), line);
+    put_bytes(&[k], out);
+    put_bytes(events.as_slice(), out);
 }
 
 // A command, the version that it makes, and where the threads stand.
-fn put_change(k: u8, version: u32, places: &PlaceRow, line: &mut Line)
-    requires { length line.old ≤ 24 }
-    ensures { line.new
-        ≡ line.old ++ spaced (decimal k ∷ decimal version ∷ map decimal places.now) }
+fn put_change(k: u8, version: u32, places: &PlaceRow, out: &mut Line)
+    requires { length out.old ≤ 24 }
+    ensures { out.new
+        ≡ out.old ++ spaced (decimal k ∷ decimal version ∷ map decimal places.now) }
 {
-    put_bytes(&[k], line);
-    put_numbers(&[version], line);
-    put_places(places.as_slice(), line);
+    put_bytes(&[k], out);
+    put_numbers(&[version], out);
+    put_places(places.as_slice(), out);
 }
 
-fn put_stalled(k: u8, thread: u8, at: u32, line: &mut Line)
-    requires { length line.old ≤ 24 }
-    ensures { line.new ≡ line.old ++ spaced (decimal k ∷ decimal thread ∷ decimal at ∷ []) }
+fn put_stalled(k: u8, thread: u8, at: u32, out: &mut Line)
+    requires { length out.old ≤ 24 }
+    ensures { out.new ≡ out.old ++ spaced (decimal k ∷ decimal thread ∷ decimal at ∷ []) }
 {
-    put_bytes(&[k, thread], line);
-    put_numbers(&[at], line);
+    put_bytes(&[k, thread], out);
+    put_numbers(&[at], out);
 }
 
 fn word_of(e: &Entry) -> &'static [u8]
@@ -227,172 +227,95 @@ fn word_of(e: &Entry) -> &'static [u8]
     }
 }
 
-// What stands before the word.
-fn put_before(e: &Entry, line: &mut Line)
-    requires { line.old ≡ [] }
-    ensures text { line.new ≡ before_of e.now }
-    ensures short { length line.new ≤ 15 }
+// The thread and the line of what a thread does.
+fn place_of(e: &Entry) -> Option<(u8, u32)>
+    ensures { result ≡ place_of e.now }
 {
     match e {
-        Entry::Begin { thread, line: at } => put_thread(*thread, *at, line),
-        Entry::End { thread, line: at } => put_thread(*thread, *at, line),
-        Entry::Trap {
-            thread,
-            line: at,
-            ..
-        } => put_thread(*thread, *at, line),
-        Entry::Read {
-            thread,
-            line: at,
-            ..
-        } => put_thread(*thread, *at, line),
-        Entry::Write {
-            thread,
-            line: at,
-            ..
-        } => put_thread(*thread, *at, line),
-        Entry::Lock {
-            thread,
-            line: at,
-            ..
-        } => put_thread(*thread, *at, line),
-        Entry::Unlock {
-            thread,
-            line: at,
-            ..
-        } => put_thread(*thread, *at, line),
-        Entry::Down {
-            thread,
-            line: at,
-            ..
-        } => put_thread(*thread, *at, line),
-        Entry::Up {
-            thread,
-            line: at,
-            ..
-        } => put_thread(*thread, *at, line),
-        Entry::Spawn {
-            thread,
-            line: at,
-            ..
-        } => put_thread(*thread, *at, line),
-        Entry::Join {
-            thread,
-            line: at,
-            ..
-        } => put_thread(*thread, *at, line),
-        Entry::Print {
-            thread,
-            line: at,
-            ..
-        } => put_thread(*thread, *at, line),
-        Entry::Tick {
-            thread,
-            line: at,
-            ..
-        } => put_thread(*thread, *at, line),
-        Entry::Blocked {
-            thread,
-            line: at,
-            ..
-        } => put_thread(*thread, *at, line),
-        Entry::At {
-            thread,
-            line: at,
-            ..
-        } => put_thread(*thread, *at, line),
-        Entry::Past {
-            thread,
-            line: at,
-            ..
-        } => put_thread(*thread, *at, line),
-        Entry::Back { thread, line: at } => put_thread(*thread, *at, line),
-        Entry::Enter {
-            thread,
-            line: at,
-            ..
-        } => put_thread(*thread, *at, line),
-        Entry::Leave {
-            thread,
-            line: at,
-            ..
-        } => put_thread(*thread, *at, line),
-        Entry::Post {
-            thread,
-            line: at,
-            ..
-        } => put_thread(*thread, *at, line),
-        Entry::Wait {
-            thread,
-            line: at,
-            ..
-        } => put_thread(*thread, *at, line),
-        Entry::Cross {
-            thread,
-            line: at,
-            ..
-        } => put_thread(*thread, *at, line),
-        Entry::Asked { .. } => {}
-        Entry::Refused { .. } => {}
-        Entry::Installed { .. } => {}
-        Entry::Removed { .. } => {}
-        Entry::Stalled { .. } => {}
-        Entry::Cut { .. } => {}
-        Entry::Unreached { .. } => {}
-        Entry::Finish { .. } => {}
+        Entry::Begin { thread, line } => Some((*thread, *line)),
+        Entry::End { thread, line } => Some((*thread, *line)),
+        Entry::Trap { thread, line, .. } => Some((*thread, *line)),
+        Entry::Read { thread, line, .. } => Some((*thread, *line)),
+        Entry::Write { thread, line, .. } => Some((*thread, *line)),
+        Entry::Lock { thread, line, .. } => Some((*thread, *line)),
+        Entry::Unlock { thread, line, .. } => Some((*thread, *line)),
+        Entry::Down { thread, line, .. } => Some((*thread, *line)),
+        Entry::Up { thread, line, .. } => Some((*thread, *line)),
+        Entry::Spawn { thread, line, .. } => Some((*thread, *line)),
+        Entry::Join { thread, line, .. } => Some((*thread, *line)),
+        Entry::Print { thread, line, .. } => Some((*thread, *line)),
+        Entry::Tick { thread, line, .. } => Some((*thread, *line)),
+        Entry::Blocked { thread, line, .. } => Some((*thread, *line)),
+        Entry::At { thread, line, .. } => Some((*thread, *line)),
+        Entry::Past { thread, line, .. } => Some((*thread, *line)),
+        Entry::Back { thread, line } => Some((*thread, *line)),
+        Entry::Enter { thread, line, .. } => Some((*thread, *line)),
+        Entry::Leave { thread, line, .. } => Some((*thread, *line)),
+        Entry::Post { thread, line, .. } => Some((*thread, *line)),
+        Entry::Wait { thread, line, .. } => Some((*thread, *line)),
+        Entry::Cross { thread, line, .. } => Some((*thread, *line)),
+        Entry::Asked { .. } => None,
+        Entry::Refused { .. } => None,
+        Entry::Installed { .. } => None,
+        Entry::Removed { .. } => None,
+        Entry::Stalled { .. } => None,
+        Entry::Cut { .. } => None,
+        Entry::Unreached { .. } => None,
+        Entry::Finish { .. } => None,
+    }
+}
+
+// What stands before the word.
+fn put_before(place: Option<(u8, u32)>, out: &mut Line)
+    requires { out.old ≡ [] }
+    ensures text { out.new ≡ before place }
+    ensures short { length out.new ≤ 15 }
+{
+    if let Some((thread, line)) = place {
+        put_thread(thread, line, out);
     }
 }
 
 // The fields behind the word.
-fn put_fields(e: &Entry, line: &mut Line)
-    requires { length line.old ≤ 24 }
-    ensures { line.new ≡ line.old ++ spaced (fields_of e.now) }
+fn put_fields(e: &Entry, out: &mut Line)
+    requires { length out.old ≤ 24 }
+    ensures { out.new ≡ out.old ++ spaced (fields_of e.now) }
 {
     match e {
-        Entry::Begin { .. } => {}
-        Entry::End { .. } => {}
-        Entry::Trap { reason, .. } => put_bytes(&[*reason], line),
-        Entry::Read { word, value, .. } => put_access(*word, *value, line),
-        Entry::Write { word, value, .. } => put_access(*word, *value, line),
-        Entry::Lock { m, .. } => put_bytes(&[*m], line),
-        Entry::Unlock { m, .. } => put_bytes(&[*m], line),
-        Entry::Down { s, .. } => put_bytes(&[*s], line),
-        Entry::Up { s, .. } => put_bytes(&[*s], line),
+        Entry::Begin { .. } | Entry::End { .. } | Entry::Back { .. } => {}
+        Entry::Trap { reason, .. } => put_bytes(&[*reason], out),
+        Entry::Read { word, value, .. } => put_access(*word, *value, out),
+        Entry::Write { word, value, .. } => put_access(*word, *value, out),
+        Entry::Lock { m, .. } | Entry::Unlock { m, .. } => put_bytes(&[*m], out),
+        Entry::Down { s, .. } | Entry::Up { s, .. } => put_bytes(&[*s], out),
         Entry::Spawn {
             child,
             func,
             args,
             ..
-        } => put_spawn(*child, *func, args, line),
-        Entry::Join { child, .. } => put_bytes(&[*child], line),
-        Entry::Print { value, .. } => put_values(&[*value], line),
-        Entry::Tick { place, .. } => put_places(&[*place], line),
-        Entry::Blocked { what, .. } => put_what(what, line),
-        Entry::At { k, events, .. } => put_events(*k, events, line),
-        Entry::Past { k, events, .. } => put_events(*k, events, line),
-        Entry::Back { .. } => {}
-        Entry::Enter { k, clause, .. } => put_bytes(&[*k, *clause], line),
-        Entry::Leave { k, clause, .. } => put_bytes(&[*k, *clause], line),
-        Entry::Post { k, event, .. } => put_bytes(&[*k, *event], line),
-        Entry::Wait { k, event, .. } => put_bytes(&[*k, *event], line),
+        } => put_spawn(*child, *func, args, out),
+        Entry::Join { child, .. } => put_bytes(&[*child], out),
+        Entry::Print { value, .. } => put_values(&[*value], out),
+        Entry::Tick { place, .. } => put_places(&[*place], out),
+        Entry::Blocked { what, .. } => put_what(what, out),
+        Entry::At { k, events, .. } => put_events(*k, events, out),
+        Entry::Past { k, events, .. } => put_events(*k, events, out),
+        Entry::Enter { k, clause, .. } => put_bytes(&[*k, *clause], out),
+        Entry::Leave { k, clause, .. } => put_bytes(&[*k, *clause], out),
+        Entry::Post { k, event, .. } => put_bytes(&[*k, *event], out),
+        Entry::Wait { k, event, .. } => put_bytes(&[*k, *event], out),
         Entry::Cross {
             place,
             version,
             passed,
             ..
-        } => put_numbers(&[*place as u32, *version, *passed], line),
-        Entry::Asked { k } => put_bytes(&[*k], line),
-        Entry::Refused { k, number, clause } => put_bytes(&[*k, *number, *clause], line),
-        Entry::Installed { k, version, places } => put_change(*k, *version, places, line),
-        Entry::Removed { k, version, places } => put_change(*k, *version, places, line),
-        Entry::Stalled {
-            k,
-            thread,
-            line: at,
-        } => put_stalled(*k, *thread, *at, line),
-        Entry::Cut { k } => put_bytes(&[*k], line),
-        Entry::Unreached { k } => put_bytes(&[*k], line),
-        Entry::Finish { kind } => put_ending(kind, line),
+        } => put_numbers(&[*place as u32, *version, *passed], out),
+        Entry::Asked { k } | Entry::Cut { k } | Entry::Unreached { k } => put_bytes(&[*k], out),
+        Entry::Refused { k, number, clause } => put_bytes(&[*k, *number, *clause], out),
+        Entry::Installed { k, version, places } => put_change(*k, *version, places, out),
+        Entry::Removed { k, version, places } => put_change(*k, *version, places, out),
+        Entry::Stalled { k, thread, line } => put_stalled(*k, *thread, *line, out),
+        Entry::Finish { kind } => put_ending(kind, out),
     }
 }
 
@@ -402,7 +325,7 @@ pub fn put_entry(e: &Entry, line: &mut Line)
     ensures { line.new ≡ entry_line e.now }
 {
     line.clear();
-    put_before(e, line);
+    put_before(place_of(e), line);
     line.add(word_of(e));
     put_fields(e, line);
 }

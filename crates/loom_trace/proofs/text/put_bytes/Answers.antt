@@ -5,10 +5,10 @@ use Rattle.loom_trace.proofs.text.put_bytes.Goals as goal
 
 pub loop-n-preserved : goal.loop-n-preserved
 loop-n-preserved c =
-    let pushed : length c.push.new.self ≡ length c.loop-n.line + 1 = ap length c.push.ensures ∙ length-append c.loop-n.line (32 ∷ []) in
+    let pushed : length c.push.new.self ≡ length c.loop-n.out + 1 = ap length c.push.ensures ∙ length-append c.loop-n.out (32 ∷ []) in
     record {
       text =
-          spaced_more decimal c.args.numbers.now c.loop-n.n-index 0 c.args.line.now c.loop-n.line c.put_byte.new.line c.loop-n-test.true c.loop-n.invariant.text
+          spaced_more decimal c.args.numbers.now c.loop-n.n-index 0 c.args.out.now c.loop-n.out c.put_byte.new.out c.loop-n-test.true c.loop-n.invariant.text
           (c.put_byte.ensures.text ∙ ap (λ (z : List ℕ). z ++ decimal (get_or c.args.numbers.now c.loop-n.n-index 0)) c.push.ensures);
       short = omega (arith, c.put_byte.ensures.short, c.loop-n.invariant.short, pushed);
     }

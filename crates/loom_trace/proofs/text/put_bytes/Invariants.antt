@@ -4,6 +4,6 @@ use Rattle.loom_trace.proofs.text.put_bytes.Given as goal
 
 abbrev pub invariant-loop-n : goal.invariant-loop-n
 invariant-loop-n l = record {
-  text : l.line ≡ l.fn.line ++ spaced (map decimal (take l.n-index l.numbers));
-  short : length l.line ≤ length l.fn.line + 4 * l.n-index;
+  text : l.out ≡ l.fn.out ++ spaced (map decimal (take l.n-index l.numbers));
+  short : length l.out ≤ length l.fn.out + 4 * l.n-index;
 }

@@ -8,10 +8,10 @@ pub loop-value-preserved : goal.loop-value-preserved
 loop-value-preserved c =
     let value : ℤ = get_or c.args.values.now c.loop-value.value-index (pos 0) in
     let same : to_z w64 (of_z w64 value) ≡ value = to_z-of_z w64 value (search rules) in
-    let pushed : length c.push.new.self ≡ length c.loop-value.line + 1 = ap length c.push.ensures ∙ length-append c.loop-value.line (32 ∷ []) in
+    let pushed : length c.push.new.self ≡ length c.loop-value.out + 1 = ap length c.push.ensures ∙ length-append c.loop-value.out (32 ∷ []) in
     record {
       text =
-          spaced_more signed_decimal c.args.values.now c.loop-value.value-index (pos 0) c.args.line.now c.loop-value.line c.put_value.new.line c.loop-value-test.true c.loop-value.invariant.text
+          spaced_more signed_decimal c.args.values.now c.loop-value.value-index (pos 0) c.args.out.now c.loop-value.out c.put_value.new.out c.loop-value-test.true c.loop-value.invariant.text
           (c.put_value.ensures.text ∙ ap (λ (v : ℤ). c.push.new.self ++ signed_decimal v) same ∙ ap (λ (z : List ℕ). z ++ signed_decimal value) c.push.ensures);
       short = omega (arith, c.put_value.ensures.short, c.loop-value.invariant.short, pushed);
     }

@@ -4,6 +4,6 @@ use Rattle.loom_trace.proofs.text.put_values.Given as goal
 
 abbrev pub invariant-loop-value : goal.invariant-loop-value
 invariant-loop-value l = record {
-  text : l.line ≡ l.fn.line ++ spaced (map signed_decimal (take l.value-index l.values));
-  short : length l.line ≤ length l.fn.line + 21 * l.value-index;
+  text : l.out ≡ l.fn.out ++ spaced (map signed_decimal (take l.value-index l.values));
+  short : length l.out ≤ length l.fn.out + 21 * l.value-index;
 }

@@ -1,2 +1,4 @@
 pub mod Rows
 pub mod Journal
+pub mod Text
+pub mod Parts

@@ -23,8 +23,8 @@ impl Model for Args {
     ghost inverse = { λ xs. record { cells = cells_of (pos 0) 4 xs; len = length xs } };
 
     ghost inverse_ok = { λ r h i. record {
-        cells = cells_back (pos 0) 4 r.cells r.len h i;
-        len = used_length (pos 0) 4 r.cells r.len h i
+      cells = cells_back (pos 0) 4 r.cells r.len h i;
+      len = used_length (pos 0) 4 r.cells r.len h i;
     } };
 }
 
@@ -85,8 +85,8 @@ impl Model for Events {
     ghost inverse = { λ xs. record { cells = cells_of 0 32 xs; len = length xs } };
 
     ghost inverse_ok = { λ r h i. record {
-        cells = cells_back 0 32 r.cells r.len h i;
-        len = used_length 0 32 r.cells r.len h i
+      cells = cells_back 0 32 r.cells r.len h i;
+      len = used_length 0 32 r.cells r.len h i;
     } };
 }
 

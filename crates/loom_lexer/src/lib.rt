@@ -1,0 +1,4 @@
+//! From the bytes of a text to its tokens.
+#![tactic(auto)]
+
+pub mod lexeme;

@@ -86,6 +86,11 @@ abbrev pub placed : Option TokenKind → List ℕ → ℕ → List Placed
 placed None text line = []
 placed (Some kind) text line = (record { token = token_by kind text; line = line }) ∷ []
 
+-- what is put behind the tokens so far
+abbrev pub made : Option TokenKind → ℕ → ℕ → ℕ → List rust.Token
+made None start end line = []
+made (Some kind) start end line = (record { kind = kind; start = start; end = end; line = line }) ∷ []
+
 -- how many bytes are LF
 abbrev pub line_ends : List ℕ → ℕ
 line_ends bytes = count_by (λ b. nat_eq b 10) bytes

@@ -4,7 +4,7 @@ ghost use Rattle.loom_lexer.specs.Lexeme.{is, is_letter, is_digit, is_white, is_
 ghost use Rattle.loom_lexer.specs.Scan.{begins, run_len, kind_at, len_at};
 
 /// A byte by what may begin with it.
-#[derive(Clone, Copy, Debug, Drop, PartialEq, Eq)]
+#[derive(Clone, Copy, Debug, Drop)]
 pub enum Class {
     Letter,
     Digit,
@@ -20,7 +20,7 @@ pub enum Class {
 }
 
 /// What a lexeme is.
-#[derive(Clone, Copy, Debug, Drop, PartialEq, Eq)]
+#[derive(Clone, Copy, Debug, Drop)]
 pub enum Kind {
     /// A space, a tab, a CR or an LF.
     White,
@@ -38,7 +38,7 @@ pub enum Kind {
 }
 
 /// The lexeme at a place.
-#[derive(Clone, Copy, Debug, Drop, PartialEq, Eq)]
+#[derive(Clone, Copy, Debug, Drop)]
 pub struct Scanned {
     pub kind: Kind,
     /// The place behind its last byte.

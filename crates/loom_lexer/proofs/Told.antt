@@ -1,9 +1,9 @@
 -- The tokens of a text: that there are some, and which they are so far.
-use Rattle.std.proofs.Common.{ℕ, zero, suc, ◌+◌, ◌-◌, ◌≡◌, ◌≤◌, ◌<◌, ◌^◌, Bool, true, false, List, [], ◌∷◌, ◌++◌, length, take, drop, map, Option, Some, None, refl, sym, ap, subst, ◌∙◌, arith, length-drop, drop-drop, append_assoc}
+use Rattle.std.proofs.Common.{ℕ, zero, suc, ◌+◌, ◌-◌, ◌≡◌, ◌≤◌, ◌<◌, List, [], ◌∷◌, ◌++◌, length, take, drop, map, Option, Some, None, refl, sym, ap, subst, ◌∙◌, arith, length-drop, drop-drop, append_assoc}
 use Rattle.std.proofs.lemmas.List.{map-append}
 use Rattle.loom_tree.specs.declared.token.TokenKind.{TokenKind}
 use Rattle.loom_tree.specs.declared.token.Token as rust
-use Rattle.loom_tree.specs.Token.{Placed, placed_of}
+use Rattle.loom_tree.specs.Token.{placed_of}
 use Rattle.loom_lexer.specs.declared.lexeme.Kind.{Kind}
 use Rattle.loom_lexer.specs.Lexeme.{Lexeme, IsLexed}
 use Rattle.loom_lexer.specs.Scan.{kind_at, len_at}

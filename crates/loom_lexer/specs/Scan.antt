@@ -1,5 +1,5 @@
 -- The lexeme at the front of a text, as functions of its bytes.
-use Rattle.std.specs.Prelude.{ℕ, suc, Bool, true, false, List, [], ◌∷◌, if◌then◌else◌}
+use Rattle.std.specs.Prelude.{ℕ, suc, Bool, false, List, [], ◌∷◌, if◌then◌else◌}
 use Rattle.loom_lexer.specs.declared.lexeme.Class.{Class}
 use Rattle.loom_lexer.specs.declared.lexeme.Class.TheVariants as c
 use Rattle.loom_lexer.specs.declared.lexeme.Kind.{Kind}

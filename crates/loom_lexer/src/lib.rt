@@ -2,3 +2,5 @@
 #![tactic(auto)]
 
 pub mod lexeme;
+pub mod text;
+mod token;

@@ -52,7 +52,7 @@ goes_on bytes ts line at end kind text l k e t before qs h =
     let more = lexed_front rest qs some (subst P there h) in
     let size : end - at ≡ len_at rest = omega (arith, e) in
     let same : first_of rest ≡ lexeme kind text =
-        ap (λ (z : Kind). lexeme z (take (len_at rest) rest)) (sym k) ∙ ap (λ (z : ℕ). lexeme kind (take z rest)) (sym size) ∙ ap (λ (z : List ℕ). lexeme kind z) (sym t) in
+    ap (λ (z : Kind). lexeme z (take (len_at rest) rest)) (sym k) ∙ ap (λ (z : ℕ). lexeme kind (take z rest)) (sym size) ∙ ap (λ (z : List ℕ). lexeme kind z) (sym t) in
     let Q : Lexeme → Type 0 = λ z. IsLexed (z ∷ qs) rest in
     let whole = before (lexeme kind text ∷ qs) (subst Q same more) in
     let put : map (placed_of bytes) (made (kind_of kind text) at end line) ≡ placed (kind_of kind text) text line = made_placed bytes (kind_of kind text) at end line ∙ ap (λ (z : List ℕ). placed (kind_of kind text) z line) (sym t) in

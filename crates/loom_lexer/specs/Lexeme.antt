@@ -6,15 +6,19 @@ use Rattle.loom_lexer.specs.declared.lexeme.Class.TheVariants as c
 use Rattle.loom_lexer.specs.declared.lexeme.Kind.{Kind}
 use Rattle.loom_lexer.specs.declared.lexeme.Kind.TheVariants as k
 
+-- the byte is x
 abbrev pub is : ℕ → ℕ → Bool
 is x b = nat_eq b x
 
+-- the byte is one of the text's
 abbrev pub is_among : List ℕ → ℕ → Bool
 is_among text b = list_any (λ x. nat_eq x b) text
 
+-- a to z, A to Z and `_`
 abbrev pub is_letter : ℕ → Bool
 is_letter b = (nat_le 97 b && nat_le b 122) || (nat_le 65 b && nat_le b 90) || nat_eq b 95
 
+-- 0 to 9
 abbrev pub is_digit : ℕ → Bool
 is_digit b = nat_le 48 b && nat_le b 57
 
@@ -39,6 +43,7 @@ abbrev pub is_comparison : ℕ → Bool
 is_comparison b = is_among (codes "=!<>") b
 
 -- a byte by what may begin with it
+-- (38 is `&`, 124 is `|`, 47 is `/`)
 abbrev pub class_of : ℕ → Class
 class_of b =
     if is_letter b then c.Letter else
@@ -60,7 +65,8 @@ abbrev pub Stops : (ℕ → Bool) → List ℕ → Type 0
 Stops p [] = Unit {0}
 Stops p (b ∷ bs) = p b ≡ false
 
--- a byte of this class is a sign by itself, where this is behind it
+-- A byte of this class is a sign by itself, where this is behind it: no longer sign and no comment begins there.
+-- (61 is `=`)
 abbrev pub IsSign : Class → List ℕ → Type 0
 IsSign c.Single rest = Unit {0}
 IsSign c.Comparison rest = Stops (is 61) rest

@@ -2,5 +2,7 @@
 #![tactic(auto)]
 
 pub mod lexeme;
+#[cfg(test)]
+mod tests;
 pub mod text;
 mod token;

@@ -77,7 +77,13 @@ pub fn tokenize(alloc: Global, bytes: &[u8]) -> Result<Tokens, NoMemory>
     'all: while at < bytes.len() {
         let scanned = scan(bytes, at);
         let text = &bytes[at..scanned.end];
-        put(&mut tokens, kind_of(scanned.kind, text), at, scanned.end, line)?;
+        put(
+            &mut tokens,
+            kind_of(scanned.kind, text),
+            at,
+            scanned.end,
+            line,
+        )?;
         line += line_ends(text);
         at = scanned.end;
     }
@@ -87,11 +93,9 @@ pub fn tokenize(alloc: Global, bytes: &[u8]) -> Result<Tokens, NoMemory>
 /// The same bytes have one list of tokens.
 pub fn one_list_of_tokens()
     ensures { OneListOfTokens }
-{
-}
+{}
 
 /// All bytes have tokens.
 pub fn have_tokens()
     ensures { HaveTokens }
-{
-}
+{}

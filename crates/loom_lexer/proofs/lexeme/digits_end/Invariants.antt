@@ -6,7 +6,7 @@ use Rattle.loom_lexer.proofs.lexeme.digits_end.Given as goal
 abbrev pub invariant-run : goal.invariant-run
 invariant-run l = record {
   within : l.end ≤ length l.bytes;
-  same : l.end + run_len is_digit (drop l.end l.bytes) ≡ l.fn.at + run_len is_digit (drop l.fn.at l.bytes)
+  same : l.end + run_len is_digit (drop l.end l.bytes) ≡ l.fn.at + run_len is_digit (drop l.fn.at l.bytes);
 }
 
 abbrev pub decreases-run : goal.decreases-run

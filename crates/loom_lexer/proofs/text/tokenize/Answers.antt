@@ -22,7 +22,7 @@ all-preserved c =
     let kind = c.scan-scanned.result.kind in
     let new = made (kind_of kind text) c.all.at end c.all.line in
     let items : c.put.new.tokens.items ≡ c.all.tokens.items ++ new =
-        c.in_ok-put.ensures ∙ ap (λ (z : Option TokenKind). c.all.tokens.items ++ made z c.all.at end c.all.line) c.kind_of.ensures in
+    c.in_ok-put.ensures ∙ ap (λ (z : Option TokenKind). c.all.tokens.items ++ made z c.all.at end c.all.line) c.kind_of.ensures in
     let ends : c.line_ends-line.result ≡ line_ends text = c.line_ends-line.ensures in
     let forward : c.all.at ≤ end = omega (arith, c.scan-scanned.ensures.end) in
     let few : line_ends text ≤ length text = count_by-le-length (λ b. nat_eq b 10) text in
@@ -32,7 +32,7 @@ all-preserved c =
       lines = omega (arith, c.all.invariant.lines, ends, few, size, forward);
       tokens = λ qs h. rw (items, ends) (goes_on bytes c.all.tokens.items c.all.line c.all.at end kind text c.all-test.true c.scan-scanned.ensures.kind c.scan-scanned.ensures.end refl c.all.invariant.tokens qs h);
       small = rw items (All-append (λ (t : rust.Token). IsSmall t.kind) c.all.tokens.items new c.all.invariant.small (made_small (kind_of kind text) c.all.at end c.all.line (kind_small kind text)));
-      within = rw items (All-append (IsWithin bytes) c.all.tokens.items new c.all.invariant.within (made_within bytes (kind_of kind text) c.all.at end c.all.line forward c.scan-scanned.ensures.within))
+      within = rw items (All-append (IsWithin bytes) c.all.tokens.items new c.all.invariant.within (made_within bytes (kind_of kind text) c.all.at end c.all.line forward c.scan-scanned.ensures.within));
     }
 
 pub returns-clause-tokens : goal.returns-clause-tokens

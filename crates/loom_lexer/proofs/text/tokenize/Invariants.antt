@@ -10,7 +10,7 @@ invariant-all l = record {
   lines : l.line ≤ l.at + 1;
   tokens : SoFar l.bytes l.tokens.items l.line l.at;
   small : All (λ t. IsSmall t.kind) l.tokens.items;
-  within : All (IsWithin l.bytes) l.tokens.items
+  within : All (IsWithin l.bytes) l.tokens.items;
 }
 
 abbrev pub decreases-all : goal.decreases-all

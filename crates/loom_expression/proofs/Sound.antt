@@ -2,9 +2,9 @@
 use Rattle.std.proofs.Common.{ℕ, zero, suc, ◌+◌, ◌-◌, ◌≤◌, ◌<◌, ◌≡◌, max, List, [], ◌∷◌, ◌++◌, Option, Some, None, Bool, true, false, nat_le, nat_lt, if◌then◌else◌, refl, sym, ap, subst, ◌∙◌, append_assoc, append-nil, arith, IfSome}
 use Rattle.std.proofs.lemmas.Bool.{leb-true, leb-false, ltb-true}
 use Rattle.loom_tree.specs.declared.expression.Op.{Op}
-use Rattle.loom_tree.specs.declared.expression.Op.TheVariants as o
+use Rattle.loom_tree.specs.declared.expression.Op.TheVariants as op
 use Rattle.loom_tree.specs.declared.token.Sign.{Sign}
-use Rattle.loom_tree.specs.declared.token.Sign.TheVariants as s
+use Rattle.loom_tree.specs.declared.token.Sign.TheVariants as sign
 use Rattle.loom_tree.specs.Token.{Token}
 use Rattle.loom_expression.specs.Written.{Text, tokens, prec, IsAt, depth, nodes, most, deepest, IsWritten}
 use Rattle.loom_expression.specs.Machine.{Frame, Left, Minus, Bang, Open, Index, Size, Operand, Over, State, Want, Named, Have, start, signed, unsigned, opened, indexed, closed, joined, has_room, may_nest, may_sign, have, reduce, behind, close_paren, close_bracket, begin_unary, begin_paren, begin_index, want_op, want_sign, have_op, have_sign, have_token, named_sign, step, after, run, alone, finish_operand, finish, written}
@@ -13,10 +13,10 @@ use Rattle.loom_expression.specs.Machine.{Frame, Left, Minus, Bang, Open, Index,
 
 abbrev pub mark : Frame Text → List Token
 mark (Left o a) = tokens a ++ Token.op o ∷ []
-mark Minus = Token.op o.Sub ∷ []
-mark Bang = Token.sign s.Bang ∷ []
-mark Open = Token.sign s.ParenOpen ∷ []
-mark (Index x) = Token.name x ∷ Token.sign s.BracketOpen ∷ []
+mark Minus = Token.op op.Sub ∷ []
+mark Bang = Token.sign sign.Bang ∷ []
+mark Open = Token.sign sign.ParenOpen ∷ []
+mark (Index x) = Token.name x ∷ Token.sign sign.BracketOpen ∷ []
 
 abbrev pub front : List (Frame Text) → List Token
 front [] = []
@@ -148,19 +148,19 @@ lower l m (Text.bin o a b) h p = (omega (arith, p.0), p.1, p.2)
 lower l m (Text.paren a) h p = p
 
 pub prec_small : (o : Op) → prec o ≤ 5
-prec_small o.Or = omega arith
-prec_small o.And = omega arith
-prec_small o.Eq = omega arith
-prec_small o.Ne = omega arith
-prec_small o.Lt = omega arith
-prec_small o.Le = omega arith
-prec_small o.Gt = omega arith
-prec_small o.Ge = omega arith
-prec_small o.Add = omega arith
-prec_small o.Sub = omega arith
-prec_small o.Mul = omega arith
-prec_small o.Div = omega arith
-prec_small o.Rem = omega arith
+prec_small op.Or = omega arith
+prec_small op.And = omega arith
+prec_small op.Eq = omega arith
+prec_small op.Ne = omega arith
+prec_small op.Lt = omega arith
+prec_small op.Le = omega arith
+prec_small op.Gt = omega arith
+prec_small op.Ge = omega arith
+prec_small op.Add = omega arith
+prec_small op.Sub = omega arith
+prec_small op.Mul = omega arith
+prec_small op.Div = omega arith
+prec_small op.Rem = omega arith
 
 pub right_small : (k : List (Frame Text)) → right k ≤ 6
 right_small [] = omega arith
@@ -269,41 +269,41 @@ reduced l e z k small h = reduce_good l e z k (lower l 6 e small h.level) (lower
 pub moved : (o : Option (State Text)) (a b : List Token) (x : Token) → a ≡ b → IfSome o (Reads a x) → IfSome o (Reads b x)
 moved o a b x is h = subst (λ z. IfSome o (Reads z x)) is h
 
-pub minus_good : (z : Size) (k : List (Frame Text)) → GoodWant z k → IfSome (begin_unary Minus z k) (Reads (front k) (Token.op o.Sub))
-minus_good z k h = if_some (may_sign z) (Want (signed z) (Minus ∷ k)) (Reads (front k) (Token.op o.Sub)) (λ is. let f = sign_true z is in
+pub minus_good : (z : Size) (k : List (Frame Text)) → GoodWant z k → IfSome (begin_unary Minus z k) (Reads (front k) (Token.op op.Sub))
+minus_good z k h = if_some (may_sign z) (Want (signed z) (Minus ∷ k)) (Reads (front k) (Token.op op.Sub)) (λ is. let f = sign_true z is in
     (record {
         stack = h.stack;
         sized = record { nodes = omega (arith, h.sized.nodes); unary = omega (arith, h.sized.unary); brackets = h.sized.brackets; small = omega (arith, f.0); nests = omega (arith, f.1, h.sized.unary, h.sized.brackets) };
       }, refl))
 
-pub bang_good : (z : Size) (k : List (Frame Text)) → GoodWant z k → IfSome (begin_unary Bang z k) (Reads (front k) (Token.sign s.Bang))
-bang_good z k h = if_some (may_sign z) (Want (signed z) (Bang ∷ k)) (Reads (front k) (Token.sign s.Bang)) (λ is. let f = sign_true z is in
+pub bang_good : (z : Size) (k : List (Frame Text)) → GoodWant z k → IfSome (begin_unary Bang z k) (Reads (front k) (Token.sign sign.Bang))
+bang_good z k h = if_some (may_sign z) (Want (signed z) (Bang ∷ k)) (Reads (front k) (Token.sign sign.Bang)) (λ is. let f = sign_true z is in
     (record {
         stack = h.stack;
         sized = record { nodes = omega (arith, h.sized.nodes); unary = omega (arith, h.sized.unary); brackets = h.sized.brackets; small = omega (arith, f.0); nests = omega (arith, f.1, h.sized.unary, h.sized.brackets) };
       }, refl))
 
-pub paren_good : (z : Size) (k : List (Frame Text)) → GoodWant z k → IfSome (begin_paren z k) (Reads (front k) (Token.sign s.ParenOpen))
-paren_good z k h = if_some (may_nest z) (Want (opened z) (Open ∷ k)) (Reads (front k) (Token.sign s.ParenOpen)) (λ is. let f = nest_true z is in
+pub paren_good : (z : Size) (k : List (Frame Text)) → GoodWant z k → IfSome (begin_paren z k) (Reads (front k) (Token.sign sign.ParenOpen))
+paren_good z k h = if_some (may_nest z) (Want (opened z) (Open ∷ k)) (Reads (front k) (Token.sign sign.ParenOpen)) (λ is. let f = nest_true z is in
     (record {
         stack = h.stack;
         sized = record { nodes = h.sized.nodes; unary = h.sized.unary; brackets = omega (arith, h.sized.brackets); small = h.sized.small; nests = omega (arith, f, h.sized.unary, h.sized.brackets) };
       }, refl))
 
-pub index_good : (x : List ℕ) (z : Size) (k : List (Frame Text)) → GoodWant z k → IfSome (begin_index x z k) (Reads (front k ++ Token.name x ∷ []) (Token.sign s.BracketOpen))
-index_good x z k h = if_some (may_sign z) (Want (indexed z) (Index x ∷ k)) (Reads (front k ++ Token.name x ∷ []) (Token.sign s.BracketOpen)) (λ is. let f = sign_true z is in
+pub index_good : (x : List ℕ) (z : Size) (k : List (Frame Text)) → GoodWant z k → IfSome (begin_index x z k) (Reads (front k ++ Token.name x ∷ []) (Token.sign sign.BracketOpen))
+index_good x z k h = if_some (may_sign z) (Want (indexed z) (Index x ∷ k)) (Reads (front k ++ Token.name x ∷ []) (Token.sign sign.BracketOpen)) (λ is. let f = sign_true z is in
     (record {
         stack = h.stack;
         sized = record { nodes = omega (arith, h.sized.nodes); unary = h.sized.unary; brackets = omega (arith, h.sized.brackets); small = omega (arith, f.0); nests = omega (arith, f.1, h.sized.unary, h.sized.brackets) };
       }, simp append_assoc))
 
 pub want_op_good : (o : Op) (z : Size) (k : List (Frame Text)) → GoodWant z k → IfSome (want_op o z k) (Reads (front k) (Token.op o))
-want_op_good o.Sub z k h = minus_good z k h
+want_op_good op.Sub z k h = minus_good z k h
 want_op_good _ z k h = tt
 
 pub want_sign_good : (s : Sign) (z : Size) (k : List (Frame Text)) → GoodWant z k → IfSome (want_sign s z k) (Reads (front k) (Token.sign s))
-want_sign_good s.Bang z k h = bang_good z k h
-want_sign_good s.ParenOpen z k h = paren_good z k h
+want_sign_good sign.Bang z k h = bang_good z k h
+want_sign_good sign.ParenOpen z k h = paren_good z k h
 want_sign_good _ z k h = tt
 
 pub behind_good : (o : Op) (r : Operand Text) (ts : List Token) → Reduced (prec o) r → (size_of r).nodes + 2 ≤ most → read_operand r ≡ ts → Reads ts (Token.op o) (behind o r)
@@ -317,7 +317,7 @@ pub have_op_good : (o : Op) (r : Operand Text) → GoodOperand r → IfSome (hav
 have_op_good o (Over e z k) h = if_some (has_room 2 z) (behind o (reduce written (prec o) e z k)) (Reads (front k ++ tokens e) (Token.op o)) (λ is.
     behind_good o (reduce written (prec o) e z k) (front k ++ tokens e) (reduced (prec o) e z k (omega (arith, prec_small o)) h) (rw (reduce_size (prec o) e z k) (room_true z is)) (reduce_read (prec o) e z k))
 
-pub close_paren_good : (r : Operand Text) → Reduced 0 r → IfSome (close_paren written r) (Reads (read_operand r) (Token.sign s.ParenClose))
+pub close_paren_good : (r : Operand Text) → Reduced 0 r → IfSome (close_paren written r) (Reads (read_operand r) (Token.sign sign.ParenClose))
 close_paren_good (Over e z []) h = tt
 close_paren_good (Over e z (Left o a ∷ k)) h = tt
 close_paren_good (Over e z (Minus ∷ k)) h = tt
@@ -328,7 +328,7 @@ close_paren_good (Over e z (Open ∷ k)) h =
      have_read (Text.paren e) (closed z) k ∙ simp append_assoc)
 close_paren_good (Over e z (Index x ∷ k)) h = tt
 
-pub close_bracket_good : (r : Operand Text) → Reduced 0 r → IfSome (close_bracket written r) (Reads (read_operand r) (Token.sign s.BracketClose))
+pub close_bracket_good : (r : Operand Text) → Reduced 0 r → IfSome (close_bracket written r) (Reads (read_operand r) (Token.sign sign.BracketClose))
 close_bracket_good (Over e z []) h = tt
 close_bracket_good (Over e z (Left o a ∷ k)) h = tt
 close_bracket_good (Over e z (Minus ∷ k)) h = tt
@@ -340,10 +340,10 @@ close_bracket_good (Over e z (Index x ∷ k)) h =
      have_read (Text.cell x e) (closed z) k ∙ simp append_assoc)
 
 pub have_sign_good : (s : Sign) (r : Operand Text) → GoodOperand r → IfSome (have_sign written s r) (Reads (read_operand r) (Token.sign s))
-have_sign_good s.ParenClose (Over e z k) h =
-    moved (close_paren written (reduce written 0 e z k)) (read_operand (reduce written 0 e z k)) (front k ++ tokens e) (Token.sign s.ParenClose) (reduce_read 0 e z k) (close_paren_good (reduce written 0 e z k) (reduced 0 e z k (omega arith) h))
-have_sign_good s.BracketClose (Over e z k) h =
-    moved (close_bracket written (reduce written 0 e z k)) (read_operand (reduce written 0 e z k)) (front k ++ tokens e) (Token.sign s.BracketClose) (reduce_read 0 e z k) (close_bracket_good (reduce written 0 e z k) (reduced 0 e z k (omega arith) h))
+have_sign_good sign.ParenClose (Over e z k) h =
+    moved (close_paren written (reduce written 0 e z k)) (read_operand (reduce written 0 e z k)) (front k ++ tokens e) (Token.sign sign.ParenClose) (reduce_read 0 e z k) (close_paren_good (reduce written 0 e z k) (reduced 0 e z k (omega arith) h))
+have_sign_good sign.BracketClose (Over e z k) h =
+    moved (close_bracket written (reduce written 0 e z k)) (read_operand (reduce written 0 e z k)) (front k ++ tokens e) (Token.sign sign.BracketClose) (reduce_read 0 e z k) (close_bracket_good (reduce written 0 e z k) (reduced 0 e z k (omega arith) h))
 have_sign_good _ (Over e z k) h = tt
 
 pub have_token_good : (t : Token) (r : Operand Text) → GoodOperand r → IfSome (have_token written t r) (Reads (read_operand r) t)
@@ -358,7 +358,7 @@ pub name_good : (x : List ℕ) (z : Size) (k : List (Frame Text)) → GoodWant z
 name_good x z k h = have_good (Text.var x) z k tt h.stack h.sized
 
 pub named_sign_good : (s : Sign) (x : List ℕ) (z : Size) (k : List (Frame Text)) → GoodWant z k → IfSome (named_sign written s x z k) (Reads (front k ++ Token.name x ∷ []) (Token.sign s))
-named_sign_good s.BracketOpen x z k h = index_good x z k h
+named_sign_good sign.BracketOpen x z k h = index_good x z k h
 named_sign_good s x z k h =
     moved (have_sign written s (have written (Text.var x) z k)) (read_operand (have written (Text.var x) z k)) (front k ++ Token.name x ∷ []) (Token.sign s) (have_read (Text.var x) z k) (have_sign_good s (have written (Text.var x) z k) (name_good x z k h))
 

@@ -1,9 +1,9 @@
 -- A reader of one token after another, over trees or over expressions as they are written.
 use Rattle.std.specs.Prelude.{ℕ, ◌+◌, ◌-◌, nat_eq, nat_le, nat_lt, if◌then◌else◌, List, [], ◌∷◌, Option, Some, None, Bool, false}
 use Rattle.loom_tree.specs.declared.expression.Op.{Op}
-use Rattle.loom_tree.specs.declared.expression.Op.TheVariants as o
+use Rattle.loom_tree.specs.declared.expression.Op.TheVariants as op
 use Rattle.loom_tree.specs.declared.token.Sign.{Sign}
-use Rattle.loom_tree.specs.declared.token.Sign.TheVariants as s
+use Rattle.loom_tree.specs.declared.token.Sign.TheVariants as sign
 use Rattle.loom_tree.specs.Token.{Token}
 use Rattle.loom_expression.specs.Written.{Text, prec, most, deepest}
 
@@ -126,12 +126,12 @@ begin_index x z k = if may_sign z then Some (Want (indexed z) (Index x ∷ k)) e
 -- an operator and a sign where an operand must follow
 
 abbrev pub want_op : {A : Type 0} → Op → Size → List (Frame A) → Option (State A)
-want_op o.Sub z k = begin_unary Minus z k
+want_op op.Sub z k = begin_unary Minus z k
 want_op _ z k = None
 
 abbrev pub want_sign : {A : Type 0} → Sign → Size → List (Frame A) → Option (State A)
-want_sign s.Bang z k = begin_unary Bang z k
-want_sign s.ParenOpen z k = begin_paren z k
+want_sign sign.Bang z k = begin_unary Bang z k
+want_sign sign.ParenOpen z k = begin_paren z k
 want_sign _ z k = None
 
 -- an operator and a sign behind an operand
@@ -140,8 +140,8 @@ abbrev pub have_op : {A : Type 0} → Builder A → Op → Operand A → Option 
 have_op b o (Over e z k) = if has_room 2 z then Some (behind o (reduce b (prec o) e z k)) else None
 
 abbrev pub have_sign : {A : Type 0} → Builder A → Sign → Operand A → Option (State A)
-have_sign b s.ParenClose (Over e z k) = close_paren b (reduce b 0 e z k)
-have_sign b s.BracketClose (Over e z k) = close_bracket b (reduce b 0 e z k)
+have_sign b sign.ParenClose (Over e z k) = close_paren b (reduce b 0 e z k)
+have_sign b sign.BracketClose (Over e z k) = close_bracket b (reduce b 0 e z k)
 have_sign b _ (Over e z k) = None
 
 abbrev pub have_token : {A : Type 0} → Builder A → Token → Operand A → Option (State A)
@@ -154,7 +154,7 @@ have_token b Token.bad r = None
 
 -- a sign behind a name
 abbrev pub named_sign : {A : Type 0} → Builder A → Sign → List ℕ → Size → List (Frame A) → Option (State A)
-named_sign b s.BracketOpen x z k = begin_index x z k
+named_sign b sign.BracketOpen x z k = begin_index x z k
 named_sign b s x z k = have_sign b s (have b (b.var x) z k)
 
 -- the state behind a token; None where none can follow

@@ -1,8 +1,8 @@
 -- Expressions as they are written, and the trees that they stand for.
 use Rattle.std.specs.Prelude.{ℕ, suc, ◌+◌, ◌≤◌, ◌≡◌, max, pos, List, [], ◌∷◌, ◌++◌}
 use Rattle.loom_tree.specs.declared.expression.Op.{Op}
-use Rattle.loom_tree.specs.declared.expression.Op.TheVariants as o
-use Rattle.loom_tree.specs.declared.token.Sign.TheVariants as s
+use Rattle.loom_tree.specs.declared.expression.Op.TheVariants as op
+use Rattle.loom_tree.specs.declared.token.Sign.TheVariants as sign
 use Rattle.loom_tree.specs.Tree.{Expression}
 use Rattle.loom_tree.specs.Token.{Token}
 
@@ -19,11 +19,11 @@ pub data Text : Type 0 where
 abbrev pub tokens : Text → List Token
 tokens (Text.num n) = Token.num n ∷ []
 tokens (Text.var x) = Token.name x ∷ []
-tokens (Text.cell x i) = Token.name x ∷ Token.sign s.BracketOpen ∷ tokens i ++ Token.sign s.BracketClose ∷ []
-tokens (Text.neg a) = Token.op o.Sub ∷ tokens a
-tokens (Text.inverse a) = Token.sign s.Bang ∷ tokens a
+tokens (Text.cell x i) = Token.name x ∷ Token.sign sign.BracketOpen ∷ tokens i ++ Token.sign sign.BracketClose ∷ []
+tokens (Text.neg a) = Token.op op.Sub ∷ tokens a
+tokens (Text.inverse a) = Token.sign sign.Bang ∷ tokens a
 tokens (Text.bin o a b) = tokens a ++ Token.op o ∷ tokens b
-tokens (Text.paren a) = Token.sign s.ParenOpen ∷ tokens a ++ Token.sign s.ParenClose ∷ []
+tokens (Text.paren a) = Token.sign sign.ParenOpen ∷ tokens a ++ Token.sign sign.ParenClose ∷ []
 
 abbrev pub tree : Text → Expression
 tree (Text.num n) = Expression.num (pos n)
@@ -36,19 +36,19 @@ tree (Text.paren a) = tree a
 
 -- how tightly an operator between two operands binds; an operator before its operand binds by 6
 abbrev pub prec : Op → ℕ
-prec o.Or = 1
-prec o.And = 2
-prec o.Eq = 3
-prec o.Ne = 3
-prec o.Lt = 3
-prec o.Le = 3
-prec o.Gt = 3
-prec o.Ge = 3
-prec o.Add = 4
-prec o.Sub = 4
-prec o.Mul = 5
-prec o.Div = 5
-prec o.Rem = 5
+prec op.Or = 1
+prec op.And = 2
+prec op.Eq = 3
+prec op.Ne = 3
+prec op.Lt = 3
+prec op.Le = 3
+prec op.Gt = 3
+prec op.Ge = 3
+prec op.Add = 4
+prec op.Sub = 4
+prec op.Mul = 5
+prec op.Div = 5
+prec op.Rem = 5
 
 -- It may stand where the grammar wants what binds at least so tightly. Operators group to the left.
 abbrev pub IsAt : ℕ → Text → Type 0

@@ -2,3 +2,4 @@ pub mod Sound
 pub mod Whole
 pub mod Viable
 pub mod Natural
+pub mod Stacks

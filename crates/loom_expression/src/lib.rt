@@ -1,2 +1,5 @@
 //! The grammar of expressions, and the reader that takes one token after another.
 #![tactic(auto)]
+
+pub mod part;
+pub mod reader;

@@ -57,7 +57,8 @@ fn push(frames: &mut Vec<Frame>, frame: Frame) -> Result<(), NoMemory>
 /// The operand takes the left ones of the operators before it that bind at least by the level.
 #[tactic(auto, using(crate::proofs::Stacks::stack_push))]
 fn reduce(alloc: Global, level: u8, operand: Operand) -> Result<Operand, NoMemory>
-    ensures { IfOk result (λ r. reduced level (operand_of operand) ≡ operand_of r) }
+    ensures value { IfOk result (λ r. reduced level (operand_of operand) ≡ operand_of r) }
+    ensures size { IfOk result (λ r. r.size ≡ operand.size) }
 {
     let Operand {
         mut value,

@@ -1,7 +1,8 @@
--- The one run of a program that is built so far, as functions of the values of its words.
+-- The one run of a program, as functions of the values of its words. A form that can't be run so far does nothing.
 use Rattle.std.specs.Prelude.{Bool, false, ℕ, suc, ℤ, pos, ◌==◌, List, [], ◌∷◌, ◌++◌, map, slice_index_or, slice_set, if◌then◌else◌}
 use Rattle.std.specs.Cmp.Lexicographic.{pointwise}
 use Rattle.loom_tree.specs.declared.item.Word.{Word}
+use Rattle.loom_tree.specs.declared.expression.Op.TheVariants as o
 use Rattle.loom_tree.specs.Tree.{Expression, num, var, bin, Right, Simple, set, Body, simple, Function, Source}
 use Rattle.loom_tree.specs.Tree as tree
 use Rattle.loom_trace.specs.declared.entry.Entry.{Entry}
@@ -25,12 +26,12 @@ word_index (w ∷ ws) x = if pointwise ◌==◌ w.name x then 0 else suc (word_i
 abbrev pub value : List Word → List ℤ → Expression → ℤ
 value ws vs (num n) = n
 value ws vs (var x) = slice_index_or vs (word_index ws x) (pos 0)
-value ws vs (bin o a b) = applied o (value ws vs a) (value ws vs b)
+value ws vs (bin o.Add a b) = applied o.Add (value ws vs a) (value ws vs b)
 value ws vs _ = pos 0
 
 abbrev pub reads : ℕ → List Word → List ℤ → Expression → List Deed
 reads l ws vs (var x) = deed l (read (word_index ws x) (slice_index_or vs (word_index ws x) (pos 0))) ∷ []
-reads l ws vs (bin o a b) = reads l ws vs a ++ reads l ws vs b
+reads l ws vs (bin o.Add a b) = reads l ws vs a ++ reads l ws vs b
 reads l ws vs _ = []
 
 abbrev pub simple_deeds : ℕ → List Word → List ℤ → Simple Expression → List Deed
@@ -44,7 +45,9 @@ simple_values ws vs _ = vs
 
 abbrev pub body_deeds : List Word → List ℤ → Body → List Deed
 body_deeds ws vs (simple l s rest) = simple_deeds l ws vs s ++ body_deeds ws (simple_values ws vs s) rest
-body_deeds ws vs _ = []
+body_deeds ws vs tree.end = []
+body_deeds ws vs (tree.if_ l e a b rest) = body_deeds ws vs rest
+body_deeds ws vs (tree.while_ l e a rest) = body_deeds ws vs rest
 
 abbrev pub first_values : List Word → List ℤ
 first_values ws = map (λ (w : Word). w.first) ws

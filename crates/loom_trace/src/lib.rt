@@ -5,4 +5,6 @@ pub mod entry;
 pub mod journal;
 pub mod line;
 pub mod row;
+#[cfg(test)]
+mod tests;
 pub mod text;

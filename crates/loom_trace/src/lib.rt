@@ -3,6 +3,7 @@
 
 pub mod entry;
 pub mod journal;
+pub mod laws;
 pub mod line;
 pub mod row;
 #[cfg(test)]

@@ -2,3 +2,4 @@ pub mod Rows
 pub mod Journal
 pub mod Text
 pub mod Parts
+pub mod Laws

@@ -6,11 +6,8 @@ use loom_tree::name::NoMemory;
 use std::alloc::Global;
 use std::marker::Model;
 
-/// The most entries that a run may be allowed.
-pub const MOST_ALLOWED: u32 = 1_000_000;
-
-/// How many entries a journal has room for beyond those that are allowed.
-pub const SPARE: u32 = 129;
+// How many entries a journal has room for beyond those that are allowed.
+const SPARE: u32 = 129;
 
 /// A list of entries, with room for more that was taken when it was made.
 #[derive(Debug, Drop)]
@@ -30,7 +27,8 @@ impl Model for Journal {
 }
 
 impl Journal {
-    /// An empty journal, for a run that is allowed so many entries. An `Err` is want of memory.
+    /// An empty journal, for a run that is allowed `limit` entries, 1,000,000 at most. It takes all of
+    /// its memory here. An `Err` is want of memory.
     pub fn make(alloc: Global, limit: u32) -> Result<Journal, NoMemory>
         requires { limit ≤ 1000000 }
         ensures empty { IfOk result (λ j. j.entries ≡ []) }

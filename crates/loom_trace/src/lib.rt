@@ -3,6 +3,9 @@
 
 pub mod entry;
 pub mod journal;
+pub mod laws;
 pub mod line;
 pub mod row;
+#[cfg(test)]
+mod tests;
 pub mod text;

@@ -29,13 +29,13 @@ fn put_number(n: u32, out: &mut Line)
 }
 
 #[tactic(auto, using(crate::proofs::Decimal::same_signed))]
-fn put_value(n: i64, out: &mut Line)
+fn put_value(value: i64, out: &mut Line)
     requires { length out.old ≤ 140 }
-    ensures text { out.new ≡ out.old ++ signed_decimal n }
+    ensures text { out.new ≡ out.old ++ signed_decimal value }
     ensures short { length out.new ≤ length out.old + 20 }
 {
     let mut buffer = Buffer::new();
-    out.add(buffer.format(n).as_bytes());
+    out.add(buffer.format(value).as_bytes());
 }
 
 // The thread and the line of what a thread does, and a space.

@@ -138,11 +138,7 @@ fn have(alloc: Global, operand: Operand) -> Result<Operand, NoMemory>
 }
 
 /// An operator before an operand begins.
-fn begin_unary(
-    frame: Frame,
-    size: Size,
-    mut frames: Vec<Frame>,
-) -> Result<Option<Reader>, NoMemory>
+fn begin_unary(frame: Frame, size: Size, mut frames: Vec<Frame>) -> Result<Option<Reader>, NoMemory>
     ensures { IfOk result (λ r. state_if r ≡ m.begin_unary (frame_of frame) (size_of size) (stack_of frames.items)) }
 {
     if size.may_sign() {
@@ -166,11 +162,7 @@ fn begin_paren(size: Size, mut frames: Vec<Frame>) -> Result<Option<Reader>, NoM
 }
 
 /// The index of a cell begins.
-fn begin_index(
-    name: Name,
-    size: Size,
-    mut frames: Vec<Frame>,
-) -> Result<Option<Reader>, NoMemory>
+fn begin_index(name: Name, size: Size, mut frames: Vec<Frame>) -> Result<Option<Reader>, NoMemory>
     ensures { IfOk result (λ r. state_if r ≡ m.begin_index name (size_of size) (stack_of frames.items)) }
 {
     if size.may_sign() {
@@ -275,12 +267,7 @@ fn have_sign(alloc: Global, sign: Sign, operand: Operand) -> Result<Option<Reade
 }
 
 /// The name of a local or a word is an operand.
-fn named(
-    alloc: Global,
-    name: Name,
-    size: Size,
-    frames: Vec<Frame>,
-) -> Result<Operand, NoMemory>
+fn named(alloc: Global, name: Name, size: Size, frames: Vec<Frame>) -> Result<Operand, NoMemory>
     ensures { IfOk result (λ r. m.have m.plain (Expression.var name) (size_of size) (stack_of frames.items) ≡ operand_of r) }
 {
     have(
@@ -352,12 +339,7 @@ impl Reader {
 
     /// Takes a token of a text with these bytes. `None` says that no expression begins with what was read and this
     /// token. An `Err` is want of memory.
-    pub fn feed(
-        self,
-        alloc: Global,
-        bytes: &[u8],
-        token: Token,
-    ) -> Result<Option<Reader>, NoMemory>
+    pub fn feed(self, alloc: Global, bytes: &[u8], token: Token) -> Result<Option<Reader>, NoMemory>
         requires small { IsSmall token.kind }
         requires ordered { token.start ≤ token.end }
         requires within { token.end ≤ length bytes.now }

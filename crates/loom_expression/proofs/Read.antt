@@ -1,5 +1,5 @@
 -- What the reader takes is viable, what it refuses isn't, and what it finishes is an expression.
-use Rattle.std.proofs.Common.{ℕ, zero, suc, ◌+◌, ◌≤◌, ◌<◌, ◌≡◌, List, [], ◌∷◌, ◌++◌, Option, Some, None, refl, sym, ap, subst, ◌∙◌, arith, IfSome, take, length, map, get_or}
+use Rattle.std.proofs.Common.{ℕ, suc, ◌+◌, ◌≤◌, ◌<◌, ◌≡◌, List, [], ◌∷◌, ◌++◌, Option, Some, None, refl, sym, ap, subst, ◌∙◌, arith, IfSome, take, length, get_or}
 use Rattle.std.proofs.lemmas.List.{take_more, get_or-map}
 use Rattle.std.proofs.Math.Seq.{take-length}
 use Rattle.loom_tree.specs.declared.token.Token as rust
@@ -8,10 +8,10 @@ use Rattle.loom_tree.specs.Token.{Token}
 use Rattle.loom_expression.specs.Written.{Text, tokens, tree, IsWritten, IsExpression}
 use Rattle.loom_expression.specs.Machine.{State, start, step, after, run, finish, written, plain}
 use Rattle.loom_expression.specs.Read.{IsViable, IsRefusedAt, token_of, tokens_of}
-use Rattle.loom_expression.proofs.Sound.{GoodState, Goes, Spells, read, run_good, finish_good, start_good}
+use Rattle.loom_expression.proofs.Sound.{Goes, Spells, run_good, finish_good, start_good}
 use Rattle.loom_expression.proofs.Whole.{run_append, run_one, completes}
 use Rattle.loom_expression.proofs.Viable.{completion}
-use Rattle.loom_expression.proofs.Natural.{state_map, state_if, tree_if, run_state, finish_state}
+use Rattle.loom_expression.proofs.Natural.{state_if, tree_if, run_state, finish_state}
 
 abbrev pub ends : List Token → Option Text
 ends ts = after (run written start ts) (finish written)

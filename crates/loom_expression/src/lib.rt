@@ -4,3 +4,5 @@
 pub mod expression;
 pub mod part;
 pub mod reader;
+#[cfg(test)]
+mod tests;

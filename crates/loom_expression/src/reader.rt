@@ -72,27 +72,15 @@ fn reduce(alloc: Global, level: u8, operand: Operand) -> Result<Operand, NoMemor
                     value = bin(alloc, op, a, value)?;
                 } else {
                     push(&mut frames, Frame::Left(op, a))?;
-                    return Ok(Operand {
-                        value,
-                        size,
-                        frames,
-                    });
+                    return Ok(Operand::new(value, size, frames));
                 }
             }
             Some(other) => {
                 push(&mut frames, other)?;
-                return Ok(Operand {
-                    value,
-                    size,
-                    frames,
-                });
+                return Ok(Operand::new(value, size, frames));
             }
             None => {
-                return Ok(Operand {
-                    value,
-                    size,
-                    frames,
-                });
+                return Ok(Operand::new(value, size, frames));
             }
         }
     }
@@ -120,29 +108,17 @@ fn have(alloc: Global, operand: Operand) -> Result<Operand, NoMemory>
             }
             Some(other) => {
                 push(&mut frames, other)?;
-                return Ok(Operand {
-                    value,
-                    size,
-                    frames,
-                });
+                return Ok(Operand::new(value, size, frames));
             }
             None => {
-                return Ok(Operand {
-                    value,
-                    size,
-                    frames,
-                });
+                return Ok(Operand::new(value, size, frames));
             }
         }
     }
 }
 
 /// An operator before an operand begins.
-fn begin_unary(
-    frame: Frame,
-    size: Size,
-    mut frames: Vec<Frame>,
-) -> Result<Option<Reader>, NoMemory>
+fn begin_unary(frame: Frame, size: Size, mut frames: Vec<Frame>) -> Result<Option<Reader>, NoMemory>
     ensures { IfOk result (λ r. state_if r ≡ m.begin_unary (frame_of frame) (size_of size) (stack_of frames.items)) }
 {
     if size.may_sign() {
@@ -166,11 +142,7 @@ fn begin_paren(size: Size, mut frames: Vec<Frame>) -> Result<Option<Reader>, NoM
 }
 
 /// The index of a cell begins.
-fn begin_index(
-    name: Name,
-    size: Size,
-    mut frames: Vec<Frame>,
-) -> Result<Option<Reader>, NoMemory>
+fn begin_index(name: Name, size: Size, mut frames: Vec<Frame>) -> Result<Option<Reader>, NoMemory>
     ensures { IfOk result (λ r. state_if r ≡ m.begin_index name (size_of size) (stack_of frames.items)) }
 {
     if size.may_sign() {
@@ -230,11 +202,7 @@ fn close_paren(alloc: Global, operand: Operand) -> Result<Option<Reader>, NoMemo
     } = operand;
     match frames.pop() {
         Some(Frame::Open) => {
-            let whole = Operand {
-                value,
-                size: size.closed(),
-                frames,
-            };
+            let whole = Operand::new(value, size.closed(), frames);
             Ok(Some(Reader::Have(have(alloc, whole)?)))
         }
         _ => Ok(None),
@@ -252,11 +220,7 @@ fn close_bracket(alloc: Global, operand: Operand) -> Result<Option<Reader>, NoMe
     } = operand;
     match frames.pop() {
         Some(Frame::Index(name)) => {
-            let whole = Operand {
-                value: cell(alloc, name, value)?,
-                size: size.closed(),
-                frames,
-            };
+            let whole = Operand::new(cell(alloc, name, value)?, size.closed(), frames);
             Ok(Some(Reader::Have(have(alloc, whole)?)))
         }
         _ => Ok(None),
@@ -275,22 +239,10 @@ fn have_sign(alloc: Global, sign: Sign, operand: Operand) -> Result<Option<Reade
 }
 
 /// The name of a local or a word is an operand.
-fn named(
-    alloc: Global,
-    name: Name,
-    size: Size,
-    frames: Vec<Frame>,
-) -> Result<Operand, NoMemory>
+fn named(alloc: Global, name: Name, size: Size, frames: Vec<Frame>) -> Result<Operand, NoMemory>
     ensures { IfOk result (λ r. m.have m.plain (Expression.var name) (size_of size) (stack_of frames.items) ≡ operand_of r) }
 {
-    have(
-        alloc,
-        Operand {
-            value: Expr::Var(name),
-            size,
-            frames,
-        },
-    )
+    have(alloc, Operand::new(Expr::Var(name), size, frames))
 }
 
 /// A sign behind a name.
@@ -328,11 +280,7 @@ fn want(
             Ok(Some(Reader::Named(name, size, frames)))
         }
         TokenKind::Number(n) => {
-            let whole = Operand {
-                value: Expr::Num(n as i64),
-                size,
-                frames,
-            };
+            let whole = Operand::new(Expr::Num(n as i64), size, frames);
             Ok(Some(Reader::Have(have(alloc, whole)?)))
         }
         TokenKind::Keyword(_) => Ok(None),
@@ -352,12 +300,7 @@ impl Reader {
 
     /// Takes a token of a text with these bytes. `None` says that no expression begins with what was read and this
     /// token. An `Err` is want of memory.
-    pub fn feed(
-        self,
-        alloc: Global,
-        bytes: &[u8],
-        token: Token,
-    ) -> Result<Option<Reader>, NoMemory>
+    pub fn feed(self, alloc: Global, bytes: &[u8], token: Token) -> Result<Option<Reader>, NoMemory>
         requires small { IsSmall token.kind }
         requires ordered { token.start ≤ token.end }
         requires within { token.end ≤ length bytes.now }

@@ -1,4 +1,4 @@
-use Rattle.std.proofs.Common.{◌≡◌, ℕ, Some, None, arith, get_or, ap, sym, ◌∙◌}
+use Rattle.std.proofs.Common.{◌≡◌, arith, get_or, ap, sym, ◌∙◌}
 use Rattle.loom_tree.specs.declared.token.Token as rust
 use Rattle.loom_tree.specs.declared.token.TokenKind.TheVariants as k
 use Rattle.loom_expression.specs.Machine as m

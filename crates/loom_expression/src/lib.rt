@@ -1,0 +1,2 @@
+//! The grammar of expressions, and the reader that takes one token after another.
+#![tactic(auto)]

@@ -1,0 +1,6 @@
+pub mod Written
+pub mod Tests
+pub mod Head
+pub mod Part
+pub mod Machine
+pub mod View

@@ -1,0 +1,2 @@
+//! The grammar of files, and the reader that takes one token after another.
+#![tactic(auto)]

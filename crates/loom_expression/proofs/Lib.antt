@@ -1,2 +1,4 @@
 pub mod Sound
 pub mod Whole
+pub mod Viable
+pub mod Natural

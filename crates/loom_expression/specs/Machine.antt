@@ -1,9 +1,10 @@
 -- A reader of one token after another, over trees or over expressions as they are written.
-use Rattle.std.specs.Prelude.{ℕ, ◌+◌, ◌-◌, nat_eq, nat_le, nat_lt, if◌then◌else◌, List, [], ◌∷◌, Option, Some, None, Bool, false}
+use Rattle.std.specs.Prelude.{ℕ, pos, ◌+◌, ◌-◌, nat_eq, nat_le, nat_lt, if◌then◌else◌, List, [], ◌∷◌, Option, Some, None, Bool, false}
 use Rattle.loom_tree.specs.declared.expression.Op.{Op}
 use Rattle.loom_tree.specs.declared.expression.Op.TheVariants as op
 use Rattle.loom_tree.specs.declared.token.Sign.{Sign}
 use Rattle.loom_tree.specs.declared.token.Sign.TheVariants as sign
+use Rattle.loom_tree.specs.Tree.{Expression}
 use Rattle.loom_tree.specs.Token.{Token}
 use Rattle.loom_expression.specs.Written.{Text, prec, most, deepest}
 
@@ -204,3 +205,15 @@ is_whole (Have (Over e z k)) = nat_eq z.brackets 0
 -- expressions as they are written
 abbrev pub written : Builder Text
 written = record { num = Text.num; var = Text.var; cell = Text.cell; neg = Text.neg; inverse = Text.inverse; bin = Text.bin; paren = Text.paren }
+
+-- trees
+abbrev pub plain : Builder Expression
+plain = record {
+  num = λ n. Expression.num (pos n);
+  var = Expression.var;
+  cell = Expression.cell;
+  neg = Expression.neg;
+  inverse = Expression.inverse;
+  bin = Expression.bin;
+  paren = λ e. e;
+}

@@ -1,5 +1,5 @@
 -- Files as trees without pointers.
-use Rattle.std.specs.Prelude.{ℕ, pos}
+use Rattle.std.specs.Prelude.{ℕ}
 use Rattle.loom_tree.specs.Tree as tree
 use Rattle.loom_tree.specs.Tree.{Expression, Simple, Body}
 use Rattle.loom_expression.specs.Machine as expression
@@ -19,7 +19,7 @@ chain (while_ l e a) rest = Body.while_ l e a rest
 
 abbrev pub plain : Builder Expression Statement Body tree.Item
 plain = record {
-  expressions = record { num = λ n. Expression.num (pos n); var = Expression.var; cell = Expression.cell; neg = Expression.neg; inverse = Expression.inverse; bin = Expression.bin; paren = λ e. e };
+  expressions = expression.plain;
   simple = simple;
   if_ = λ l e a. if_ l e a Body.end;
   if_else = if_;

@@ -1,3 +1,4 @@
 pub mod Tests
 pub mod Head
 pub mod Part
+pub mod PartRun

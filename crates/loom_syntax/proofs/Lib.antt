@@ -2,3 +2,4 @@ pub mod Tests
 pub mod Head
 pub mod Part
 pub mod PartRun
+pub mod Sound

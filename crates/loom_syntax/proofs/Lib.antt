@@ -3,3 +3,4 @@ pub mod Head
 pub mod Part
 pub mod PartRun
 pub mod Sound
+pub mod Whole

@@ -4,3 +4,4 @@ pub mod Part
 pub mod PartRun
 pub mod Sound
 pub mod Whole
+pub mod Viable

@@ -5,3 +5,6 @@ pub mod PartRun
 pub mod Sound
 pub mod Whole
 pub mod Viable
+pub mod PartNatural
+pub mod Natural
+pub mod Laws

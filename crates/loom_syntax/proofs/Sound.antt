@@ -18,10 +18,10 @@ use Rattle.loom_syntax.specs.Head.{Head, HeadNext, begin_item, head_step}
 use Rattle.loom_syntax.specs.Part as part
 use Rattle.loom_syntax.specs.Part.{Test, If, While, Part, PartNext, begin_part, part_step}
 use Rattle.loom_syntax.specs.Machine.{Around, Then, Else, Loop, Opened, Point, Start, AfterIf, ElseBrace, Within, Inside, At, InsideNext, Goes, Ends, Header, State, Between, Heading, InFunction, start, close, room, shut_in, shut, around, parted, statement_step, inside_step, headed, insided, step, run, Piece, simple, if_, if_else, while_, chain, written}
-use Rattle.loom_syntax.proofs.Tests.{keyword_is, sign_is, choose}
-use Rattle.loom_syntax.proofs.Head as in_head
-use Rattle.loom_syntax.proofs.Part as in_part
-use Rattle.loom_syntax.proofs.Part.{after_good, all_more, test_word}
+use Rattle.loom_syntax.proofs.Choices.{keyword_is, sign_is, choose}
+use Rattle.loom_syntax.proofs.HeadSound as in_head
+use Rattle.loom_syntax.proofs.PartSound as in_part
+use Rattle.loom_syntax.proofs.PartSound.{after_good, all_more, test_word}
 
 -- the marks of what was read
 

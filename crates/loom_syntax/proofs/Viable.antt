@@ -10,8 +10,8 @@ use Rattle.loom_syntax.specs.Written.{Mark, on, at, Spells, Block, none, plus, m
 use Rattle.loom_syntax.specs.Head.{Head, SharedName, SharedNamed, SharedValue, SharedMinus, SharedCells, SharedClose, MutexName, SemaName, SemaNamed, SemaValue, Ending, FnName, FnOpen, FnFirst, FnParam, FnNext, FnBrace, HeadNext, Declares, Begins}
 use Rattle.loom_syntax.specs.Part.{Part, PartNext}
 use Rattle.loom_syntax.specs.Machine.{Around, Then, Else, Loop, Opened, Point, Start, AfterIf, ElseBrace, Within, Inside, At, Header, State, Between, Heading, InFunction, start, close, shut_in, around, parted, headed, step, run, finish, Piece, if_, if_else, while_, written}
-use Rattle.loom_syntax.proofs.PartRun as in_part
-use Rattle.loom_syntax.proofs.PartRun.{settled}
+use Rattle.loom_syntax.proofs.PartWhole as in_part
+use Rattle.loom_syntax.proofs.PartWhole.{settled}
 use Rattle.loom_syntax.proofs.Sound.{GoodState, Comes, run_good}
 use Rattle.loom_syntax.proofs.Whole.{run_append, head_run, head_takes, part_takes, file_read}
 

@@ -16,11 +16,11 @@ use Rattle.loom_syntax.specs.Tests.{is_keyword, is_sign}
 use Rattle.loom_syntax.specs.Head.{Head, SharedName, MutexName, SemaName, FnName, FnFirst, FnNext, HeadNext, Declares, Begins, begin_item, head_step}
 use Rattle.loom_syntax.specs.Part.{Test, If, While, Part, TestOpen, PartNext, begin_part, part_step}
 use Rattle.loom_syntax.specs.Machine.{Around, Then, Else, Loop, Opened, Point, Start, AfterIf, ElseBrace, Within, Inside, At, InsideNext, Goes, Ends, Header, State, Between, Heading, InFunction, start, close, room, around, parted, statement_step, inside_step, headed, step, run, Piece, simple, if_, if_else, while_, written}
-use Rattle.loom_syntax.proofs.Tests.{keyword_is, sign_is}
-use Rattle.loom_syntax.proofs.Head.{named}
-use Rattle.loom_syntax.proofs.Part.{test_word}
-use Rattle.loom_syntax.proofs.PartRun as in_part
-use Rattle.loom_syntax.proofs.PartRun.{readable, test_run}
+use Rattle.loom_syntax.proofs.Choices.{keyword_is, sign_is}
+use Rattle.loom_syntax.proofs.HeadSound.{named}
+use Rattle.loom_syntax.proofs.PartSound.{test_word}
+use Rattle.loom_syntax.proofs.PartWhole as in_part
+use Rattle.loom_syntax.proofs.PartWhole.{readable, test_run}
 use Rattle.loom_syntax.proofs.Sound.{begun_more}
 
 pub run_append : (s : State Text Piece Block Item) (a b : List Placed) → run written s (a ++ b) ≡ after (run written s a) (λ s'. run written s' b)

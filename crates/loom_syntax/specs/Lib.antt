@@ -4,3 +4,4 @@ pub mod Head
 pub mod Part
 pub mod Machine
 pub mod View
+pub mod Laws

@@ -10,7 +10,7 @@ use Rattle.loom_expression.specs.Written.{Text}
 use Rattle.loom_expression.specs.Machine.{after}
 use Rattle.loom_syntax.specs.Written.{Block, Item, item_tree, IsFile, IsViable, IsRefusedAt}
 use Rattle.loom_syntax.specs.Machine.{State, Between, start, step, run, finish, Piece, written}
-use Rattle.loom_syntax.specs.View.{Statement, plain}
+use Rattle.loom_syntax.specs.View.{Statement, plain, places}
 use Rattle.loom_syntax.proofs.PartNatural.{over}
 use Rattle.loom_syntax.proofs.Natural.{state_map, run_state, finish_state}
 use Rattle.loom_syntax.proofs.Viable.{first, accepted, run_viable, stuck_not_viable, unfinished_not_file}
@@ -81,10 +81,6 @@ run_push s (q ∷ ps) p = go (step plain s q) (λ s'. run_push s' ps p)
     go (Some s') h = h s'
 
 -- What the answers of the code cite. The reader has taken the first i tokens and is in the state s.
-
--- the placed tokens of a text
-abbrev pub places : List ℕ → List rust.Token → List Placed
-places bytes ts = map (placed_of bytes) ts
 
 abbrev pub Taken : List ℕ → List rust.Token → ℕ → Plain → Type 0
 Taken bytes ts i s = run plain first_plain (places bytes (take i ts)) ≡ Some s

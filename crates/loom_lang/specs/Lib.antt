@@ -3,3 +3,5 @@ pub mod Numbers
 pub mod Places
 pub mod Values
 pub mod Trace
+pub mod Gathered
+pub mod Program

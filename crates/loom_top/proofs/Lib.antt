@@ -3,3 +3,5 @@ pub mod Traced
 pub mod Replayed
 pub mod Whole
 pub mod Coded
+pub mod Few
+pub mod Words

@@ -1,6 +1,6 @@
 //! The numbers of the statuses.
 ghost use Rattle.std.specs.Prelude.{◌≡◌};
-ghost use Rattle.loom_top.specs.Answers.{code};
+ghost use Rattle.loom_top.specs.Code.{code};
 
 use crate::status::Status;
 

@@ -1,6 +1,15 @@
 //! The words of a command.
-ghost use Rattle.std.specs.Prelude.{◌≡◌, List, ℕ, map, IfSome, IfNone};
-ghost use Rattle.loom_top.specs.Answers.{IsCommand};
+ghost use Rattle.std.specs.Prelude.{◌≡◌, ◌↔◌, List, ℕ, map, IfSome, IfNone, IsTrue};
+ghost use Rattle.loom_top.specs.Command.{IsCommand, IsFileName};
+
+fn is_file_name(name: &[u8]) -> bool
+    ensures { IsTrue result ↔ IsFileName name.now }
+{
+    match name {
+        [] => false,
+        [first, ..] => *first != b'-',
+    }
+}
 
 /// The file that the words ask to run.
 pub fn program_name<'a>(words: &[&'a str]) -> Option<&'a str>

@@ -5,6 +5,7 @@
 
 pub mod adapters;
 pub mod memory;
+pub mod page;
 pub mod shelf;
 pub mod sink;
 pub mod whole;

@@ -1,7 +1,7 @@
 //! Writes a whole text.
-ghost use Rattle.std.specs.Prelude.{◌≡◌, ◌≤◌, OnOk, OnErr, ℕ, take, length};
+ghost use Rattle.std.specs.Prelude.{◌≤◌, OnOk, OnErr};
 ghost use Rattle.std.specs.Io.KnownBytes.{Appends};
-ghost use Rattle.loom_io.specs.Causes.{Rose};
+ghost use Rattle.loom_io.specs.Causes.{Rose, TookFront};
 
 use crate::sink::{Sink, SinkFailed};
 
@@ -10,7 +10,7 @@ use crate::sink::{Sink, SinkFailed};
 pub fn put_all<K: Sink>(sink: &mut K, text: &[u8]) -> Result<(), SinkFailed>
     ensures later { K.faults sink.old ≤ K.faults sink.new }
     ensures ok { OnOk result (Appends (K.taken sink.old) (K.taken sink.new) text.now) }
-    ensures part { OnErr result ((n : ℕ) × (n ≤ length text.now) × Appends (K.taken sink.old) (K.taken sink.new) (take n text.now)) }
+    ensures part { OnErr result (TookFront (K.taken sink.old) (K.taken sink.new) text.now) }
     ensures failed { OnErr result (Rose (K.faults sink.old) (K.faults sink.new)) }
 {
     let mut at = 0;

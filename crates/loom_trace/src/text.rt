@@ -329,3 +329,11 @@ pub fn put_entry(e: &Entry, line: &mut Line)
     line.add(word_of(e));
     put_fields(e, line);
 }
+
+/// Makes the line hold the text of a printed value, without what ends it.
+pub fn put_printed(value: i64, line: &mut Line)
+    ensures { line.new ≡ signed_decimal value }
+{
+    line.clear();
+    put_value(value, line);
+}

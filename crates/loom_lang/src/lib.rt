@@ -1,2 +1,6 @@
 //! The language: programs, and their parser.
 #![tactic(auto)]
+
+mod declarations;
+mod names;
+mod rules;

@@ -4,3 +4,4 @@
 mod declarations;
 mod names;
 mod rules;
+mod walk;

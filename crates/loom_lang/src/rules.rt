@@ -1,6 +1,6 @@
 //! The rules on names.
 ghost use Rattle.std.specs.Prelude.{◌≡◌};
-ghost use Rattle.loom_tree.specs.Tree.{expression_of, expressions_of, right_of, returned_of, body_of};
+ghost use Rattle.loom_tree.specs.Tree.{expression_of, expressions_of, right_of, returned_of, body_of, behind, end};
 ghost use Rattle.loom_lang.specs.Rules.{knows, knows_all, knows_call, knows_right, knows_returned, knows_body};
 
 use crate::declarations::Declarations;
@@ -57,5 +57,46 @@ fn knows_returned(p: &Declarations, locals: &Names, e: &Option<Expr>) -> bool
     match e {
         None => true,
         Some(e) => knows(p, locals, e),
+    }
+}
+
+#[cycle(statements)]
+#[tactic(auto, using(crate::proofs::Statements::knows_behind))]
+fn knows_body(p: &Declarations, locals: &Names, body: &Stmts) -> bool
+    ensures { result ≡ knows_body p.now locals.now (body_of body.now) }
+{
+    let mut at = body;
+    'walk: while let Stmts::More(first, rest) = at {
+        if !knows_statement(p, locals, &first.kind) {
+            return false;
+        }
+        at = rest;
+    }
+    true
+}
+
+#[cycle(statements)]
+fn knows_statement(p: &Declarations, locals: &Names, kind: &Kind) -> bool
+    ensures { result ≡ knows_body p.now locals.now (behind 0 kind.now end) }
+{
+    match kind {
+        Kind::Let(x, right) => knows_right(p, locals, x, right),
+        Kind::Set(x, right) => knows_right(p, locals, x, right),
+        Kind::SetCell(x, i, e) => {
+            names::is_array(&p.words.0, x) && (knows(p, locals, i) && knows(p, locals, e))
+        }
+        Kind::If(e, a, b) => {
+            knows(p, locals, e) && (knows_body(p, locals, a) && knows_body(p, locals, b))
+        }
+        Kind::While(e, a) => knows(p, locals, e) && knows_body(p, locals, a),
+        Kind::Call(f, es) => knows_call(p, locals, f, es),
+        Kind::Return(e) => knows_returned(p, locals, e),
+        Kind::Lock(x) => names::is_in(x, &p.mutexes.0),
+        Kind::Unlock(x) => names::is_in(x, &p.mutexes.0),
+        Kind::Down(x) => names::is_sema(&p.semas.0, x),
+        Kind::Up(x) => names::is_sema(&p.semas.0, x),
+        Kind::Join(e) => knows(p, locals, e),
+        Kind::Print(e) => knows(p, locals, e),
+        Kind::Skip => true,
     }
 }

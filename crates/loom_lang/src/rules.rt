@@ -14,8 +14,8 @@ fn knows(p: &Declarations, locals: &Names, e: &Expr) -> bool
 {
     match e {
         Expr::Num(_) => true,
-        Expr::Var(x) => names::is_in(x, &locals.0) || names::is_word(&p.words.0, x),
-        Expr::Cell(x, i) => names::is_array(&p.words.0, x) && knows(p, locals, i),
+        Expr::Var(x) => names::is_in(x, &locals.0) || names::is_word(p.words(), x),
+        Expr::Cell(x, i) => names::is_array(p.words(), x) && knows(p, locals, i),
         Expr::Neg(a) => knows(p, locals, a),
         Expr::Not(a) => knows(p, locals, a),
         Expr::Bin(_, a, b) => knows(p, locals, a) && knows(p, locals, b),
@@ -36,7 +36,7 @@ fn knows_all(p: &Declarations, locals: &Names, es: &Exprs) -> bool
 fn knows_call(p: &Declarations, locals: &Names, f: &Name, es: &Exprs) -> bool
     ensures { result ≡ knows_call p.now locals.now f.now (expressions_of es.now) }
 {
-    names::takes(&p.funcs.0, f, es.0.len()) && knows_all(p, locals, es)
+    names::takes(p.funcs(), f, es.0.len()) && knows_all(p, locals, es)
 }
 
 fn knows_right(p: &Declarations, locals: &Names, x: &Name, right: &Right) -> bool
@@ -44,7 +44,7 @@ fn knows_right(p: &Declarations, locals: &Names, x: &Name, right: &Right) -> boo
 {
     match right {
         Right::Value(e) => {
-            (names::is_in(x, &locals.0) || names::is_word(&p.words.0, x)) && knows(p, locals, e)
+            (names::is_in(x, &locals.0) || names::is_word(p.words(), x)) && knows(p, locals, e)
         }
         Right::Call(f, es) => names::is_in(x, &locals.0) && knows_call(p, locals, f, es),
         Right::Spawn(f, es) => names::is_in(x, &locals.0) && knows_call(p, locals, f, es),
@@ -83,7 +83,7 @@ fn knows_statement(p: &Declarations, locals: &Names, kind: &Kind) -> bool
         Kind::Let(x, right) => knows_right(p, locals, x, right),
         Kind::Set(x, right) => knows_right(p, locals, x, right),
         Kind::SetCell(x, i, e) => {
-            names::is_array(&p.words.0, x) && (knows(p, locals, i) && knows(p, locals, e))
+            names::is_array(p.words(), x) && (knows(p, locals, i) && knows(p, locals, e))
         }
         Kind::If(e, a, b) => {
             knows(p, locals, e) && (knows_body(p, locals, a) && knows_body(p, locals, b))
@@ -91,10 +91,10 @@ fn knows_statement(p: &Declarations, locals: &Names, kind: &Kind) -> bool
         Kind::While(e, a) => knows(p, locals, e) && knows_body(p, locals, a),
         Kind::Call(f, es) => knows_call(p, locals, f, es),
         Kind::Return(e) => knows_returned(p, locals, e),
-        Kind::Lock(x) => names::is_in(x, &p.mutexes.0),
-        Kind::Unlock(x) => names::is_in(x, &p.mutexes.0),
-        Kind::Down(x) => names::is_sema(&p.semas.0, x),
-        Kind::Up(x) => names::is_sema(&p.semas.0, x),
+        Kind::Lock(x) => names::is_in(x, p.mutexes()),
+        Kind::Unlock(x) => names::is_in(x, p.mutexes()),
+        Kind::Down(x) => names::is_sema(p.semas(), x),
+        Kind::Up(x) => names::is_sema(p.semas(), x),
         Kind::Join(e) => knows(p, locals, e),
         Kind::Print(e) => knows(p, locals, e),
         Kind::Skip => true,

@@ -1,10 +1,11 @@
 //! Walks over the statements of a function: their lines, and the names of its locals.
-ghost use Rattle.std.specs.Prelude.{◌≡◌, ◌++◌, ◌∷◌, [], OnOk, IfOk, is_some, length};
+ghost use Rattle.std.specs.Prelude.{◌≡◌, ◌++◌, OnOk, IfOk, is_some, length};
 ghost use Rattle.loom_tree.specs.Tree.{body_of, behind, end, function_of, functions_of};
 ghost use Rattle.loom_lang.specs.Rules.{lines, lets, locals_of};
 ghost use Rattle.loom_lang.specs.Decided.{capped, climb, body_lines};
 
-use loom_tree::name::{Name, NoMemory};
+use crate::copies::{put, put_all};
+use loom_tree::name::NoMemory;
 use loom_tree::statement::{Func, Kind, Names, Stmts};
 use std::alloc::Global;
 
@@ -112,23 +113,6 @@ fn count_lets_in(kind: &Kind) -> u64
         Kind::While(_, a) => count_lets(a),
         _ => 0,
     }
-}
-
-fn put(alloc: Global, names: &mut Names, x: &Name) -> Result<(), NoMemory>
-    ensures { OnOk result (names.new ≡ names.old ++ x.now ∷ []) }
-{
-    names.0.push(Name::copied(alloc, x.bytes())?)?;
-    Ok(())
-}
-
-/// Puts copies of the names behind those that are there.
-pub fn put_all(alloc: Global, names: &mut Names, more: &[Name]) -> Result<(), NoMemory>
-    ensures { OnOk result (names.new ≡ names.old ++ more.now) }
-{
-    'copy: for x in more {
-        put(alloc, names, x)?;
-    }
-    Ok(())
 }
 
 #[cycle(gather)]

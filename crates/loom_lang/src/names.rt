@@ -8,17 +8,17 @@ use loom_tree::item::{Sema, Word};
 use loom_tree::name::Name;
 use loom_tree::statement::Func;
 
-fn is_same(x: &Name, y: &Name) -> bool
-    ensures { result ≡ pointwise ◌==◌ x.now y.now }
+fn is_same(x: &Name, bytes: &[u8]) -> bool
+    ensures { result ≡ pointwise ◌==◌ x.now bytes.now }
 {
-    x.0.as_slice() == y.0.as_slice()
+    x.0.as_slice() == bytes
 }
 
 pub fn is_in(x: &Name, names: &[Name]) -> bool
     ensures { result ≡ is_in x.now names.now }
 {
     'scan: for y in names {
-        if is_same(y, x) {
+        if is_same(y, x.bytes()) {
             return true;
         }
     }
@@ -53,7 +53,7 @@ pub fn is_word(words: &[Word], x: &Name) -> bool
     ensures { result ≡ is_word words.now x.now }
 {
     'scan: for w in words {
-        if is_same(&w.name, x) && w.cells.is_none() {
+        if is_same(&w.name, x.bytes()) && w.cells.is_none() {
             return true;
         }
     }
@@ -64,7 +64,7 @@ pub fn is_array(words: &[Word], x: &Name) -> bool
     ensures { result ≡ is_array words.now x.now }
 {
     'scan: for w in words {
-        if is_same(&w.name, x) && w.cells.is_some() {
+        if is_same(&w.name, x.bytes()) && w.cells.is_some() {
             return true;
         }
     }
@@ -75,7 +75,7 @@ pub fn is_sema(semas: &[Sema], x: &Name) -> bool
     ensures { result ≡ is_sema semas.now x.now }
 {
     'scan: for s in semas {
-        if is_same(&s.name, x) {
+        if is_same(&s.name, x.bytes()) {
             return true;
         }
     }
@@ -83,11 +83,11 @@ pub fn is_sema(semas: &[Sema], x: &Name) -> bool
 }
 
 /// Whether a function has that name and `count` parameters.
-pub fn takes(funcs: &[Func], x: &Name, count: usize) -> bool
-    ensures { result ≡ takes (functions_of funcs.now) x.now count }
+pub fn takes(funcs: &[Func], name: &[u8], count: usize) -> bool
+    ensures { result ≡ takes (functions_of funcs.now) name.now count }
 {
     'scan: for f in funcs {
-        if is_same(&f.name, x) && f.params.0.len() == count {
+        if is_same(&f.name, name) && f.params.0.len() == count {
             return true;
         }
     }

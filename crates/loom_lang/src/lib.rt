@@ -3,7 +3,9 @@
 
 mod copies;
 mod declarations;
+mod gather;
 mod limits;
 mod names;
+pub mod program;
 mod rules;
 mod walk;

@@ -1,3 +1,4 @@
 pub mod FileNames
+pub mod Gathered
 pub mod Lawful
 pub mod Statements

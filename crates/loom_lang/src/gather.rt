@@ -1,5 +1,5 @@
 //! From the items of a file to what it declares.
-ghost use Rattle.std.specs.Prelude.{◌≡◌, ◌<◌, IfOk, IfSome, MatchOption};
+ghost use Rattle.std.specs.Prelude.{◌≡◌, ◌<◌, IfOk, MatchOption};
 ghost use Rattle.std.specs.Bool.{MatchBool};
 ghost use Rattle.loom_tree.specs.Tree.{item_of, items_of};
 ghost use Rattle.loom_lang.specs.Rules.{cell_count};
@@ -23,7 +23,7 @@ fn nothing(alloc: Global) -> Declarations
 
 /// How many cells an array has, where they aren't more than a program may have.
 fn few_cells(cells: Option<u64>) -> Option<Option<u32>>
-    ensures { MatchOption result (IfSome cells (λ n. 1024 < n)) (λ few. few ≡ cells) }
+    ensures { MatchOption result (MatchOption cells ⊥ (λ n. 1024 < n)) (λ few. few ≡ cells) }
 {
     match cells {
         None => Some(None),

@@ -1,4 +1,5 @@
 pub mod Rules
+pub mod Decided
 pub mod Numbers
 pub mod Places
 pub mod Values

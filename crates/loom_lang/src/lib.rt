@@ -1,2 +1,11 @@
 //! The language: programs, and their parser.
 #![tactic(auto)]
+
+mod copies;
+mod declarations;
+mod gather;
+mod limits;
+mod names;
+pub mod program;
+mod rules;
+mod walk;

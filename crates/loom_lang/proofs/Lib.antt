@@ -1,0 +1,4 @@
+pub mod FileNames
+pub mod Gathered
+pub mod Lawful
+pub mod Statements

@@ -1,0 +1,13 @@
+use Rattle.std.proofs.Common.{◌≡◌, ◌≤◌, ◌+◌, ◌<◌, ◌^◌, length}
+use Rattle.loom_tree.specs.declared.statement.Stmts.{size-Stmts}
+use Rattle.loom_tree.specs.Tree.{body_of}
+use Rattle.loom_lang.specs.Rules.{lets}
+use Rattle.loom_lang.specs.Decided.{capped}
+use Rattle.loom_lang.proofs.walk.+let_statements.Given as goal
+
+abbrev pub invariant-count_lets-walk : goal.invariant-count_lets-walk
+invariant-count_lets-walk l = record {
+    within : size-Stmts l.at ≤ size-Stmts l.body;
+    fits : l.total < 2 ^ 64;
+    total : capped (l.total + length (lets (body_of l.at))) ≡ capped (length (lets (body_of l.body)));
+}

@@ -1,0 +1,83 @@
+//! Programs.
+ghost use Rattle.std.specs.Prelude.{◌≡◌};
+ghost use Rattle.loom_tree.specs.Tree.{functions_of};
+ghost use Rattle.loom_lang.specs.Rules.{IsLawful};
+
+use crate::declarations::Declarations;
+use loom_tree::item::{Funcs, Mutexes, Semas, Words};
+use std::marker::Model;
+
+/// A program, which keeps the rules on names and the limits.
+#[derive(Debug, Drop)]
+pub struct Program {
+    words: Words,
+    mutexes: Mutexes,
+    semas: Semas,
+    funcs: Funcs,
+}
+
+impl Model for Program {
+    ghost use Rattle.loom_tree.specs.Code.{source_code};
+    ghost use Rattle.loom_tree.specs.Tree.{Source, functions_of};
+    ghost use Rattle.loom_lang.specs.Rules.{IsLawful};
+
+    ghost Value = { Source };
+
+    ghost coded = { source_code };
+
+    ghost view = { λ p. record { words = p.words; mutexes = p.mutexes; semas = p.semas; funcs = functions_of p.funcs } };
+
+    ghost invariant = { λ p. IsLawful (record { words = p.words; mutexes = p.mutexes; semas = p.semas; funcs = functions_of p.funcs }) };
+}
+
+impl Program {
+    pub(crate) fn new(p: Declarations) -> Program
+        requires { IsLawful p }
+        ensures { result ≡ p }
+    {
+        let Declarations {
+            words,
+            mutexes,
+            semas,
+            funcs,
+        } = p;
+        Program {
+            words,
+            mutexes,
+            semas,
+            funcs,
+        }
+    }
+
+    /// The words and arrays, in the order of the text.
+    pub fn words(&self) -> &Words
+        ensures words { result.now ≡ self.now.words }
+        ensures rules { IsLawful self.now }
+    {
+        &self.words
+    }
+
+    /// The mutexes, in the order of the text.
+    pub fn mutexes(&self) -> &Mutexes
+        ensures mutexes { result.now ≡ self.now.mutexes }
+        ensures rules { IsLawful self.now }
+    {
+        &self.mutexes
+    }
+
+    /// The semaphores, in the order of the text.
+    pub fn semas(&self) -> &Semas
+        ensures semas { result.now ≡ self.now.semas }
+        ensures rules { IsLawful self.now }
+    {
+        &self.semas
+    }
+
+    /// The functions, in the order of the text.
+    pub fn funcs(&self) -> &Funcs
+        ensures funcs { functions_of result.now ≡ self.now.funcs }
+        ensures rules { IsLawful self.now }
+    {
+        &self.funcs
+    }
+}

@@ -1,12 +1,15 @@
 -- A body by its first statement, and the number of a word by its place.
-use Rattle.std.proofs.Common.{ℕ, suc, ◌+◌, ◌<◌, ◌≡◌, ◌==◌, ℤ, Bool, true, false, ◌&&◌, List, [], ◌∷◌, ◌++◌, drop, length, get_or, refl, sym, ap, ◌∙◌, arith, if◌then◌else◌}
+use Rattle.std.proofs.Common.{ℕ, suc, ◌+◌, ◌<◌, ◌≤◌, ◌≡◌, ◌==◌, ℤ, Bool, true, false, ◌&&◌, List, [], ◌∷◌, ◌++◌, drop, length, get_or, refl, sym, ap, ◌∙◌, arith, if◌then◌else◌}
 use Rattle.std.specs.Cmp.Lexicographic.{pointwise}
 use Rattle.loom_tree.specs.declared.item.Word.{Word}
 use Rattle.loom_tree.specs.declared.statement.Right.TheVariants as r
 use Rattle.loom_tree.specs.declared.statement.Kind.{Kind}
 use Rattle.loom_tree.specs.declared.statement.Kind.TheVariants as k
 use Rattle.loom_tree.specs.Tree.{Body, behind}
-use Rattle.loom_top.specs.Plain.{word_index, body_deeds}
+use Rattle.loom_tree.specs.declared.statement.Func.{Func}
+use Rattle.loom_tree.specs.Tree.{functions_of, function_of}
+use Rattle.loom_trace.specs.declared.entry.Entry.{Entry}
+use Rattle.loom_top.specs.Plain.{body_deeds, entries, entries_of, first_values, function_events}
 use Rattle.loom_top.specs.Built.{builds_body}
 use Rattle.loom_top.specs.Kinds.{kind_deeds, kind_values, kind_builds}
 
@@ -47,3 +50,17 @@ built_behind l (k.Up x) rest = refl
 built_behind l (k.Join e) rest = refl
 built_behind l (k.Print e) rest = refl
 built_behind l k.Skip rest = refl
+
+-- the first function
+
+pub entries_first : (ws : List Word) (fs : List Func) (f : Func) → 1 ≤ length fs → f ≡ get_or fs 0 f → entries_of ws (functions_of fs) ≡ entries ws (function_of f)
+entries_first ws [] f h is = absurd (omega (arith, h))
+entries_first ws (g ∷ fs) f h is = ap (λ z. entries ws (function_of z)) (sym is)
+
+pub entries_none : (ws : List Word) (fs : List Func) → length fs < 1 → entries_of ws (functions_of fs) ≡ []
+entries_none ws [] h = refl
+entries_none ws (g ∷ fs) h = absurd (omega (arith, h))
+
+pub events_first : (ws : List Word) (fs : List Func) (f : Func) → 1 ≤ length fs → f ≡ get_or fs 0 f → function_events ws (functions_of fs) ≡ length (body_deeds ws (first_values ws) (function_of f).body) + 2
+events_first ws [] f h is = absurd (omega (arith, h))
+events_first ws (g ∷ fs) f h is = ap (λ z. length (body_deeds ws (first_values ws) (function_of z).body) + 2) (sym is)

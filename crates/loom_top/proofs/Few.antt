@@ -20,7 +20,7 @@ use Rattle.loom_lexer.specs.Tokens.{placed, kind_of, line_ends, tokens_from}
 use Rattle.loom_lang.specs.Gathered.{funcs_in}
 use Rattle.loom_lang.specs.Program.{IsText, IsProgram}
 use Rattle.loom_lang.specs.Trace as trace
-use Rattle.loom_top.specs.Plain.{deed, word_index, value, reads, simple_deeds, simple_values, body_deeds}
+use Rattle.loom_top.specs.Plain.{deed, word_index, value, reads, simple_deeds, simple_values, body_deeds, first_values, function_events}
 
 pub few_reads : (l : ℕ) (ws : List Word) (vs : List ℤ) (e : Text) → length (reads l ws vs (expression.tree e)) ≤ length (tokens e)
 few_reads l ws vs (Text.num n) = omega arith
@@ -67,25 +67,20 @@ few_body ws vs (Block.if_ l e a rest) = behind _ (begun l (test_tokens w.If e) +
 few_body ws vs (Block.if_else l e a b rest) = behind _ (begun l (test_tokens w.If e) ++ in_braces (block_marks a) ++ Mark.on (Token.word w.Else) ∷ in_braces (block_marks b)) (block_marks rest) (few_body ws vs rest)
 few_body ws vs (Block.while_ l e a rest) = behind _ (begun l (test_tokens w.While e) ++ in_braces (block_marks a)) (block_marks rest) (few_body ws vs rest)
 
--- of a function, with its `begin` and its `end`
-abbrev pub function_events : List Word → List ℤ → List Function → ℕ
-function_events ws vs [] = 0
-function_events ws vs (f ∷ fs) = length (body_deeds ws vs f.body) + 2
-
-pub few_item : (ws : List Word) (vs : List ℤ) (i : Item) (rest : List Item) (n : ℕ) → function_events ws vs (flat_map funcs_in (map item_tree rest)) ≤ n
-    → function_events ws vs (flat_map funcs_in (map item_tree (i ∷ rest))) ≤ length (item_marks i) + n
-few_item ws vs (Item.declared l (Declaration.word x first)) rest n h = omega (arith, h)
-few_item ws vs (Item.declared l (Declaration.array x k)) rest n h = omega (arith, h)
-few_item ws vs (Item.declared l (Declaration.mutex x)) rest n h = omega (arith, h)
-few_item ws vs (Item.declared l (Declaration.sema x first)) rest n h = omega (arith, h)
-few_item ws vs (Item.func l f params body) rest n h =
+pub few_item : (ws : List Word) (i : Item) (rest : List Item) (n : ℕ) → function_events ws (flat_map funcs_in (map item_tree rest)) ≤ n
+    → function_events ws (flat_map funcs_in (map item_tree (i ∷ rest))) ≤ length (item_marks i) + n
+few_item ws (Item.declared l (Declaration.word x first)) rest n h = omega (arith, h)
+few_item ws (Item.declared l (Declaration.array x k)) rest n h = omega (arith, h)
+few_item ws (Item.declared l (Declaration.mutex x)) rest n h = omega (arith, h)
+few_item ws (Item.declared l (Declaration.sema x first)) rest n h = omega (arith, h)
+few_item ws (Item.func l f params body) rest n h =
     let head = begun l (head_tokens f params) in
     let inner = block_marks body in
-    omega (arith, few_body ws vs body, length-append head (in_braces inner), length-append inner (Mark.on (Token.sign g.BraceClose) ∷ []), length_begun l (head_tokens f params))
+    omega (arith, few_body ws (first_values ws) body, length-append head (in_braces inner), length-append inner (Mark.on (Token.sign g.BraceClose) ∷ []), length_begun l (head_tokens f params))
 
-pub few_items : (ws : List Word) (vs : List ℤ) (items : List Item) → function_events ws vs (flat_map funcs_in (map item_tree items)) ≤ length (flat_map item_marks items)
-few_items ws vs [] = omega arith
-few_items ws vs (i ∷ rest) = omega (arith, few_item ws vs i rest (length (flat_map item_marks rest)) (few_items ws vs rest), length-append (item_marks i) (flat_map item_marks rest))
+pub few_items : (ws : List Word) (items : List Item) → function_events ws (flat_map funcs_in (map item_tree items)) ≤ length (flat_map item_marks items)
+few_items ws [] = omega arith
+few_items ws (i ∷ rest) = omega (arith, few_item ws i rest (length (flat_map item_marks rest)) (few_items ws rest), length-append (item_marks i) (flat_map item_marks rest))
 
 pub length_spelled : (ms : List Mark) (ps : List Placed) → Spells ms ps → length ms ≡ length ps
 length_spelled [] [] h = refl
@@ -110,15 +105,15 @@ few_tokens line (p ∷ ps) bytes h =
     let later = tokens_from (line + line_ends p.text) ps in
     omega (arith, one_token (kind_of p.kind p.text) p.text line, some_text p.kind p.text h.0 h.2, few_tokens (line + line_ends p.text) ps h.0 h.3, length-append here later, ap length h.1, length-append p.text h.0)
 
-pub few_in_text : (ws : List Word) (vs : List ℤ) (bytes : List ℕ) (items : List tree.Item) → IsText bytes items → function_events ws vs (flat_map funcs_in items) ≤ length bytes
-few_in_text ws vs bytes items t =
-    let P : List tree.Item → Type 0 = λ z. function_events ws vs (flat_map funcs_in z) ≤ length bytes in
-    let marked = few_items ws vs t.file.written in
+pub few_in_text : (ws : List Word) (bytes : List ℕ) (items : List tree.Item) → IsText bytes items → function_events ws (flat_map funcs_in items) ≤ length bytes
+few_in_text ws bytes items t =
+    let P : List tree.Item → Type 0 = λ z. function_events ws (flat_map funcs_in z) ≤ length bytes in
+    let marked = few_items ws t.file.written in
     let spelled = length_spelled (flat_map item_marks t.file.written) t.tokens t.file.spelled in
     let lexed = few_tokens 1 t.lexed.lexemes bytes t.lexed.lexed in
     subst P t.file.stands (omega (arith, marked, spelled, lexed, ap length t.lexed.theirs))
 
-pub few_in_program : (ws : List Word) (vs : List ℤ) (bytes : List ℕ) (p : Source) → IsProgram bytes p → function_events ws vs p.funcs ≤ length bytes
-few_in_program ws vs bytes p h =
-    let P : Source → Type 0 = λ z. function_events ws vs z.funcs ≤ length bytes in
-    subst P h.gathered (few_in_text ws vs bytes h.items h.text)
+pub few_in_program : (ws : List Word) (bytes : List ℕ) (p : Source) → IsProgram bytes p → function_events ws p.funcs ≤ length bytes
+few_in_program ws bytes p h =
+    let P : Source → Type 0 = λ z. function_events ws z.funcs ≤ length bytes in
+    subst P h.gathered (few_in_text ws bytes h.items h.text)

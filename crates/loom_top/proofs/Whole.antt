@@ -1,5 +1,5 @@
 -- The one run's journal is lawful and finished.
-use Rattle.std.proofs.Common.{ℕ, zero, suc, ◌<◌, ◌≤◌, ◌≡◌, ◌==◌, ◌≢◌, ◌⊎◌, inl, inr, ℤ, Bool, true, false, ◌&&◌, ◌||◌, List, [], ◌∷◌, ◌++◌, map, take, length, Option, Some, None, refl, sym, ap, subst, ◌∙◌, append_assoc, arith, codes, eqb, if◌then◌else◌}
+use Rattle.std.proofs.Common.{ℕ, zero, suc, ◌<◌, ◌≤◌, ◌≡◌, ◌==◌, ◌≢◌, ◌⊎◌, inl, inr, ℤ, Bool, true, false, ◌&&◌, ◌||◌, List, [], ◌∷◌, ◌++◌, map, take, length, length-append, Option, Some, None, refl, sym, ap, subst, ◌∙◌, append_assoc, arith, codes, eqb, if◌then◌else◌}
 use Rattle.std.proofs.lemmas.List.{length-map, map-append}
 use Rattle.std.proofs.lemmas.Bool.{eqb-true}
 use Rattle.std.proofs.lemmas.Bool.Decides.{eqb_tells}
@@ -20,7 +20,7 @@ use Rattle.loom_law.specs.Replay.{Spawned, Store, start, replay}
 use Rattle.loom_law.specs.Run.{AreRun}
 use Rattle.loom_law.specs.Lawful.{thread_of, is_some_thread, thread_entries, last_from, stops_at, is_over, AllEnded, Ends, Stands, IsFinished, IsLawful}
 use Rattle.loom_top.specs.Built.{builds_words, builds_body, builds_functions, is_nil, is_built}
-use Rattle.loom_top.specs.Plain.{deed, tells, body_deeds, first_values, entries, entries_of, never}
+use Rattle.loom_top.specs.Plain.{deed, tells, body_deeds, first_values, entries, entries_of, function_events, never}
 use Rattle.loom_top.proofs.Facts.{both}
 use Rattle.loom_top.proofs.Traced.{whole_deeds, whole_traced, lets_built}
 use Rattle.loom_top.proofs.Replayed.{events_then, alone, body_values, start_plain, whole_events, whole_replay, whole_run}
@@ -204,12 +204,16 @@ only_of p (f ∷ []) is b m l =
       knows = ap (λ z. knows_body p z f.body) (sym own) ∙ l.0.known;
     }
 
--- how many events the one run has
-abbrev pub event_count : Source → List Function → ℕ
-event_count p [] = 0
-event_count p (f ∷ fs) = length (whole_events p.words f)
+pub length_events : (ds : List Deed) → length (events_then ds []) ≡ length ds
+length_events [] = refl
+length_events (d ∷ ds) = ap suc (length_events ds)
 
-pub run_lawful : (p : Source) (limit : ℕ) → rules.IsLawful p → is_built p ≡ true → event_count p p.funcs < limit
+pub whole_length : (ws : List Word) (f : Function) → length (whole_events ws f) ≡ function_events ws (f ∷ [])
+whole_length ws f =
+    let inside : List Deed = body_deeds ws (first_values ws) f.body in
+    omega (arith, length_events (whole_deeds ws f), length-append inside (deed f.line trace.end ∷ []))
+
+pub run_lawful : (p : Source) (limit : ℕ) → rules.IsLawful p → is_built p ≡ true → function_events p.words p.funcs < limit
     → IsLawful p limit never (entries_of p.words p.funcs) × IsFinished (entries_of p.words p.funcs) k.Done
 run_lawful p limit r b small =
     let b1 = both (builds_words p.words) _ b in
@@ -220,7 +224,7 @@ run_lawful p limit r b small =
     let begins = start_plain p b1.0 (nil p.mutexes b2.0) (nil p.semas b3.0) o.named in
     let traced = whole_traced p f o.is o.params b1.0 o.builds o.knows in
     let run = whole_run p f begins o.builds o.knows traced in
-    let few : length (whole_events p.words f) < limit = subst (λ (z : List Function). event_count p z < limit) o.is small in
+    let few : length (whole_events p.words f) < limit = omega (arith, whole_length p.words f, subst (λ (z : List Function). function_events p.words z < limit) o.is small) in
     let lawful = one_lawful p limit f begins o.builds run few in
     let finished : IsFinished (entries p.words f) k.Done = record { front = map entry_of (whole_events p.words f); is = entries_told p.words f } in
     let P : List Function → Type 0 = λ z. IsLawful p limit never (entries_of p.words z) × IsFinished (entries_of p.words z) k.Done in

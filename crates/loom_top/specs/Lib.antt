@@ -3,3 +3,4 @@ pub mod Plain
 pub mod Kinds
 pub mod Command
 pub mod Code
+pub mod Answers

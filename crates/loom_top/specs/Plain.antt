@@ -1,5 +1,5 @@
 -- The one run of a program, as functions of the values of its words. A form that can't be run so far does nothing.
-use Rattle.std.specs.Prelude.{Bool, false, ℕ, suc, ℤ, pos, ◌==◌, List, [], ◌∷◌, ◌++◌, map, slice_index_or, slice_set, if◌then◌else◌}
+use Rattle.std.specs.Prelude.{Bool, false, ℕ, suc, ◌+◌, length, ℤ, pos, ◌==◌, List, [], ◌∷◌, ◌++◌, map, slice_index_or, slice_set, if◌then◌else◌}
 use Rattle.std.specs.Cmp.Lexicographic.{pointwise}
 use Rattle.loom_tree.specs.declared.item.Word.{Word}
 use Rattle.loom_tree.specs.declared.expression.Op.TheVariants as o
@@ -59,6 +59,11 @@ entries ws f = e.Begin 1 f.line ∷ (map tells (body_deeds ws (first_values ws) 
 abbrev pub entries_of : List Word → List Function → List Entry
 entries_of ws [] = []
 entries_of ws (f ∷ fs) = entries ws f
+
+-- how many entries the run makes, but for its last
+abbrev pub function_events : List Word → List Function → ℕ
+function_events ws [] = 0
+function_events ws (f ∷ fs) = length (body_deeds ws (first_values ws) f.body) + 2
 
 -- No stop test is given.
 abbrev pub never : Entry → Bool

@@ -1,6 +1,7 @@
 //! The top call.
 #![tactic(auto)]
 
+mod built;
 mod code;
 mod command;
 mod run;

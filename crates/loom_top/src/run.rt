@@ -1,10 +1,13 @@
 //! Runs the one function of a program.
 ghost use Rattle.std.specs.Prelude.{◌≡◌, ◌==◌, ◌+◌, ◌<◌, ◌≤◌, ◌++◌, ◌∷◌, [], IfOk, length, map, slice_set, true};
 ghost use Rattle.std.specs.Cmp.Lexicographic.{pointwise};
-ghost use Rattle.loom_tree.specs.Tree.{expression_of, body_of, function_of};
-ghost use Rattle.loom_top.specs.Plain.{word_index, value, reads, body_deeds, first_values, entries, tells};
+ghost use Rattle.loom_tree.specs.Tree.{expression_of, body_of, function_of, functions_of};
+ghost use Rattle.loom_top.specs.Built.{is_built};
+ghost use Rattle.loom_top.specs.Answers.{IsDone};
+ghost use Rattle.loom_top.specs.Plain.{function_events, word_index, value, reads, body_deeds, first_values, entries, entries_of, tells};
 ghost use Rattle.loom_top.specs.Kinds.{set_deeds, set_values, kind_deeds, kind_values};
 
+use loom_lang::program::Program;
 use loom_trace::entry::{Ending, Entry};
 use loom_trace::journal::Journal;
 use loom_tree::expression::{Expr, Op};
@@ -190,9 +193,38 @@ fn run_function(main: &Func, words: &Words, values: &mut [i64], journal: &mut Jo
     journal.push(Entry::Finish { kind: Ending::Done });
 }
 
+/// How many thread entries a run makes at most.
+const ENTRY_LIMIT: u32 = 100_000;
+
 // The words' values before the run. An `Err` is want of memory.
 fn values_of(alloc: Global, words: &Words) -> Result<Vec<i64>, NoMemory>
     ensures { IfOk result (λ v. v.items ≡ first_values words.now) }
 {
     Ok(words.0.iter().map(|word| word.first).collect(alloc)?)
+}
+
+// The run of the first function.
+fn run_first(funcs: &[Func], words: &Words, values: &mut [i64], journal: &mut Journal)
+    requires few { length words.now ≤ 64 }
+    requires first { values.old ≡ first_values words.now }
+    requires empty { journal.old.entries ≡ [] }
+    requires room { function_events words.now (functions_of funcs.now) + 1 ≤ journal.old.room }
+    ensures { journal.new.entries ≡ entries_of words.now (functions_of funcs.now) }
+{
+    if let [main, ..] = funcs {
+        run_function(main, words, values, journal);
+    }
+}
+
+/// Runs a program whose every form can be run. An `Err` is want of memory, before the run.
+pub fn run(alloc: Global, program: &Program) -> Result<Journal, NoMemory>
+    requires built { is_built program.now ≡ true }
+    requires few { function_events program.now.words program.now.funcs ≤ 65536 }
+    ensures { IfOk result (λ j. IsDone program.now j.entries) }
+{
+    let words = program.words();
+    let mut values = values_of(alloc, words)?;
+    let mut journal = Journal::make(alloc, ENTRY_LIMIT)?;
+    run_first(program.funcs().0.as_slice(), words, &mut values, &mut journal);
+    Ok(journal)
 }

@@ -34,7 +34,7 @@ thread_at thread line = decimal thread ++ 58 ∷ decimal line
 abbrev pub thread_line : ℕ → ℕ → List ℕ → List (List ℕ) → List ℕ
 thread_line thread line word fields = thread_at thread line ++ spaced (word ∷ fields)
 
--- the line of text of what is done to all threads: a word and fields
+-- the line of text of what the controller does: a word and fields
 abbrev pub control_line : List ℕ → List (List ℕ) → List ℕ
 control_line word fields = word ++ spaced fields
 

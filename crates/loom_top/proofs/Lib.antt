@@ -5,3 +5,5 @@ pub mod Whole
 pub mod Coded
 pub mod Few
 pub mod Words
+pub mod Written
+pub mod Top

@@ -6,3 +6,4 @@ mod code;
 mod command;
 mod run;
 pub mod status;
+mod write;

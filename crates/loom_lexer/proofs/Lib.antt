@@ -1,0 +1,5 @@
+pub mod Small
+pub mod Spelled
+pub mod Unique
+pub mod Told
+pub mod Words

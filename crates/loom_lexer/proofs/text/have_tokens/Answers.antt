@@ -1,0 +1,5 @@
+use Rattle.loom_lexer.proofs.Told.{have_tokens}
+use Rattle.loom_lexer.proofs.text.have_tokens.Goals as goal
+
+pub returns : goal.returns
+returns c = have_tokens

@@ -1,0 +1,8 @@
+//! From the bytes of a text to its tokens.
+#![tactic(auto)]
+
+pub mod lexeme;
+#[cfg(test)]
+mod tests;
+pub mod text;
+mod token;

@@ -1,0 +1,12 @@
+use Rattle.std.proofs.Common.{refl}
+use Rattle.loom_io.proofs.Counted.{failed_read, untold_read}
+use Rattle.loom_io.proofs.adapters.DirShelfShelf.TheImpl.Goals as goal
+
+pub read-tells : goal.read-tells
+read-tells g c = record {
+  kept = λ _. refl;
+  later = λ _. c.ensures.later;
+  short = c.ensures.short;
+  whole = untold_read c.result c.args.limit;
+  failed = failed_read c.result c.args.self.now.faults c.new.self.now.faults c.ensures.faults;
+}

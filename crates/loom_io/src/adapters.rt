@@ -1,0 +1,118 @@
+//! The files of the system and standard output.
+ghost use Rattle.std.specs.Prelude.{◌≡◌, ◌≤◌, ◌<◌, ◌+◌, None, IfOk, length};
+ghost use Rattle.loom_io.specs.Memory.{faults_after_read, faults_after_put};
+
+use crate::shelf::{Shelf, ShelfError};
+use crate::sink::{Sink, SinkFailed};
+use loom_tree::name::Name;
+use std::alloc::Global;
+use std::io::{ErrorKind, Print, Read, Write};
+use std::rt::Files;
+use std::{fs, io};
+
+/// The files of the system, by their paths. It tells no file.
+#[derive(Drop)]
+pub struct DirShelf<'a, R> {
+    pub rt: &'a R,
+    /// The number of faults, up to 18446744073709551615. It is the count of every name.
+    pub faults: u64,
+}
+
+fn load<R: Files>(rt: &R, alloc: Global, name: &str, limit: usize) -> io::Result<Name>
+    requires { limit ≤ 67108864 }
+    ensures { IfOk result (λ bytes. length bytes ≤ limit + 1) }
+{
+    let file = fs::open(rt, name)?;
+    let mut bytes = Vec::new(alloc);
+    file.take(limit as u64 + 1).read_to_end(&mut bytes)?;
+    bytes.truncate(limit + 1);
+    Ok(Name(bytes))
+}
+
+impl<R: Files> Shelf for DirShelf<'_, R> {
+    ghost faults = { λ s _. s.faults };
+
+    ghost told = { λ _ _. None };
+
+    /// Each error of the system is a fault, but want of memory, which is `NoMemory`.
+    fn read(&mut self, alloc: Global, name: &str, limit: usize) -> Result<Name, ShelfError>
+        requires { limit ≤ 67108864 }
+        ensures short { IfOk result (λ bytes. length bytes ≤ limit + 1) }
+        ensures faults { self.new.faults ≡ faults_after_read self.old.faults result }
+        ensures later { self.old.faults ≤ self.new.faults }
+    {
+        match load(self.rt, alloc, name, limit) {
+            Ok(bytes) => Ok(bytes),
+            Err(error) => {
+                if error.kind() == ErrorKind::OutOfMemory {
+                    Err(ShelfError::NoMemory)
+                } else {
+                    self.faults = self.faults.saturating_add(1);
+                    Err(ShelfError::Failed)
+                }
+            }
+        }
+    }
+}
+
+/// Standard output. It doesn't tell what it took.
+#[derive(Drop)]
+pub struct OutSink<'a, P> {
+    pub rt: &'a P,
+    /// The number of faults, up to 18446744073709551615.
+    pub faults: u64,
+}
+
+impl<P: Print> Sink for OutSink<'_, P> {
+    ghost faults = { λ s. s.faults };
+
+    ghost taken = { λ _. None };
+
+    /// Each error of the system is a fault, and so is taking no byte.
+    fn put(&mut self, piece: &[u8]) -> Result<usize, SinkFailed>
+        requires { 0 < length piece.now }
+        ensures some { IfOk result (λ n. 0 < n) }
+        ensures within { IfOk result (λ n. n ≤ length piece.now) }
+        ensures faults { self.new.faults ≡ faults_after_put self.old.faults result }
+        ensures later { self.old.faults ≤ self.new.faults }
+    {
+        match self.rt.write_some(piece) {
+            Ok(n) if n > 0 => Ok(n),
+            _ => {
+                self.faults = self.faults.saturating_add(1);
+                Err(SinkFailed)
+            }
+        }
+    }
+}
+
+#[cfg(test)]
+mod tests {
+    use super::*;
+    use std::test::Fail;
+
+    #[test]
+    fn reads_files_of_the_system(rt: HostRuntime) -> Result<(), Fail> {
+        let name = "loom_io_test.lm";
+        fs::write(&rt, name, "fn main() {}\n")?;
+        let mut shelf = DirShelf { rt: &rt, faults: 0 };
+        let whole = shelf.read(rt.alloc(), name, 100);
+        let front = shelf.read(rt.alloc(), name, 6);
+        fs::remove_file(&rt, name)?;
+        assert_eq!(rt; whole?.bytes(), "fn main() {}\n".as_bytes());
+        assert_eq!(rt; front?.bytes(), "fn main".as_bytes());
+        assert_eq!(rt; shelf.faults, 0);
+        let missing = shelf.read(rt.alloc(), name, 100).err();
+        assert_eq!(rt; missing, Some(ShelfError::Failed));
+        assert_eq!(rt; shelf.faults, 1);
+        Ok(())
+    }
+
+    #[test]
+    fn writes_a_line(rt: HostRuntime) -> Result<(), Fail> {
+        let mut sink = OutSink { rt: &rt, faults: 0 };
+        assert_eq!(rt; sink.put(b"line\n")?, 5);
+        assert_eq!(rt; sink.faults, 0);
+        Ok(())
+    }
+}

@@ -1,0 +1,170 @@
+//! A page of text that waits to be put, so that many short pieces go to a sink in few puts.
+ghost use Rattle.std.specs.Prelude.{◌≡◌, ◌+◌, ◌-◌, ◌<◌, ◌≤◌, [], ◌∷◌, ◌++◌, length, OnOk, OnErr};
+ghost use Rattle.std.specs.Io.KnownBytes.{Appends};
+ghost use Rattle.loom_io.specs.Causes.{Rose, TookFront, Paged};
+
+use crate::sink::{Sink, SinkFailed};
+use crate::whole::put_all;
+use std::marker::Model;
+
+/// The most bytes that a page holds.
+pub const PAGE_SIZE: usize = 4096;
+
+/// The bytes of a page, 4,096 at most. It takes no memory.
+#[derive(Debug, Drop)]
+pub struct Page {
+    cells: [u8; 4096],
+    len: usize,
+}
+
+impl Model for Page {
+    ghost use Rattle.std.specs.Prelude.{◌≤◌, List, ℕ, take};
+
+    ghost Value = { List ℕ };
+
+    ghost view = { λ p. take p.len p.cells };
+
+    ghost invariant = { λ p. p.len ≤ 4096 };
+}
+
+impl Page {
+    /// An empty page.
+    pub fn new() -> Page
+        ensures { result ≡ [] }
+    {
+        Page {
+            cells: [0; 4096],
+            len: 0,
+        }
+    }
+
+    /// What the page holds.
+    pub fn bytes(&self) -> &[u8]
+        ensures bytes { result.now ≡ self.now }
+        ensures most { length result.now ≤ 4096 }
+    {
+        &self.cells[..self.len]
+    }
+
+    // How many bytes more the page can hold.
+    fn room(&self) -> usize
+        ensures { result + length self.now ≡ 4096 }
+    {
+        PAGE_SIZE - self.len
+    }
+
+    fn clear(&mut self)
+        ensures { self.new ≡ [] }
+    {
+        self.len = 0;
+    }
+
+    fn push(&mut self, byte: u8)
+        requires { length self.old < 4096 }
+        ensures { self.new ≡ self.old ++ byte ∷ [] }
+    {
+        self.cells[self.len] = byte;
+        self.len += 1;
+    }
+
+    fn add(&mut self, piece: &[u8])
+        requires { length self.old + length piece.now ≤ 4096 }
+        ensures { self.new ≡ self.old ++ piece.now }
+    {
+        for byte in piece {
+            self.push(*byte);
+        }
+    }
+}
+
+/// Puts what the page holds, and empties the page. Where the sink fails, it has taken a front of
+/// what the page holds, its count of faults rose in this call, and the page stays as it was.
+pub fn put_page<K: Sink>(sink: &mut K, page: &mut Page) -> Result<(), SinkFailed>
+    ensures later { K.faults sink.old ≤ K.faults sink.new }
+    ensures ok { OnOk result (Appends (K.taken sink.old) (K.taken sink.new) page.old) }
+    ensures emptied { OnOk result (page.new ≡ []) }
+    ensures part { OnErr result (TookFront (K.taken sink.old) (K.taken sink.new) page.old) }
+    ensures failed { OnErr result (Rose (K.faults sink.old) (K.faults sink.new)) }
+    ensures kept { OnErr result (page.new ≡ page.old) }
+{
+    put_all(sink, page.bytes())?;
+    page.clear();
+    Ok(())
+}
+
+// Puts the page where it has no room for so many bytes.
+fn make_room<K: Sink>(sink: &mut K, page: &mut Page, count: usize) -> Result<(), SinkFailed>
+    requires { count ≤ 4096 }
+    ensures later { K.faults sink.old ≤ K.faults sink.new }
+    ensures room { OnOk result (length page.new + count ≤ 4096) }
+    ensures ok { OnOk result (Paged (K.taken sink.old) (K.taken sink.new) page.old page.new []) }
+    ensures part { OnErr result (TookFront (K.taken sink.old) (K.taken sink.new) page.old) }
+    ensures failed { OnErr result (Rose (K.faults sink.old) (K.faults sink.new)) }
+    ensures kept { OnErr result (page.new ≡ page.old) }
+{
+    if page.room() < count {
+        put_page(sink, page)?;
+    }
+    Ok(())
+}
+
+/// Writes a piece of 4,096 bytes at most to the page, which is put first where it has no room for
+/// the piece. Where the sink fails, it has taken a front of what the page holds, its count of
+/// faults rose in this call, and the page stays as it was.
+pub fn put_paged<K: Sink>(sink: &mut K, page: &mut Page, piece: &[u8]) -> Result<(), SinkFailed>
+    requires { length piece.now ≤ 4096 }
+    ensures later { K.faults sink.old ≤ K.faults sink.new }
+    ensures ok { OnOk result (Paged (K.taken sink.old) (K.taken sink.new) page.old page.new piece.now) }
+    ensures part { OnErr result (TookFront (K.taken sink.old) (K.taken sink.new) (page.old ++ piece.now)) }
+    ensures failed { OnErr result (Rose (K.faults sink.old) (K.faults sink.new)) }
+    ensures kept { OnErr result (page.new ≡ page.old) }
+{
+    make_room(sink, page, piece.len())?;
+    page.add(piece);
+    Ok(())
+}
+
+#[cfg(test)]
+mod tests {
+    use super::*;
+    use crate::memory::MemSink;
+    use std::test::Fail;
+
+    // A page has room for 455 of them.
+    const PIECE: &[u8] = b"1:2 begin";
+
+    #[test]
+    fn puts_many_short_pieces(rt: HostRuntime) -> Result<(), Fail> {
+        let mut sink = MemSink::make(rt.alloc(), 9000, 7)?;
+        let mut page = Page::new();
+        let mut text = Vec::new(rt.alloc());
+        for _ in 0..1000 {
+            put_paged(&mut sink, &mut page, PIECE)?;
+            text.extend_from_slice(PIECE)?;
+        }
+        assert_eq!(rt; page.bytes().len(), 810);
+        put_page(&mut sink, &mut page)?;
+        assert_eq!(rt; sink.taken.bytes(), text.as_slice());
+        assert_eq!(rt; sink.calls, 585 + 585 + 116);
+        assert_eq!(rt; sink.faults, 0);
+        Ok(())
+    }
+
+    #[test]
+    fn fails_in_the_second_page(rt: HostRuntime) -> Result<(), Fail> {
+        let mut sink = MemSink::make(rt.alloc(), 9000, 7)?;
+        sink.failing.0.push(590)?;
+        let mut page = Page::new();
+        for i in 0..1000 {
+            if put_paged(&mut sink, &mut page, PIECE).is_err() {
+                assert_eq!(rt; i, 910);
+                break;
+            }
+        }
+        assert_eq!(rt; sink.taken.bytes().len(), 4095 + 4 * 7);
+        assert_eq!(rt; page.bytes().len(), 4095);
+        assert_eq!(rt; sink.calls, 590);
+        assert_eq!(rt; sink.faults, 1);
+        Ok(())
+    }
+}

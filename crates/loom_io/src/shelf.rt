@@ -1,0 +1,49 @@
+//! Where files come from.
+ghost use Rattle.std.specs.Prelude.{◌≡◌, ◌≤◌, ◌+◌, ℕ, List, Option, length, take, IfOk, IfErr, IfSome};
+ghost use Rattle.loom_io.specs.Causes.{Rose};
+
+use loom_tree::name::{Name, NoMemory};
+use std::alloc::Global;
+
+/// Why a read gave no bytes.
+#[derive(Clone, Copy, Debug, Drop, PartialEq, Eq)]
+pub enum ShelfError {
+    /// The shelf had a fault, as a missing file.
+    Failed,
+    /// Memory ran out.
+    NoMemory,
+}
+
+impl From<NoMemory> for ShelfError {
+    ghost use Rattle.std.specs.Prelude.{◌≡◌};
+    ghost use Rattle.loom_io.specs.declared.shelf.ShelfError.TheVariants as error;
+
+    ghost from_gives = { λ _ e. e ≡ error.NoMemory };
+
+    fn from(_error: NoMemory) -> ShelfError {
+        ShelfError::NoMemory
+    }
+}
+
+/// The largest limit of a read, in bytes.
+pub const LARGEST_LIMIT: usize = 67_108_864;
+
+/// Files by name.
+pub trait Shelf {
+    /// How many faults there were at a name, up to 18446744073709551615.
+    ghost faults: { Self → List ℕ → ℕ };
+
+    /// What the file of a name holds, where the shelf tells it.
+    ghost told: { Self → List ℕ → Option (List ℕ) };
+
+    /// The bytes of the file of that name: the whole file, or its first `limit + 1` bytes where it
+    /// has more than `limit`, which is at most 67,108,864. `Failed` comes only where the count of
+    /// the name's faults rose in this call. `NoMemory` may come at any call.
+    fn read(&mut self, alloc: Global, name: &str, limit: usize) -> Result<Name, ShelfError>
+        requires { limit ≤ 67108864 }
+        ensures kept { (n : List ℕ) → told self.new n ≡ told self.old n }
+        ensures later { (n : List ℕ) → faults self.old n ≤ faults self.new n }
+        ensures short { IfOk result (λ bytes. length bytes ≤ limit + 1) }
+        ensures whole { IfOk result (λ bytes. IfSome (told self.old name.now) (λ file. bytes ≡ take (limit + 1) file)) }
+        ensures failed { IfErr result (λ e. e ≡ ShelfError.Failed → Rose (faults self.old name.now) (faults self.new name.now)) };
+}

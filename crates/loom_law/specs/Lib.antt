@@ -1,0 +1,4 @@
+pub mod Event
+pub mod Replay
+pub mod Run
+pub mod Lawful

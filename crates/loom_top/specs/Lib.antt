@@ -1,0 +1,5 @@
+pub mod Built
+pub mod Plain
+pub mod Kinds
+pub mod Command
+pub mod Code

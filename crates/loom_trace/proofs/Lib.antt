@@ -1,0 +1,7 @@
+pub mod Cells
+pub mod Cut
+pub mod Decimal
+pub mod Fields
+pub mod Numbers
+pub mod Told
+pub mod Unique

@@ -1,0 +1,9 @@
+use Rattle.std.proofs.Common.{◌≡◌, ◌≤◌, ◌+◌, ◌*◌, ◌++◌, length, map, take}
+use Rattle.loom_trace.specs.Text.{signed_decimal, spaced}
+use Rattle.loom_trace.proofs.text.put_values.Given as goal
+
+abbrev pub invariant-loop-value : goal.invariant-loop-value
+invariant-loop-value l = record {
+  text : l.out ≡ l.fn.out ++ spaced (map signed_decimal (take l.value-index l.values));
+  short : length l.out ≤ length l.fn.out + 21 * l.value-index;
+}

@@ -1,0 +1,5 @@
+pub mod Rows
+pub mod Journal
+pub mod Text
+pub mod Parts
+pub mod Laws

@@ -1,0 +1,11 @@
+//! Journals: their entries, and the text of an entry.
+#![tactic(auto)]
+
+pub mod entry;
+pub mod journal;
+pub mod laws;
+pub mod line;
+pub mod row;
+#[cfg(test)]
+mod tests;
+pub mod text;

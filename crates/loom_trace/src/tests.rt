@@ -1,0 +1,336 @@
+//! Texts written by hand, and one journal.
+
+use crate::entry::{Ending, Entry, What};
+use crate::journal::Journal;
+use crate::line::Line;
+use crate::row::{Args, Events, PlaceRow};
+use crate::text::put_entry;
+
+fn most_args() -> Args {
+    let mut args = Args::none();
+    args.push(i64::MIN);
+    args.push(-1);
+    args.push(0);
+    args.push(i64::MAX);
+    args
+}
+
+fn three_events() -> Events {
+    let mut events = Events::none();
+    events.push(1);
+    events.push(9);
+    events.push(32);
+    events
+}
+
+fn two_places() -> PlaceRow {
+    let mut places = PlaceRow::zeros();
+    places.put(0, 8320);
+    places.put(7, 10);
+    places
+}
+
+fn shows(entry: Entry, text: &[u8]) -> bool {
+    let mut line = Line::new();
+    put_entry(&entry, &mut line);
+    line.bytes() == text
+}
+
+#[test]
+fn what_threads_do(rt: HostRuntime) {
+    let (thread, line) = (3, 65_537);
+    let args = most_args();
+    let table: [(Entry, &[u8]); 15] = [
+        (Entry::Begin { thread, line }, b"3:65537 begin"),
+        (Entry::End { thread, line }, b"3:65537 end"),
+        (
+            Entry::Trap {
+                thread,
+                line,
+                reason: 7,
+            },
+            b"3:65537 trap 7",
+        ),
+        (
+            Entry::Read {
+                thread,
+                line,
+                word: 1023,
+                value: i64::MIN,
+            },
+            b"3:65537 read 1023 -9223372036854775808",
+        ),
+        (
+            Entry::Write {
+                thread,
+                line,
+                word: 0,
+                value: -10,
+            },
+            b"3:65537 write 0 -10",
+        ),
+        (
+            Entry::Lock {
+                thread,
+                line,
+                m: 63,
+            },
+            b"3:65537 lock 63",
+        ),
+        (Entry::Unlock { thread, line, m: 0 }, b"3:65537 unlock 0"),
+        (
+            Entry::Down {
+                thread,
+                line,
+                s: 10,
+            },
+            b"3:65537 down 10",
+        ),
+        (
+            Entry::Up {
+                thread,
+                line,
+                s: 11,
+            },
+            b"3:65537 up 11",
+        ),
+        (
+            Entry::Spawn {
+                thread,
+                line,
+                child: 8,
+                func: 12,
+                args,
+            },
+            b"3:65537 spawn 8 12 -9223372036854775808 -1 0 9223372036854775807",
+        ),
+        (
+            Entry::Spawn {
+                thread,
+                line,
+                child: 2,
+                func: 0,
+                args: Args::none(),
+            },
+            b"3:65537 spawn 2 0",
+        ),
+        (
+            Entry::Join {
+                thread,
+                line,
+                child: 4,
+            },
+            b"3:65537 join 4",
+        ),
+        (
+            Entry::Print {
+                thread,
+                line,
+                value: 9223372036854775807,
+            },
+            b"3:65537 print 9223372036854775807",
+        ),
+        (
+            Entry::Tick {
+                thread,
+                line,
+                place: 8320,
+            },
+            b"3:65537 tick 8320",
+        ),
+        (Entry::Back { thread, line }, b"3:65537 back"),
+    ];
+    for (entry, text) in table {
+        assert!(rt; shows(entry, text));
+    }
+}
+
+#[test]
+fn what_filters_make_threads_do(rt: HostRuntime) {
+    let (thread, line) = (8, 0);
+    let events = three_events();
+    let table: [(Entry, &[u8]); 12] = [
+        (
+            Entry::Blocked {
+                thread,
+                line,
+                what: What::Lock(5),
+            },
+            b"8:0 blocked lock 5",
+        ),
+        (
+            Entry::Blocked {
+                thread,
+                line,
+                what: What::Down(6),
+            },
+            b"8:0 blocked down 6",
+        ),
+        (
+            Entry::Blocked {
+                thread,
+                line,
+                what: What::Join(7),
+            },
+            b"8:0 blocked join 7",
+        ),
+        (
+            Entry::Blocked {
+                thread,
+                line,
+                what: What::Enter(64, 8),
+            },
+            b"8:0 blocked enter 64 8",
+        ),
+        (
+            Entry::Blocked {
+                thread,
+                line,
+                what: What::Wait(63, 32),
+            },
+            b"8:0 blocked wait 63 32",
+        ),
+        (
+            Entry::At {
+                thread,
+                line,
+                k: 64,
+                events,
+            },
+            b"8:0 at 64 1 9 32",
+        ),
+        (
+            Entry::Past {
+                thread,
+                line,
+                k: 1,
+                events,
+            },
+            b"8:0 past 1 1 9 32",
+        ),
+        (
+            Entry::Enter {
+                thread,
+                line,
+                k: 64,
+                clause: 8,
+            },
+            b"8:0 enter 64 8",
+        ),
+        (
+            Entry::Leave {
+                thread,
+                line,
+                k: 63,
+                clause: 7,
+            },
+            b"8:0 leave 63 7",
+        ),
+        (
+            Entry::Post {
+                thread,
+                line,
+                k: 62,
+                event: 31,
+            },
+            b"8:0 post 62 31",
+        ),
+        (
+            Entry::Wait {
+                thread,
+                line,
+                k: 61,
+                event: 30,
+            },
+            b"8:0 wait 61 30",
+        ),
+        (
+            Entry::Cross {
+                thread,
+                line,
+                place: 7,
+                version: 128,
+                passed: 1000,
+            },
+            b"8:0 cross 7 128 1000",
+        ),
+    ];
+    for (entry, text) in table {
+        assert!(rt; shows(entry, text));
+    }
+}
+
+#[test]
+fn what_is_done_to_all(rt: HostRuntime) {
+    let places = two_places();
+    let table: [(Entry, &[u8]); 11] = [
+        (Entry::Asked { k: 64 }, b"asked 64"),
+        (
+            Entry::Refused {
+                k: 1,
+                number: 14,
+                clause: 0,
+            },
+            b"refused 1 14 0",
+        ),
+        (
+            Entry::Installed {
+                k: 1,
+                version: 2,
+                places,
+            },
+            b"installed 1 2 8320 0 0 0 0 0 0 10",
+        ),
+        (
+            Entry::Removed {
+                k: 2,
+                version: 128,
+                places,
+            },
+            b"removed 2 128 8320 0 0 0 0 0 0 10",
+        ),
+        (
+            Entry::Stalled {
+                k: 1,
+                thread: 2,
+                line: 4,
+            },
+            b"stalled 1 2 4",
+        ),
+        (Entry::Cut { k: 3 }, b"cut 3"),
+        (Entry::Unreached { k: 4 }, b"unreached 4"),
+        (Entry::Finish { kind: Ending::Done }, b"finish done"),
+        (
+            Entry::Finish {
+                kind: Ending::Stuck,
+            },
+            b"finish stuck",
+        ),
+        (
+            Entry::Finish {
+                kind: Ending::Limit,
+            },
+            b"finish limit",
+        ),
+        (
+            Entry::Finish {
+                kind: Ending::Stopped,
+            },
+            b"finish stopped",
+        ),
+    ];
+    for (entry, text) in table {
+        assert!(rt; shows(entry, text));
+    }
+}
+
+#[test]
+fn a_journal_keeps_its_entries(rt: HostRuntime) {
+    let mut journal = Journal::make(rt.alloc(), 1).expect(&rt, "memory");
+    let entry = Entry::Asked { k: 9 };
+    journal.push(Entry::Back { thread: 1, line: 2 });
+    journal.push(entry.copy());
+    assert_eq!(rt; journal.len(), 2);
+    assert!(rt; shows(journal.get(0).copy(), b"1:2 back"));
+    assert!(rt; shows(journal.get(1).copy(), b"asked 9"));
+}

@@ -6,3 +6,4 @@ pub mod Values
 pub mod Trace
 pub mod Gathered
 pub mod Program
+pub mod Laws

@@ -4,6 +4,7 @@
 mod copies;
 mod declarations;
 mod gather;
+pub mod laws;
 mod limits;
 mod names;
 pub mod program;

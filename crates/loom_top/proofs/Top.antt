@@ -1,0 +1,101 @@
+-- From what was owed and what was put to what the top call answers.
+use Rattle.std.proofs.Common.{ℕ, ◌+◌, ◌<◌, ◌≤◌, ◌≡◌, ◌⊎◌, inl, inr, Bool, true, false, List, [], ◌∷◌, ◌++◌, codes, Option, Some, None, IfSome, take, length, refl, sym, ap, subst, ◌∙◌, append-nil, arith}
+use Rattle.std.proofs.lemmas.List.{take_all, length-take}
+use Rattle.std.specs.Io.KnownBytes.{Appends}
+use Rattle.loom_io.specs.Causes.{Rose, TookFront, Paged}
+use Rattle.loom_io.proofs.Pages.{front_behind}
+use Rattle.loom_tree.specs.Tree.{Source}
+use Rattle.loom_lang.specs.Program.{IsProgram}
+use Rattle.loom_lang.specs.Laws.{HasOneProgram}
+use Rattle.loom_top.specs.declared.status.Status.{Status}
+use Rattle.loom_top.specs.declared.status.Status.TheVariants as status
+use Rattle.loom_top.specs.Built.{is_built}
+use Rattle.loom_top.specs.Code.{code}
+use Rattle.loom_top.specs.Command.{IsCommand}
+use Rattle.loom_top.specs.Answers.{CanRun, Seen, FileOwes, IsFileOf, Owes, Answers, IsValid, Put, FileEnds, source_limit}
+
+-- a text, and then a front of another
+pub front_after : (a b c : Option (List ℕ)) (x y : List ℕ) → Appends a b x → TookFront b c y → TookFront a c (x ++ y)
+front_after a b c x y h k = front_behind a b c [] [] x y (record { taken = x; appended = h; whole = sym (append-nil x) }) k
+
+-- what is owed and was put is what the call answers
+pub answered : (s : Seen) (words : List (List ℕ)) (text : List ℕ) (owed result : Status) → Owes s words owed text
+    → Put s.taken_before s.taken_after s.sink_before s.sink_after text owed result → Answers s words result
+answered s words text owed result o (inr h) =
+    let P : Status → Type 0 = λ z. Answers s words z in
+    subst P (sym h.0) (h.1, owed, text, o, h.2)
+answered s words text owed result o (inl h) =
+    let P : Status → Type 0 = λ z. Answers s words z in
+    subst P (sym h.0) (whole owed o)
+  where
+    whole : (x : Status) → Owes s words x text → Answers s words x
+    whole status.Done k = (text, k, h.1)
+    whole status.Usage k = (text, k, h.1)
+    whole status.Refused k = (text, k, h.1)
+    whole status.ReadFault k = (text, k, h.1)
+    whole status.WriteFault k = absurd k
+    whole status.NoMemory k = (text, k, h.1)
+    whole status.TooLong k = (text, k, h.1)
+
+pub owes_file : (s : Seen) (words : List (List ℕ)) (name file text : List ℕ) (owed : Status) → IsCommand words name → IsFileOf s name file → length file ≤ source_limit
+    → FileOwes file owed text → Owes s words owed text
+owes_file s words name file text status.Done c t l o = (name, c, file, t, l, o)
+owes_file s words name file text status.Refused c t l o = (name, c, file, t, l, o)
+owes_file s words name file text status.NoMemory c t l o = (name, c, o)
+owes_file s words name file text status.Usage c t l o = absurd o
+owes_file s words name file text status.ReadFault c t l o = absurd o
+owes_file s words name file text status.WriteFault c t l o = absurd o
+owes_file s words name file text status.TooLong c t l o = absurd o
+
+-- what a shelf answered of a file
+abbrev pub WasRead : Option (List ℕ) → List ℕ → Type 0
+WasRead told bytes = IfSome told (λ file. bytes ≡ take (65536 + 1) file)
+
+pub whole_file : (told : Option (List ℕ)) (bytes : List ℕ) → WasRead told bytes → length bytes ≤ source_limit → IfSome told (λ file. file ≡ bytes)
+whole_file None bytes h l = tt
+whole_file (Some file) bytes h l = sym (h ∙ take_all 65537 file (omega (arith, ap length h, l, length-take 65537 file)))
+
+pub long_file : (told : Option (List ℕ)) (bytes : List ℕ) → WasRead told bytes → source_limit < length bytes → IfSome told (λ file. source_limit < length file)
+long_file None bytes h l = tt
+long_file (Some file) bytes h l = omega (arith, ap length h, l, length-take 65537 file)
+
+pub file_answered : (s : Seen) (words : List (List ℕ)) (name bytes : List ℕ) (result : Status) → IsCommand words name → WasRead (s.told name) bytes → length bytes ≤ source_limit
+    → FileEnds bytes s.taken_before s.taken_after s.sink_before s.sink_after result → Answers s words result
+file_answered s words name bytes result c r l e =
+    answered s words e.1 e.0 result (owes_file s words name bytes e.1 e.0 c (whole_file (s.told name) bytes r l) l e.2) e.3
+
+-- Completeness
+
+pub one_name : (words : List (List ℕ)) (a b : List ℕ) → IsCommand words a → IsCommand words b → a ≡ b
+one_name words a b h k = let e : codes "run" ∷ a ∷ [] ≡ codes "run" ∷ b ∷ [] = sym h.is ∙ k.is in cc
+
+pub told_one : (s : Seen) (a b : List ℕ) (file : List ℕ) (P : List ℕ → Type 0) → a ≡ b → s.told b ≡ Some file → IfSome (s.told a) P → P file
+told_one s a b file P e is h =
+    let Q : Option (List ℕ) → Type 0 = λ z. IfSome z P in
+    subst Q (ap s.told e ∙ is) h
+
+pub complete : (s : Seen) (words : List (List ℕ)) (x : Status) → Answers s words x → IsValid s words → (code x ≡ 0) ⊎ (code x ≡ 6)
+complete s words status.Done h v = inl refl
+complete s words status.NoMemory h v = inr refl
+complete s words status.Usage h v = absurd (h.1.0 v.name v.command)
+complete s words status.ReadFault h v =
+    let o = h.1 in
+    let P : List ℕ → Type 0 = λ z. Rose (s.faults_before z) (s.faults_after z) in
+    absurd (v.read (subst P (one_name words o.0 v.name o.1 v.command) o.2))
+complete s words status.TooLong h v =
+    let o = h.1 in
+    let long = told_one s o.0 v.name v.file (λ z. source_limit < length z) (one_name words o.0 v.name o.1 v.command) v.told o.2 in
+    absurd (omega (arith, long, v.small))
+complete s words status.Refused h v =
+    let o = h.1 in
+    let same = told_one s o.0 v.name v.file (λ z. z ≡ o.2) (one_name words o.0 v.name o.1 v.command) v.told o.3 in
+    let P : List ℕ → Type 0 = λ z. CanRun z v.program in
+    absurd (o.5.0 v.program (subst P same v.runs))
+complete s words status.WriteFault h v = absurd (v.written h.0)
+
+-- a program that the bytes are is the only one
+pub not_built : (one : HasOneProgram) (file : List ℕ) (p q : Source) → IsProgram file p → is_built p ≡ false → CanRun file q → ⊥
+not_built one file p q h no c =
+    let same : p ≡ q = one file p q h c.program in
+    let e : is_built p ≡ true = ap is_built same ∙ c.built in
+    cc

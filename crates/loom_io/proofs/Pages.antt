@@ -68,3 +68,9 @@ front_behind a b c p q x y h k =
           subst (Appends a c) (sym (take-append-add h.taken (q ++ y) k.count))
           (appends_then a b c h.taken (take k.count (q ++ y)) h.appended k.taken);
     })
+
+-- a text that began on an empty page, and then a front of what the page holds
+pub front_put : (a b c : Option (List ℕ)) (q x : List ℕ) → Paged a b [] q x → TookFront b c q → TookFront a c x
+front_put a b c q x h k =
+    subst (TookFront a c) (append-nil x)
+    (front_behind a b c [] q x [] h (subst (TookFront b c) (sym (append-nil q)) k))

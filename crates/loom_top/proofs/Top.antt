@@ -1,5 +1,5 @@
 -- From what was owed and what was put to what the top call answers.
-use Rattle.std.proofs.Common.{ℕ, ◌+◌, ◌<◌, ◌≤◌, ◌≡◌, ◌⊎◌, inl, inr, Bool, true, false, List, [], ◌∷◌, ◌++◌, codes, Option, Some, None, IfSome, take, length, refl, sym, ap, subst, ◌∙◌, append-nil, arith}
+use Rattle.std.proofs.Common.{ℕ, ◌+◌, ◌<◌, ◌≤◌, ◌≡◌, ◌⊎◌, inl, inr, Bool, true, false, List, [], ◌∷◌, ◌++◌, codes, Option, Some, None, IfSome, Result, Ok, Err, OnErr, take, length, refl, sym, ap, subst, ◌∙◌, append-nil, arith}
 use Rattle.std.proofs.lemmas.List.{take_all, length-take}
 use Rattle.std.specs.Io.KnownBytes.{Appends}
 use Rattle.loom_io.specs.Causes.{Rose, TookFront, Paged}
@@ -95,7 +95,18 @@ complete s words status.WriteFault h v = absurd (v.written h.0)
 
 -- a program that the bytes are is the only one
 pub not_built : (one : HasOneProgram) (file : List ℕ) (p q : Source) → IsProgram file p → is_built p ≡ false → CanRun file q → ⊥
-not_built one file p q h no c =
+not_built one file p q h unbuilt c =
     let same : p ≡ q = one file p q h c.program in
     let e : is_built p ≡ true = ap is_built same ∙ c.built in
     cc
+
+pub none_runs : (file : List ℕ) → ((p : Source) → IsProgram file p → ⊥) → (p : Source) → CanRun file p → ⊥
+none_runs file h p c = h p c.program
+
+pub on_err : {A E P : Type 0} (r : Result A E) → P → OnErr r P
+on_err (Ok x) h = tt
+on_err (Err e) h = h
+
+pub on_err_then : {A E P Q : Type 0} (r : Result A E) → OnErr r P → (P → Q) → OnErr r Q
+on_err_then (Ok x) h f = tt
+on_err_then (Err e) h f = f h

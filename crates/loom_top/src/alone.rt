@@ -74,11 +74,15 @@ fn journal_of(alloc: Global, file: &[u8]) -> Result<Journal, LangError>
     ensures done { IfOk result (λ j. (p : Source) × CanRun file.now p × IsDone p j.entries) }
     ensures refused { result ≡ Err LangError.Refused → (p : Source) → CanRun file.now p → ⊥ }
 {
-    let program = parse_program(alloc, file)?;
-    if is_built(&program) {
-        Ok(run(alloc, &program)?)
-    } else {
-        Err(LangError::Refused)
+    match parse_program(alloc, file) {
+        Ok(program) => {
+            if is_built(&program) {
+                Ok(run(alloc, &program)?)
+            } else {
+                Err(LangError::Refused)
+            }
+        }
+        Err(error) => Err(error),
     }
 }
 

@@ -1,0 +1,30 @@
+use Rattle.std.proofs.Common.{◌≡◌, ◌≤◌, ◌<◌, List, ℕ, map, codes, length, refl, ap, sym, subst, arith}
+use Rattle.loom_top.specs.declared.status.Status.TheVariants as status
+use Rattle.loom_top.specs.Answers.{FileEnds, source_limit}
+use Rattle.loom_top.proofs.Top.{WasRead, answered, file_answered, long_file}
+use Rattle.loom_top.proofs.alone.answer.Goals as goal
+
+pub returns-in_default-clause-answers : goal.returns-in_default-clause-answers
+returns-in_default-clause-answers g c =
+    answered _ (map (λ w. w.now) c.args.words.now) (codes "usage\n") status.Usage c.put_text.result (c.in_default.ensures.none, refl) c.put_text.ensures.put
+
+pub returns-in-Err-NoMemory-clause-answers : goal.returns-in-Err-NoMemory-clause-answers
+returns-in-Err-NoMemory-clause-answers g c =
+    answered _ (map (λ w. w.now) c.args.words.now) (codes "no memory\n") status.NoMemory c.put_text-in-Err-NoMemory.result (c.in-Some.name.now, c.in-Some.ensures.found, refl) c.put_text-in-Err-NoMemory.ensures.put
+
+pub returns-in-Err-Failed-clause-answers : goal.returns-in-Err-Failed-clause-answers
+returns-in-Err-Failed-clause-answers g c =
+    answered _ (map (λ w. w.now) c.args.words.now) _ status.ReadFault c.put_named.result (c.in-Some.name.now, c.in-Some.ensures.found, c.in-Err-Failed.ensures.failed c.in-Err-Failed.field-0-is, refl) c.put_named.ensures.put
+
+pub returns-then-bytes-gt-SOURCE_LIMIT-clause-answers : goal.returns-then-bytes-gt-SOURCE_LIMIT-clause-answers
+returns-then-bytes-gt-SOURCE_LIMIT-clause-answers g c =
+    let long : source_limit < length c.in-Ok.file = omega (arith, ap length c.bytes.ensures, c.if-bytes-gt-SOURCE_LIMIT.true) in
+    answered _ (map (λ w. w.now) c.args.words.now) _ status.TooLong c.put_named-then-bytes-gt-SOURCE_LIMIT.result
+      (c.in-Some.name.now, c.in-Some.ensures.found, long_file (g.F.Shelf.told c.args.shelf.now c.in-Some.name.now) c.in-Ok.file c.in-Ok.ensures.whole long, refl)
+      c.put_named-then-bytes-gt-SOURCE_LIMIT.ensures.put
+
+pub returns-clause-answers : goal.returns-clause-answers
+returns-clause-answers g c =
+    let small : length c.in-Ok.file ≤ source_limit = omega (arith, ap length c.bytes.ensures, c.if-bytes-gt-SOURCE_LIMIT.false) in
+    file_answered _ (map (λ w. w.now) c.args.words.now) c.in-Some.name.now c.in-Ok.file c.run_file.result c.in-Some.ensures.found c.in-Ok.ensures.whole small
+      (rw c.bytes-else-bytes-gt-SOURCE_LIMIT.ensures at c.run_file.ensures.ends)

@@ -54,7 +54,7 @@ reads_allowed p l vs (bin o.Add a b) xs u k n h =
     let known = both (knows p [] a) (knows p [] b) k in
     let P : List Event → Type 0 = λ z. AreAllowed (running vs) z in
     subst P (sym (events_append (reads l p.words vs a) (reads l p.words vs b) xs))
-      (reads_allowed p l vs a (events_then (reads l p.words vs b) xs) built.0 known.0 n (reads_allowed p l vs b xs built.1 known.1 n h))
+    (reads_allowed p l vs a (events_then (reads l p.words vs b) xs) built.0 known.0 n (reads_allowed p l vs b xs built.1 known.1 n h))
 reads_allowed p l vs (bin q a b) xs u k n h = cc
 
 pub simple_allowed : (p : Source) (l : ℕ) (vs : List ℤ) (s : Simple Expression) (xs : List Event) → builds_simple s ≡ true → knows_simple p [] s ≡ true → length vs ≡ length p.words
@@ -91,7 +91,7 @@ body_allowed p vs (simple l s rest) xs b k n h =
     let known = both (knows_simple p [] s) (knows_body p [] rest) k in
     let P : List Event → Type 0 = λ z. AreAllowed (running vs) z in
     subst P (sym (events_append (simple_deeds l p.words vs s) (body_deeds p.words (simple_values p.words vs s) rest) xs))
-      (simple_allowed p l vs s _ built.0 known.0 n (body_allowed p (simple_values p.words vs s) rest xs built.1 known.1 (simple_length p vs s ∙ n) h))
+    (simple_allowed p l vs s _ built.0 known.0 n (body_allowed p (simple_values p.words vs s) rest xs built.1 known.1 (simple_length p vs s ∙ n) h))
 body_allowed p vs (tree.if_ l e a c rest) xs b k n h = cc
 body_allowed p vs (tree.while_ l e a rest) xs b k n h = cc
 
@@ -107,7 +107,7 @@ reads_replay p l vs (inverse a) xs b = cc
 reads_replay p l vs (bin o.Add a b) xs u =
     let built = both (builds_expression a) (builds_expression b) u in
     ap (replay (running vs)) (events_append (reads l p.words vs a) (reads l p.words vs b) xs)
-      ∙ reads_replay p l vs a (events_then (reads l p.words vs b) xs) built.0 ∙ reads_replay p l vs b xs built.1
+    ∙ reads_replay p l vs a (events_then (reads l p.words vs b) xs) built.0 ∙ reads_replay p l vs b xs built.1
 reads_replay p l vs (bin q a b) xs u = cc
 
 pub simple_replay : (p : Source) (l : ℕ) (vs : List ℤ) (s : Simple Expression) (xs : List Event) → builds_simple s ≡ true
@@ -126,7 +126,7 @@ body_replay p vs tree.end xs b = refl
 body_replay p vs (simple l s rest) xs b =
     let built = both (builds_simple s) (builds_body rest) b in
     ap (replay (running vs)) (events_append (simple_deeds l p.words vs s) (body_deeds p.words (simple_values p.words vs s) rest) xs)
-      ∙ simple_replay p l vs s _ built.0 ∙ body_replay p (simple_values p.words vs s) rest xs built.1
+    ∙ simple_replay p l vs s _ built.0 ∙ body_replay p (simple_values p.words vs s) rest xs built.1
 body_replay p vs (tree.if_ l e a c rest) xs b = cc
 body_replay p vs (tree.while_ l e a rest) xs b = cc
 
@@ -137,7 +137,7 @@ first_plain [] b = refl
 first_plain (w ∷ ws) b =
     let h = both _ (builds_words ws) b in
     ap (λ z. law.first_values z w.first ++ flat_map (λ (x : Word). law.first_values x.cells x.first) ws) (none_of w.cells h.0)
-      ∙ ap (λ z. w.first ∷ z) (first_plain ws h.1)
+    ∙ ap (λ z. w.first ∷ z) (first_plain ws h.1)
 
 abbrev pub store : List ℤ → List (Option ℕ) → List ℕ → List Spawned → Store
 store vs hs ks ts = record { words = vs; holders = hs; semas = ks; spawned = ts }
@@ -146,9 +146,9 @@ pub start_plain : (p : Source) → builds_words p.words ≡ true → p.mutexes �
 start_plain p b m s f =
     let s0 = start p in
     ap (λ z. store z s0.holders s0.semas s0.spawned) (first_plain p.words b)
-      ∙ ap (λ z. store (first_values p.words) (map nobody z) s0.semas s0.spawned) m
-      ∙ ap (λ z. store (first_values p.words) [] (map (λ (x : Sema). x.first) z) s0.spawned) s
-      ∙ ap (λ z. store (first_values p.words) [] [] (main_thread z)) f
+    ∙ ap (λ z. store (first_values p.words) (map nobody z) s0.semas s0.spawned) m
+    ∙ ap (λ z. store (first_values p.words) [] (map (λ (x : Sema). x.first) z) s0.spawned) s
+    ∙ ap (λ z. store (first_values p.words) [] [] (main_thread z)) f
 
 abbrev pub whole_events : List Word → Function → List Event
 whole_events ws f = events_then (whole_deeds ws f) []
@@ -161,8 +161,11 @@ whole_allowed p f is b k =
     let P : Store → Type 0 = λ z. AreAllowed z (whole_events p.words f) in
     let Q : List Event → Type 0 = λ z. AreAllowed (running vs) z in
     let unborn : law.IsUnborn (alone vs false false) 1 = record { state = record { func = 0; args = []; begun = false; ended = false }; is = refl; not_begun = refl } in
-    subst P (sym is) (unborn, subst Q (sym (events_append (body_deeds p.words vs f.body) last []))
-      (body_allowed p vs f.body (events_then last []) b k (length-map p.words (λ (w : Word). w.first)) ((runs (body_values p.words vs f.body), tt), tt)))
+    subst P (sym is) (
+      unborn,
+      subst Q (sym (events_append (body_deeds p.words vs f.body) last []))
+          (body_allowed p vs f.body (events_then last []) b k (length-map p.words (λ (w : Word). w.first)) ((runs (body_values p.words vs f.body), tt), tt)),
+    )
 
 pub whole_replay : (p : Source) (f : Function) → start p ≡ alone (first_values p.words) false false → builds_body f.body ≡ true
     → replay (start p) (whole_events p.words f) ≡ alone (body_values p.words (first_values p.words) f.body) true true
@@ -170,8 +173,8 @@ whole_replay p f is b =
     let vs = first_values p.words in
     let last : List Deed = deed f.line trace.end ∷ [] in
     ap (λ z. replay z (whole_events p.words f)) is
-      ∙ ap (replay (running vs)) (events_append (body_deeds p.words vs f.body) last [])
-      ∙ body_replay p vs f.body (events_then last []) b
+    ∙ ap (replay (running vs)) (events_append (body_deeds p.words vs f.body) last [])
+    ∙ body_replay p vs f.body (events_then last []) b
 
 -- the deeds of the events are those of thread 1
 pub own_deeds : (ds : List Deed) → deeds 1 (events_then ds []) ≡ ds
@@ -195,8 +198,8 @@ whole_run p f is b k traced =
     let xs = whole_events p.words f in
     record {
       traced = λ t.
-        let P : Store → Type 0 = λ z. IsThreadTraced p xs t (thread_at z t) in
-        subst P (sym (whole_replay p f is b)) (by_thread t);
+          let P : Store → Type 0 = λ z. IsThreadTraced p xs t (thread_at z t) in
+          subst P (sym (whole_replay p f is b)) (by_thread t);
       allowed = whole_allowed p f is b k;
     }
   where

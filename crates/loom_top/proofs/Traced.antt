@@ -53,7 +53,7 @@ expression_leads t l vs (bin o.Add a b) more fs r w u k h =
     let ws = t.program.words in
     let P : List Item → Type 0 = λ z. expression t l [] (bin o.Add a b) more z r in
     subst P (sym (made_append (reads l ws vs a) (reads l ws vs b) fs))
-      (expression_leads t l vs a _ (made_then (reads l ws vs b) fs) r w built.0 known.0 (expression_leads t l vs b _ fs r w built.1 known.1 h))
+    (expression_leads t l vs a _ (made_then (reads l ws vs b) fs) r w built.0 known.0 (expression_leads t l vs b _ fs r w built.1 known.1 h))
 expression_leads t l vs (bin p a b) more fs r w u k h = cc
 
 pub effect_leads : (t : Thread) (calls : Calls) (l : ℕ) (vs : List ℤ) (s : Simple Expression) (ret : ℤ → Lists) (more : Locals → Lists) (fs : List Item) (r : Outcome)
@@ -64,12 +64,12 @@ effect_leads t calls l vs (set x (Right.value e)) ret more fs r w b k h =
     let ws = t.program.words in
     let P : List Item → Type 0 = λ z. effect t calls l [] (set x (Right.value e)) ret more z r in
     subst P (sym (made_append (reads l ws vs e) (deed l (write (word_index ws x) (value ws vs e)) ∷ []) fs))
-      (expression_leads t l vs e _ _ r w b known.1 (writing_leads l (word_index ws x) (value ws vs e) (cells_named t.program x) (more []) fs r (cells_first ws x w known.0) h))
+    (expression_leads t l vs e _ _ r w b known.1 (writing_leads l (word_index ws x) (value ws vs e) (cells_named t.program x) (more []) fs r (cells_first ws x w known.0) h))
 effect_leads t calls l vs (tree.print e) ret more fs r w b k h =
     let ws = t.program.words in
     let P : List Item → Type 0 = λ z. effect t calls l [] (tree.print e) ret more z r in
     subst P (sym (made_append (reads l ws vs e) (deed l (print (value ws vs e)) ∷ []) fs))
-      (expression_leads t l vs e _ _ r w b k (inr (fs, refl, h)))
+    (expression_leads t l vs e _ _ r w b k (inr (fs, refl, h)))
 effect_leads t calls l vs (set x (Right.call f es)) ret more fs r w b k h = cc
 effect_leads t calls l vs (set x (Right.spawn f es)) ret more fs r w b k h = cc
 effect_leads t calls l vs _ ret more fs r w b k h = cc
@@ -86,8 +86,12 @@ body_leads t calls n vs tree.end ret more fs r w b k h = h
 body_leads t calls n vs (simple l s rest) ret more fs r w b k h =
     let built = both (builds_simple s) (builds_body rest) b in
     let known = both (knows_simple t.program [] s) (knows_body t.program [] rest) k in
-    inr (_, refl, effect_leads t calls l vs s ret _ _ r w built.0 known.0
-      (inr (_, refl, body_leads t calls n (simple_values t.program.words vs s) rest ret more fs r w built.1 known.1 h)))
+    inr (
+      _,
+      refl,
+      effect_leads t calls l vs s ret _ _ r w built.0 known.0
+          (inr (_, refl, body_leads t calls n (simple_values t.program.words vs s) rest ret more fs r w built.1 known.1 h)),
+    )
 body_leads t calls n vs (tree.if_ l e a c rest) ret more fs r w b k h = cc
 body_leads t calls n vs (tree.while_ l e a rest) ret more fs r w b k h = cc
 
@@ -100,8 +104,8 @@ acts_body ws vs tree.end fs b = refl
 acts_body ws vs (simple l s rest) fs b =
     let built = both (builds_simple s) (builds_body rest) b in
     acts_then (simple_deeds l ws vs s) (done l ∷ body_items ws (simple_values ws vs s) rest fs)
-      ∙ ap (λ z. simple_deeds l ws vs s ++ z) (acts_body ws (simple_values ws vs s) rest fs built.1)
-      ∙ sym (append_assoc (simple_deeds l ws vs s) (body_deeds ws (simple_values ws vs s) rest) (acts fs))
+    ∙ ap (λ z. simple_deeds l ws vs s ++ z) (acts_body ws (simple_values ws vs s) rest fs built.1)
+    ∙ sym (append_assoc (simple_deeds l ws vs s) (body_deeds ws (simple_values ws vs s) rest) (acts fs))
 acts_body ws vs (tree.if_ l e a c rest) fs b = cc
 acts_body ws vs (tree.while_ l e a rest) fs b = cc
 
@@ -129,7 +133,7 @@ whole_traced p f is none w b k =
     let inside : List Item = body_items p.words (first_values p.words) f.body last in
     let P : Locals → Type 0 = λ z. body t deeper 0 z f.body (λ v. emit (out 0) (more v)) (λ env. emit (out 0) (more (pos 0))) inside Finished in
     let inner : P [] = body_leads t deeper 0 (first_values p.words) f.body (λ v. emit (out 0) (more v)) (λ env. emit (out 0) (more (pos 0))) last Finished w b k
-      (inr (_, refl, inr (_, refl, (refl, inl refl)))) in
+    (inr (_, refl, inr (_, refl, (refl, inl refl)))) in
     let here : slice_get p.funcs 0 ≡ Some f = ap (λ z. slice_get z 0) is in
     let F : Option Function → Type 0 = λ z. framed t deeper 0 0 [] more z (enter 0 ∷ inside) Finished in
     let frame : F (slice_get p.funcs 0) = subst F (sym here) (inr (_, refl, subst P (sym locals) inner)) in

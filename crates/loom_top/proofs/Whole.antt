@@ -144,8 +144,8 @@ entries_told ws f =
     let inside : List Deed = body_deeds ws (first_values ws) f.body in
     let last : List Deed = deed f.line trace.end ∷ [] in
     sym (ap (λ z. z ++ e.Finish k.Done ∷ []) (told_deeds (whole_deeds ws f))
-      ∙ ap (λ z. e.Begin 1 f.line ∷ (z ++ e.Finish k.Done ∷ [])) (map-append tells inside last)
-      ∙ ap (λ z. e.Begin 1 f.line ∷ z) (append_assoc (map tells inside) (map tells last) (e.Finish k.Done ∷ [])))
+    ∙ ap (λ z. e.Begin 1 f.line ∷ (z ++ e.Finish k.Done ∷ [])) (map-append tells inside last)
+    ∙ ap (λ z. e.Begin 1 f.line ∷ z) (append_assoc (map tells inside) (map tells last) (e.Finish k.Done ∷ [])))
 
 pub one_lawful : (p : Source) (limit : ℕ) (f : Function) → start p ≡ alone (first_values p.words) false false → builds_body f.body ≡ true
     → AreRun p (whole_events p.words f) → length (whole_events p.words f) < limit → IsLawful p limit never (entries p.words f)

@@ -103,6 +103,5 @@ pub fn is_built(program: &Program) -> bool
 {
     builds_words(program.words().0.as_slice())
         && (program.mutexes().0.is_empty()
-            && (program.semas().0.is_empty()
-                && builds_functions(program.funcs().0.as_slice())))
+            && (program.semas().0.is_empty() && builds_functions(program.funcs().0.as_slice())))
 }

@@ -6,6 +6,6 @@ mod built;
 mod code;
 mod command;
 mod run;
-pub mod stub;
 pub mod status;
+pub mod stub;
 mod write;

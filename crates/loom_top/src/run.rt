@@ -225,6 +225,11 @@ pub fn run(alloc: Global, program: &Program) -> Result<Journal, NoMemory>
     let words = program.words();
     let mut values = values_of(alloc, words)?;
     let mut journal = Journal::make(alloc, ENTRY_LIMIT)?;
-    run_first(program.funcs().0.as_slice(), words, &mut values, &mut journal);
+    run_first(
+        program.funcs().0.as_slice(),
+        words,
+        &mut values,
+        &mut journal,
+    );
     Ok(journal)
 }

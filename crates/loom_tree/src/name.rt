@@ -1,6 +1,5 @@
 //! Names, and want of memory.
 ghost use Rattle.std.specs.Prelude.{◌≡◌, IfOk, IsTrue, ◌↔◌};
-ghost use Rattle.std.specs.Cmp.Lexicographic.{pointwise};
 
 use std::alloc::{AllocError, AllocFailed, Global};
 use std::marker::Model;
@@ -52,6 +51,21 @@ impl Name {
     pub fn is(&self, other: &Name) -> bool
         ensures { IsTrue result ↔ (self.now ≡ other.now) }
     {
-        self.0.as_slice() == other.0.as_slice()
+        self.bytes() == other.bytes()
+    }
+}
+
+#[cfg(test)]
+mod tests {
+    use super::*;
+    use std::test::Fail;
+
+    #[test]
+    fn copies_and_compares(rt: HostRuntime) -> Result<(), Fail> {
+        let name = Name::copied(rt.alloc(), b"total")?;
+        assert_eq!(rt; name.bytes(), "total".as_bytes());
+        assert!(rt; name.is(&Name::copied(rt.alloc(), b"total")?));
+        assert!(rt; !name.is(&Name::copied(rt.alloc(), b"fee")?));
+        Ok(())
     }
 }

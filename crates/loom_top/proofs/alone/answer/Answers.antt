@@ -20,11 +20,11 @@ pub returns-then-bytes-gt-SOURCE_LIMIT-clause-answers : goal.returns-then-bytes-
 returns-then-bytes-gt-SOURCE_LIMIT-clause-answers g c =
     let long : source_limit < length c.in-Ok.file = omega (arith, ap length c.bytes.ensures, c.if-bytes-gt-SOURCE_LIMIT.true) in
     answered _ (map (λ w. w.now) c.args.words.now) _ status.TooLong c.put_named-then-bytes-gt-SOURCE_LIMIT.result
-      (c.in-Some.name.now, c.in-Some.ensures.found, long_file (g.F.Shelf.told c.args.shelf.now c.in-Some.name.now) c.in-Ok.file c.in-Ok.ensures.whole long, refl)
-      c.put_named-then-bytes-gt-SOURCE_LIMIT.ensures.put
+    (c.in-Some.name.now, c.in-Some.ensures.found, long_file (g.F.Shelf.told c.args.shelf.now c.in-Some.name.now) c.in-Ok.file c.in-Ok.ensures.whole long, refl)
+    c.put_named-then-bytes-gt-SOURCE_LIMIT.ensures.put
 
 pub returns-clause-answers : goal.returns-clause-answers
 returns-clause-answers g c =
     let small : length c.in-Ok.file ≤ source_limit = omega (arith, ap length c.bytes.ensures, c.if-bytes-gt-SOURCE_LIMIT.false) in
     file_answered _ (map (λ w. w.now) c.args.words.now) c.in-Some.name.now c.in-Ok.file c.run_file.result c.in-Some.ensures.found c.in-Ok.ensures.whole small
-      (rw c.bytes-else-bytes-gt-SOURCE_LIMIT.ensures at c.run_file.ensures.ends)
+    (rw c.bytes-else-bytes-gt-SOURCE_LIMIT.ensures at c.run_file.ensures.ends)

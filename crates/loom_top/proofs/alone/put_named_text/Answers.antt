@@ -13,7 +13,7 @@ returns-in_err-put_all-2-clause-part g c =
     let P : List ℕ → Type 0 = λ z. TookFront t1 t2 z in
     let part : TookFront t1 t2 c.args.name.now = subst P c.as_bytes.ensures.value c.in_err-put_all-2.ensures.part in
     on_err c.from_residual-in_err-put_all-2.result
-      (front_after t0 t1 t2 c.args.before.now (c.args.name.now ++ codes "\n") c.in_ok-put_all.ensures.ok (front_longer t1 t2 c.args.name.now (codes "\n") part))
+    (front_after t0 t1 t2 c.args.before.now (c.args.name.now ++ codes "\n") c.in_ok-put_all.ensures.ok (front_longer t1 t2 c.args.name.now (codes "\n") part))
 
 pub returns-clause-part : goal.returns-clause-part
 returns-clause-part g c =
@@ -24,4 +24,4 @@ returns-clause-part g c =
     let P : List ℕ → Type 0 = λ z. Appends t1 t2 z in
     let name : Appends t1 t2 c.args.name.now = subst P c.as_bytes.ensures.value c.in_ok-put_all-2.ensures.ok in
     on_err_then c.put_all-3.result c.put_all-3.ensures.part
-      (λ (h : TookFront t2 t3 (codes "\n")). front_after t0 t1 t3 c.args.before.now (c.args.name.now ++ codes "\n") c.in_ok-put_all.ensures.ok (front_after t1 t2 t3 c.args.name.now (codes "\n") name h))
+    (λ (h : TookFront t2 t3 (codes "\n")). front_after t0 t1 t3 c.args.before.now (c.args.name.now ++ codes "\n") c.in_ok-put_all.ensures.ok (front_after t1 t2 t3 c.args.name.now (codes "\n") name h))

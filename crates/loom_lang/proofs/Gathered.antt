@@ -10,10 +10,10 @@ use Rattle.loom_lang.specs.Gathered.{words_in, mutexes_in, semas_in, funcs_in, s
 -- the items of one behind those of the other
 abbrev pub joined : Source → Source → Source
 joined p q = record {
-    words = p.words ++ q.words;
-    mutexes = p.mutexes ++ q.mutexes;
-    semas = p.semas ++ q.semas;
-    funcs = p.funcs ++ q.funcs;
+  words = p.words ++ q.words;
+  mutexes = p.mutexes ++ q.mutexes;
+  semas = p.semas ++ q.semas;
+  funcs = p.funcs ++ q.funcs;
 }
 
 joined-item : (p : Source) (i : Item) (is : List Item) → joined (with_item p i) (source_of_items is) ≡ joined p (source_of_items (i ∷ is))

@@ -55,14 +55,14 @@ rules_kept p h =
     let l2 : (not (nat_lt 64 (length (shared_names p))) ≡ true) × ((not (nat_lt 1024 (cell_count p.words)) && not (nat_lt 4096 (length (lines_of p)))) ≡ true) = both _ _ l1.1 in
     let l3 : (not (nat_lt 1024 (cell_count p.words)) ≡ true) × (not (nat_lt 4096 (length (lines_of p))) ≡ true) = both _ _ l2.1 in
     record {
-        once = h3.0;
-        functions = functions_kept p p.funcs h4.1;
-        main = h4.0;
-        lines = sym (climb_tells 0 (lines_of p)) ∙ h2.0;
-        function_count = under 64 _ l1.0;
-        name_count = under 64 _ l2.0;
-        cells = under 1024 _ l3.0;
-        statements = under 4096 _ l3.1;
+      once = h3.0;
+      functions = functions_kept p p.funcs h4.1;
+      main = h4.0;
+      lines = sym (climb_tells 0 (lines_of p)) ∙ h2.0;
+      function_count = under 64 _ l1.0;
+      name_count = under 64 _ l2.0;
+      cells = under 1024 _ l3.0;
+      statements = under 4096 _ l3.1;
     }
 
 -- and they accept all that keeps them

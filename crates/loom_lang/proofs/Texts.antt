@@ -1,10 +1,10 @@
 -- Bytes are a text of at most one list of items.
-use Rattle.std.proofs.Common.{ℕ, ◌≡◌, List, ap, sym, ◌∙◌, subst}
+use Rattle.std.proofs.Common.{ℕ, ◌+◌, ◌<◌, ◌≤◌, ◌≡◌, ◌⊎◌, inl, inr, List, length, take, drop, take-append-drop, ap, sym, ◌∙◌, subst, arith}
 use Rattle.loom_tree.specs.Token.{Placed}
 use Rattle.loom_tree.specs.Tree.{Item, Source}
 use Rattle.loom_lexer.specs.Tokens.{AreTokens}
 use Rattle.loom_lexer.proofs.Told.{one_list_of_tokens}
-use Rattle.loom_syntax.specs.Written.{IsFile}
+use Rattle.loom_syntax.specs.Written.{IsFile, IsViable, IsRefusedAt}
 use Rattle.loom_syntax.proofs.Viable.{one_file}
 use Rattle.loom_lang.specs.Gathered.{source_of_items}
 use Rattle.loom_lang.specs.Rules.{IsLawful}
@@ -23,3 +23,21 @@ program_of_text bytes items q t h = ap source_of_items (one_text bytes items h.i
 
 pub one_program : HasOneProgram
 one_program bytes p q h g = sym (program_of_text bytes g.items p g.text h) ∙ program_of_text bytes g.items q g.text g
+
+-- bytes whose tokens are a file are no program where its items don't keep the rules
+pub no_program_of_items : (bytes : List ℕ) (ps : List Placed) (items : List Item) → AreTokens bytes ps → IsFile ps items → (IsLawful (source_of_items items) → ⊥) → (q : Source) → IsProgram bytes q → ⊥
+no_program_of_items bytes ps items l f not q h =
+    let t : IsText bytes items = record { tokens = ps; lexed = l; file = f } in
+    not (subst IsLawful (sym (program_of_text bytes items q t h)) h.lawful)
+
+no_file : (ps : List Placed) (n : ℕ) (items : List Item) → IsRefusedAt ps n → IsFile ps items → ⊥
+no_file ps n items r f =
+    let P : List Placed → Type 0 = λ z. IsFile z items in
+    let not_before : n < length ps → ⊥ = λ h. r.beyond h (record { more = drop (n + 1) ps; items = items; whole = subst P (sym (take-append-drop (n + 1) ps)) f }) in
+    let within : n ≤ length ps = r.within in
+    let last : n ≡ length ps = omega arith in
+    r.at_end last items f
+
+-- nor where reading their tokens is refused
+pub no_program_of_tokens : (bytes : List ℕ) (ps : List Placed) (n : ℕ) → AreTokens bytes ps → IsRefusedAt ps n → (q : Source) → IsProgram bytes q → ⊥
+no_program_of_tokens bytes ps n l r q h = no_file ps n h.items r (text_tokens bytes ps h.items l h.text)

@@ -23,10 +23,10 @@ funcs_in _ = []
 -- the program of these items: those of each kind in the order of the text
 abbrev pub source_of_items : List Item → Source
 source_of_items items = record {
-    words = flat_map words_in items;
-    mutexes = flat_map mutexes_in items;
-    semas = flat_map semas_in items;
-    funcs = flat_map funcs_in items;
+  words = flat_map words_in items;
+  mutexes = flat_map mutexes_in items;
+  semas = flat_map semas_in items;
+  funcs = flat_map funcs_in items;
 }
 
 -- one item after another

@@ -7,6 +7,7 @@ mod gather;
 pub mod laws;
 mod limits;
 mod names;
+mod parse;
 pub mod program;
 mod rules;
 mod walk;

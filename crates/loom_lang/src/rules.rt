@@ -4,8 +4,8 @@ ghost use Rattle.loom_tree.specs.Tree.{function_of, expression_of, expressions_o
 ghost use Rattle.loom_lang.specs.Decided.{keeps_function, keeps_functions, keeps_rules};
 ghost use Rattle.loom_lang.specs.Rules.{IsLawful, file_names, locals_of, knows, knows_all, knows_call, knows_right, knows_returned, knows_body};
 
-use crate::declarations::Declarations;
 use crate::copies::file_names;
+use crate::declarations::Declarations;
 use crate::limits::is_within_limits;
 use crate::names;
 use crate::walk::{count_lets, is_ascending, locals};
@@ -114,7 +114,12 @@ fn has_few_locals(f: &Func) -> bool
 }
 
 /// Whether a function keeps the rules, `names` being those of the file.
-fn keeps_function(alloc: Global, p: &Declarations, names: &Names, f: &Func) -> Result<bool, NoMemory>
+fn keeps_function(
+    alloc: Global,
+    p: &Declarations,
+    names: &Names,
+    f: &Func,
+) -> Result<bool, NoMemory>
     requires { names.now ≡ file_names p.now }
     ensures { IfOk result (λ b. b ≡ keeps_function p.now (function_of f.now)) }
 {
@@ -122,9 +127,11 @@ fn keeps_function(alloc: Global, p: &Declarations, names: &Names, f: &Func) -> R
         return Ok(false);
     }
     let locals = locals(alloc, f)?;
-    Ok(names::is_distinct(&locals.0)
-        && names::is_apart(&locals.0, &names.0)
-        && knows_body(p, &locals, &f.body))
+    Ok(
+        names::is_distinct(&locals.0)
+            && names::is_apart(&locals.0, &names.0)
+            && knows_body(p, &locals, &f.body),
+    )
 }
 
 fn keeps_functions(alloc: Global, p: &Declarations, names: &Names) -> Result<bool, NoMemory>

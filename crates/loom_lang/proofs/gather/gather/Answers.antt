@@ -11,9 +11,9 @@ pub items-preserved : goal.items-preserved
 items-preserved c =
     let e : c.put.new.p ≡ with_item c.items.p (item_of c.in-Some.item) = when_true _ (1024 < cell_count (words_in (item_of c.in-Some.item))) c.if-not-branch.false c.in_ok-put.ensures in
     record {
-        next = tt;
-        finite = tt;
-        all = ap (λ z. gathered z (items_of c.next.new.self.rest.items)) e ∙ ap (λ z. gathered c.items.p (items_of z)) (sym c.in-Some.ensures.steps.0) ∙ c.items.invariant.all;
+      next = tt;
+      finite = tt;
+      all = ap (λ z. gathered z (items_of c.next.new.self.rest.items)) e ∙ ap (λ z. gathered c.items.p (items_of z)) (sym c.in-Some.ensures.steps.0) ∙ c.items.invariant.all;
     }
 
 pub returns-then-not-branch : goal.returns-then-not-branch

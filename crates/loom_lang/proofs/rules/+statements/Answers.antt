@@ -8,6 +8,6 @@ pub knows_body-walk-preserved : goal.knows_body-walk-preserved
 knows_body-walk-preserved t c =
     let is : body_of c.walk.at.now ≡ behind c.deref.result.now.line c.deref.result.now.kind (body_of c.deref-at.result.now) = rw (c.deref.ensures, c.deref-at.ensures) (ap body_of c.in-More.is) in
     record {
-        within = search (rules, the_lemmas);
-        known = knows_step c.args.p.now c.args.locals.now c.deref.result.now.line c.deref.result.now.kind _ _ is (sym c.knows_statement.ensures ∙ c.if-not-knows_statement.false) ∙ c.walk.invariant.known;
+      within = search (rules, the_lemmas);
+      known = knows_step c.args.p.now c.args.locals.now c.deref.result.now.line c.deref.result.now.kind _ _ is (sym c.knows_statement.ensures ∙ c.if-not-knows_statement.false) ∙ c.walk.invariant.known;
     }

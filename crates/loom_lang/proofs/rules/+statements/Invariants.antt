@@ -6,6 +6,6 @@ use Rattle.loom_lang.proofs.rules.+statements.Given as goal
 
 abbrev pub invariant-knows_body-walk : goal.invariant-knows_body-walk
 invariant-knows_body-walk l = record {
-    within : size-Stmts l.at ≤ size-Stmts l.body;
-    known : knows_body l.p l.locals (body_of l.at) ≡ knows_body l.p l.locals (body_of l.body);
+  within : size-Stmts l.at ≤ size-Stmts l.body;
+  known : knows_body l.p l.locals (body_of l.at) ≡ knows_body l.p l.locals (body_of l.body);
 }

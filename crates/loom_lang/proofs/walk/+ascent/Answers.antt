@@ -11,8 +11,8 @@ climb-walk-preserved t c =
     let is : body_of c.walk.at.now ≡ behind c.deref.result.now.line c.deref-in-More.result.now.kind (body_of c.deref-at.result.now) = rw (c.deref.ensures, c.deref-in-More.ensures, c.deref-at.ensures) (ap body_of c.in-More.is) in
     let last : Some c.in_ok-last.last ≡ climb c.walk.last (lines (behind c.deref.result.now.line c.deref-in-More.result.now.kind end)) = c.in_ok-last.ensures in
     record {
-        within = search (rules, the_lemmas);
-        last = climb_step _ c.deref.result.now.line _ c.deref-in-More.result.now.kind _ _ is last ∙ c.walk.invariant.last;
+      within = search (rules, the_lemmas);
+      last = climb_step _ c.deref.result.now.line _ c.deref-in-More.result.now.kind _ _ is last ∙ c.walk.invariant.last;
     }
 
 pub climb_statement-returns-then-line-before : goal.climb_statement-returns-then-line-before

@@ -7,6 +7,6 @@ use Rattle.loom_lang.proofs.walk.+ascent.Given as goal
 
 abbrev pub invariant-climb-walk : goal.invariant-climb-walk
 invariant-climb-walk l = record {
-    within : size-Stmts l.at ≤ size-Stmts l.body;
-    last : climb l.last (lines (body_of l.at)) ≡ climb l.before (lines (body_of l.body));
+  within : size-Stmts l.at ≤ size-Stmts l.body;
+  last : climb l.last (lines (body_of l.at)) ≡ climb l.before (lines (body_of l.body));
 }

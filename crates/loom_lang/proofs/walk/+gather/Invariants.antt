@@ -6,6 +6,6 @@ use Rattle.loom_lang.proofs.walk.+gather.Given as goal
 
 abbrev pub invariant-put_lets-walk : goal.invariant-put_lets-walk
 invariant-put_lets-walk l = record {
-    within : size-Stmts l.at ≤ size-Stmts l.body;
-    names : l.names ++ lets (body_of l.at) ≡ l.fn.names ++ lets (body_of l.body);
+  within : size-Stmts l.at ≤ size-Stmts l.body;
+  names : l.names ++ lets (body_of l.at) ≡ l.fn.names ++ lets (body_of l.body);
 }

@@ -8,7 +8,7 @@ pub count_lets-walk-preserved : goal.count_lets-walk-preserved
 count_lets-walk-preserved t c =
     let is : body_of c.walk.at.now ≡ behind c.deref.result.now.line c.deref.result.now.kind (body_of c.deref-at.result.now) = rw (c.deref.ensures, c.deref-at.ensures) (ap body_of c.in-More.is) in
     record {
-        within = search (rules, the_lemmas);
-        fits = search rules;
-        total = let_count_step c.deref.result.now.line _ _ _ c.deref.result.now.kind _ _ is c.count_lets_in.ensures c.saturating_add-total.ensures ∙ c.walk.invariant.total;
+      within = search (rules, the_lemmas);
+      fits = search rules;
+      total = let_count_step c.deref.result.now.line _ _ _ c.deref.result.now.kind _ _ is c.count_lets_in.ensures c.saturating_add-total.ensures ∙ c.walk.invariant.total;
     }

@@ -7,7 +7,7 @@ use Rattle.loom_lang.proofs.walk.+let_statements.Given as goal
 
 abbrev pub invariant-count_lets-walk : goal.invariant-count_lets-walk
 invariant-count_lets-walk l = record {
-    within : size-Stmts l.at ≤ size-Stmts l.body;
-    fits : l.total < 2 ^ 64;
-    total : capped (l.total + length (lets (body_of l.at))) ≡ capped (length (lets (body_of l.body)));
+  within : size-Stmts l.at ≤ size-Stmts l.body;
+  fits : l.total < 2 ^ 64;
+  total : capped (l.total + length (lets (body_of l.at))) ≡ capped (length (lets (body_of l.body)));
 }

@@ -164,7 +164,7 @@ right t calls line env (Right.value e) more = expression t line env e more
 right t calls line env (Right.call f es) more = arguments t line env es (λ vs. numbered (function_number t.program f) (λ n. calls line n vs more))
 right t calls line env (Right.spawn f es) more =
     arguments t line env es (λ vs. numbered (function_number t.program f) (λ n.
-      either (trapped t line threads) (any (λ c. emit (made line (spawn c n vs)) (more (pos c))))))
+    either (trapped t line threads) (any (λ c. emit (made line (spawn c n vs)) (more (pos c))))))
 
 abbrev pub updated : Locals → List ℕ → ℤ → Locals
 updated [] x v = []
@@ -217,14 +217,14 @@ body t calls n env (simple l s rest) ret more =
     emit (begins l env) (effect t calls l env s ret (λ env'. emit (done l) (body t calls n env' rest ret more)))
 body t calls n env (if_ l e a b rest) ret more =
     emit (begins l env) (expression t l env e (λ v.
-      chosen v
-        (body t calls n env a ret (λ env'. emit (done l) (body t calls n env' rest ret more)))
-        (body t calls n env b ret (λ env'. emit (done l) (body t calls n env' rest ret more)))))
+    chosen v
+    (body t calls n env a ret (λ env'. emit (done l) (body t calls n env' rest ret more)))
+    (body t calls n env b ret (λ env'. emit (done l) (body t calls n env' rest ret more)))))
 body t calls n env (while_ l e a rest) ret more =
     emit (begins l env) (turns n
-      (λ env' again leave. expression t l env' e (λ v. chosen v (body t calls n env' a ret (λ env''. emit (edge l) (again env''))) (leave env')))
-      (λ env'. emit (done l) (body t calls n env' rest ret more))
-      env)
+    (λ env' again leave. expression t l env' e (λ v. chosen v (body t calls n env' a ret (λ env''. emit (edge l) (again env''))) (leave env')))
+    (λ env'. emit (done l) (body t calls n env' rest ret more))
+    env)
 
 -- Frames and threads
 

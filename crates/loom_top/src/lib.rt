@@ -8,4 +8,6 @@ mod command;
 mod run;
 pub mod status;
 pub mod stub;
+#[cfg(test)]
+mod tests;
 mod write;

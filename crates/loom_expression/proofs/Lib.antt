@@ -2,3 +2,5 @@ pub mod Sound
 pub mod Whole
 pub mod Viable
 pub mod Natural
+pub mod Stacks
+pub mod Read

@@ -1,5 +1,5 @@
 -- The reader over trees does what the reader over written expressions does.
-use Rattle.std.proofs.Common.{ℕ, zero, suc, ◌+◌, ◌-◌, ◌≤◌, ◌<◌, ◌≡◌, List, [], ◌∷◌, ◌++◌, Option, Some, None, Bool, true, false, nat_le, if◌then◌else◌, refl, sym, ap, ◌∙◌}
+use Rattle.std.proofs.Common.{ℕ, ◌≡◌, List, [], ◌∷◌, Option, Some, None, Bool, true, false, nat_le, if◌then◌else◌, refl, ap, ◌∙◌}
 use Rattle.loom_tree.specs.declared.expression.Op.{Op}
 use Rattle.loom_tree.specs.declared.expression.Op.TheVariants as op
 use Rattle.loom_tree.specs.declared.token.Sign.{Sign}
@@ -7,7 +7,7 @@ use Rattle.loom_tree.specs.declared.token.Sign.TheVariants as sign
 use Rattle.loom_tree.specs.Tree.{Expression}
 use Rattle.loom_tree.specs.Token.{Token}
 use Rattle.loom_expression.specs.Written.{Text, tree, prec}
-use Rattle.loom_expression.specs.Machine.{Frame, Left, Minus, Bang, Open, Index, Size, Operand, Over, State, Want, Named, Have, start, signed, unsigned, opened, indexed, closed, joined, has_room, may_nest, may_sign, have, reduce, behind, close_paren, close_bracket, begin_unary, begin_paren, begin_index, want_op, want_sign, have_op, have_sign, have_token, named_sign, step, after, run, alone, finish_operand, finish, is_whole, written, plain}
+use Rattle.loom_expression.specs.Machine.{Frame, Left, Minus, Bang, Open, Index, Size, Operand, Over, State, Want, Named, Have, start, signed, unsigned, opened, indexed, closed, has_room, may_nest, may_sign, have, reduce, behind, close_paren, close_bracket, want_op, want_sign, have_op, have_sign, have_token, named_sign, step, after, run, alone, finish_operand, finish, is_whole, written, plain}
 
 abbrev pub frame_map : Frame Text → Frame Expression
 frame_map (Left o a) = Left o (tree a)

@@ -1,5 +1,5 @@
 -- What the reader over written expressions keeps: it has read just the tokens that it was given.
-use Rattle.std.proofs.Common.{ℕ, zero, suc, ◌+◌, ◌-◌, ◌≤◌, ◌<◌, ◌≡◌, max, List, [], ◌∷◌, ◌++◌, Option, Some, None, Bool, true, false, nat_le, nat_lt, if◌then◌else◌, refl, sym, ap, subst, ◌∙◌, append_assoc, append-nil, arith, IfSome}
+use Rattle.std.proofs.Common.{ℕ, suc, ◌+◌, ◌-◌, ◌≤◌, ◌<◌, ◌≡◌, List, [], ◌∷◌, ◌++◌, Option, Some, None, Bool, true, false, nat_le, if◌then◌else◌, refl, sym, ap, subst, ◌∙◌, append_assoc, append-nil, arith, IfSome}
 use Rattle.std.proofs.lemmas.Bool.{leb-true, leb-false, ltb-true}
 use Rattle.loom_tree.specs.declared.expression.Op.{Op}
 use Rattle.loom_tree.specs.declared.expression.Op.TheVariants as op
@@ -7,7 +7,7 @@ use Rattle.loom_tree.specs.declared.token.Sign.{Sign}
 use Rattle.loom_tree.specs.declared.token.Sign.TheVariants as sign
 use Rattle.loom_tree.specs.Token.{Token}
 use Rattle.loom_expression.specs.Written.{Text, tokens, prec, IsAt, depth, nodes, most, deepest, IsWritten}
-use Rattle.loom_expression.specs.Machine.{Frame, Left, Minus, Bang, Open, Index, Size, Operand, Over, State, Want, Named, Have, start, signed, unsigned, opened, indexed, closed, joined, has_room, may_nest, may_sign, have, reduce, behind, close_paren, close_bracket, begin_unary, begin_paren, begin_index, want_op, want_sign, have_op, have_sign, have_token, named_sign, step, after, run, alone, finish_operand, finish, written}
+use Rattle.loom_expression.specs.Machine.{Frame, Left, Minus, Bang, Open, Index, Size, Operand, Over, State, Want, Named, Have, start, signed, unsigned, opened, indexed, closed, has_room, may_nest, may_sign, have, reduce, behind, close_paren, close_bracket, begin_unary, begin_paren, begin_index, want_op, want_sign, have_op, have_sign, have_token, named_sign, step, after, run, alone, finish_operand, finish, written}
 
 -- the tokens that were read
 
@@ -212,10 +212,10 @@ have_good e z [] p g h = record { level = p; calm = tt; stack = g; sized = h }
 have_good e z (Left o a ∷ k) p g h = record { level = p; calm = tt; stack = g; sized = h }
 have_good e z (Minus ∷ k) p g h =
     have_good (Text.neg e) (unsigned z) k p g
-      (record { nodes = omega (arith, h.nodes); unary = omega (arith, h.unary); brackets = h.brackets; small = h.small; nests = omega (arith, h.nests) })
+    (record { nodes = omega (arith, h.nodes); unary = omega (arith, h.unary); brackets = h.brackets; small = h.small; nests = omega (arith, h.nests) })
 have_good e z (Bang ∷ k) p g h =
     have_good (Text.inverse e) (unsigned z) k p g
-      (record { nodes = omega (arith, h.nodes); unary = omega (arith, h.unary); brackets = h.brackets; small = h.small; nests = omega (arith, h.nests) })
+    (record { nodes = omega (arith, h.nodes); unary = omega (arith, h.unary); brackets = h.brackets; small = h.small; nests = omega (arith, h.nests) })
 have_good e z (Open ∷ k) p g h = record { level = p; calm = tt; stack = g; sized = h }
 have_good e z (Index x ∷ k) p g h = record { level = p; calm = tt; stack = g; sized = h }
 
@@ -251,7 +251,7 @@ pub reduce_good : (l : ℕ) (e : Text) (z : Size) (k : List (Frame Text)) → Is
 reduce_good l e z [] p q c g h = record { level = p; fits = q; calm = tt; looser = tt; stack = g; sized = h }
 reduce_good l e z (Left o a ∷ k) p q c g h =
     go (nat_le l (prec o)) refl (λ le. reduce_good l (Text.bin o a e) z k (le, g.0, q) (omega (arith, right_looser (prec o) k g.1), g.0, q) (calm_of (prec o) k g.1) g.2
-      (record { nodes = omega (arith, h.nodes); unary = h.unary; brackets = h.brackets; small = h.small; nests = omega (arith, g.3, h.nests) }))
+    (record { nodes = omega (arith, h.nodes); unary = h.unary; brackets = h.brackets; small = h.small; nests = omega (arith, g.3, h.nests) }))
   where
     go : (v : Bool) → nat_le l (prec o) ≡ v → (l ≤ prec o → Reduced l (reduce written l (Text.bin o a e) z k)) → Reduced l (if v then reduce written l (Text.bin o a e) z k else Over e z (Left o a ∷ k))
     go true is more = more (leb-true l (prec o) is)
@@ -270,32 +270,40 @@ pub moved : (o : Option (State Text)) (a b : List Token) (x : Token) → a ≡ b
 moved o a b x is h = subst (λ z. IfSome o (Reads z x)) is h
 
 pub minus_good : (z : Size) (k : List (Frame Text)) → GoodWant z k → IfSome (begin_unary Minus z k) (Reads (front k) (Token.op op.Sub))
-minus_good z k h = if_some (may_sign z) (Want (signed z) (Minus ∷ k)) (Reads (front k) (Token.op op.Sub)) (λ is. let f = sign_true z is in
-    (record {
-        stack = h.stack;
-        sized = record { nodes = omega (arith, h.sized.nodes); unary = omega (arith, h.sized.unary); brackets = h.sized.brackets; small = omega (arith, f.0); nests = omega (arith, f.1, h.sized.unary, h.sized.brackets) };
-      }, refl))
+minus_good z k h = if_some (may_sign z) (Want (signed z) (Minus ∷ k)) (Reads (front k) (Token.op op.Sub)) (λ is. let f = sign_true z is in (
+  record {
+    stack = h.stack;
+    sized = record { nodes = omega (arith, h.sized.nodes); unary = omega (arith, h.sized.unary); brackets = h.sized.brackets; small = omega (arith, f.0); nests = omega (arith, f.1, h.sized.unary, h.sized.brackets) };
+  },
+  refl,
+))
 
 pub bang_good : (z : Size) (k : List (Frame Text)) → GoodWant z k → IfSome (begin_unary Bang z k) (Reads (front k) (Token.sign sign.Bang))
-bang_good z k h = if_some (may_sign z) (Want (signed z) (Bang ∷ k)) (Reads (front k) (Token.sign sign.Bang)) (λ is. let f = sign_true z is in
-    (record {
-        stack = h.stack;
-        sized = record { nodes = omega (arith, h.sized.nodes); unary = omega (arith, h.sized.unary); brackets = h.sized.brackets; small = omega (arith, f.0); nests = omega (arith, f.1, h.sized.unary, h.sized.brackets) };
-      }, refl))
+bang_good z k h = if_some (may_sign z) (Want (signed z) (Bang ∷ k)) (Reads (front k) (Token.sign sign.Bang)) (λ is. let f = sign_true z is in (
+  record {
+    stack = h.stack;
+    sized = record { nodes = omega (arith, h.sized.nodes); unary = omega (arith, h.sized.unary); brackets = h.sized.brackets; small = omega (arith, f.0); nests = omega (arith, f.1, h.sized.unary, h.sized.brackets) };
+  },
+  refl,
+))
 
 pub paren_good : (z : Size) (k : List (Frame Text)) → GoodWant z k → IfSome (begin_paren z k) (Reads (front k) (Token.sign sign.ParenOpen))
-paren_good z k h = if_some (may_nest z) (Want (opened z) (Open ∷ k)) (Reads (front k) (Token.sign sign.ParenOpen)) (λ is. let f = nest_true z is in
-    (record {
-        stack = h.stack;
-        sized = record { nodes = h.sized.nodes; unary = h.sized.unary; brackets = omega (arith, h.sized.brackets); small = h.sized.small; nests = omega (arith, f, h.sized.unary, h.sized.brackets) };
-      }, refl))
+paren_good z k h = if_some (may_nest z) (Want (opened z) (Open ∷ k)) (Reads (front k) (Token.sign sign.ParenOpen)) (λ is. let f = nest_true z is in (
+  record {
+    stack = h.stack;
+    sized = record { nodes = h.sized.nodes; unary = h.sized.unary; brackets = omega (arith, h.sized.brackets); small = h.sized.small; nests = omega (arith, f, h.sized.unary, h.sized.brackets) };
+  },
+  refl,
+))
 
 pub index_good : (x : List ℕ) (z : Size) (k : List (Frame Text)) → GoodWant z k → IfSome (begin_index x z k) (Reads (front k ++ Token.name x ∷ []) (Token.sign sign.BracketOpen))
-index_good x z k h = if_some (may_sign z) (Want (indexed z) (Index x ∷ k)) (Reads (front k ++ Token.name x ∷ []) (Token.sign sign.BracketOpen)) (λ is. let f = sign_true z is in
-    (record {
-        stack = h.stack;
-        sized = record { nodes = omega (arith, h.sized.nodes); unary = h.sized.unary; brackets = omega (arith, h.sized.brackets); small = omega (arith, f.0); nests = omega (arith, f.1, h.sized.unary, h.sized.brackets) };
-      }, simp append_assoc))
+index_good x z k h = if_some (may_sign z) (Want (indexed z) (Index x ∷ k)) (Reads (front k ++ Token.name x ∷ []) (Token.sign sign.BracketOpen)) (λ is. let f = sign_true z is in (
+  record {
+    stack = h.stack;
+    sized = record { nodes = omega (arith, h.sized.nodes); unary = h.sized.unary; brackets = omega (arith, h.sized.brackets); small = omega (arith, f.0); nests = omega (arith, f.1, h.sized.unary, h.sized.brackets) };
+  },
+  simp append_assoc,
+))
 
 pub want_op_good : (o : Op) (z : Size) (k : List (Frame Text)) → GoodWant z k → IfSome (want_op o z k) (Reads (front k) (Token.op o))
 want_op_good op.Sub z k h = minus_good z k h
@@ -307,11 +315,13 @@ want_sign_good sign.ParenOpen z k h = paren_good z k h
 want_sign_good _ z k h = tt
 
 pub behind_good : (o : Op) (r : Operand Text) (ts : List Token) → Reduced (prec o) r → (size_of r).nodes + 2 ≤ most → read_operand r ≡ ts → Reads ts (Token.op o) (behind o r)
-behind_good o (Over e z k) ts h n is =
-    (record {
-        stack = (h.level, h.looser, h.stack, h.sized.nests);
-        sized = record { nodes = omega (arith, h.sized.nodes); unary = h.sized.unary; brackets = h.sized.brackets; small = n; nests = omega (arith, h.sized.nests) };
-      }, sym (append_assoc (front k) (tokens e) (Token.op o ∷ [])) ∙ ap (λ z. z ++ Token.op o ∷ []) is)
+behind_good o (Over e z k) ts h n is = (
+  record {
+    stack = (h.level, h.looser, h.stack, h.sized.nests);
+    sized = record { nodes = omega (arith, h.sized.nodes); unary = h.sized.unary; brackets = h.sized.brackets; small = n; nests = omega (arith, h.sized.nests) };
+  },
+  sym (append_assoc (front k) (tokens e) (Token.op o ∷ [])) ∙ ap (λ z. z ++ Token.op o ∷ []) is,
+)
 
 pub have_op_good : (o : Op) (r : Operand Text) → GoodOperand r → IfSome (have_op written o r) (Reads (read_operand r) (Token.op o))
 have_op_good o (Over e z k) h = if_some (has_room 2 z) (behind o (reduce written (prec o) e z k)) (Reads (front k ++ tokens e) (Token.op o)) (λ is.
@@ -322,10 +332,11 @@ close_paren_good (Over e z []) h = tt
 close_paren_good (Over e z (Left o a ∷ k)) h = tt
 close_paren_good (Over e z (Minus ∷ k)) h = tt
 close_paren_good (Over e z (Bang ∷ k)) h = tt
-close_paren_good (Over e z (Open ∷ k)) h =
-    (have_good (Text.paren e) (closed z) k h.level h.stack
-       (record { nodes = h.sized.nodes; unary = h.sized.unary; brackets = omega (arith, h.sized.brackets); small = h.sized.small; nests = omega (arith, h.sized.nests) }),
-     have_read (Text.paren e) (closed z) k ∙ simp append_assoc)
+close_paren_good (Over e z (Open ∷ k)) h = (
+  have_good (Text.paren e) (closed z) k h.level h.stack
+      (record { nodes = h.sized.nodes; unary = h.sized.unary; brackets = omega (arith, h.sized.brackets); small = h.sized.small; nests = omega (arith, h.sized.nests) }),
+  have_read (Text.paren e) (closed z) k ∙ simp append_assoc,
+)
 close_paren_good (Over e z (Index x ∷ k)) h = tt
 
 pub close_bracket_good : (r : Operand Text) → Reduced 0 r → IfSome (close_bracket written r) (Reads (read_operand r) (Token.sign sign.BracketClose))
@@ -334,10 +345,11 @@ close_bracket_good (Over e z (Left o a ∷ k)) h = tt
 close_bracket_good (Over e z (Minus ∷ k)) h = tt
 close_bracket_good (Over e z (Bang ∷ k)) h = tt
 close_bracket_good (Over e z (Open ∷ k)) h = tt
-close_bracket_good (Over e z (Index x ∷ k)) h =
-    (have_good (Text.cell x e) (closed z) k h.level h.stack
-       (record { nodes = omega (arith, h.sized.nodes); unary = h.sized.unary; brackets = omega (arith, h.sized.brackets); small = h.sized.small; nests = omega (arith, h.sized.nests) }),
-     have_read (Text.cell x e) (closed z) k ∙ simp append_assoc)
+close_bracket_good (Over e z (Index x ∷ k)) h = (
+  have_good (Text.cell x e) (closed z) k h.level h.stack
+      (record { nodes = omega (arith, h.sized.nodes); unary = h.sized.unary; brackets = omega (arith, h.sized.brackets); small = h.sized.small; nests = omega (arith, h.sized.nests) }),
+  have_read (Text.cell x e) (closed z) k ∙ simp append_assoc,
+)
 
 pub have_sign_good : (s : Sign) (r : Operand Text) → GoodOperand r → IfSome (have_sign written s r) (Reads (read_operand r) (Token.sign s))
 have_sign_good sign.ParenClose (Over e z k) h =

@@ -1,13 +1,13 @@
 -- Each good state has an end, and one in which an expression may end stands at one.
-use Rattle.std.proofs.Common.{ℕ, zero, suc, ◌+◌, ◌-◌, ◌≤◌, ◌<◌, ◌≡◌, List, [], ◌∷◌, ◌++◌, Option, Some, None, Bool, true, false, nat_eq, nat_le, if◌then◌else◌, refl, sym, ap, subst, ◌∙◌, arith, IfSome}
+use Rattle.std.proofs.Common.{ℕ, ◌≡◌, List, [], ◌∷◌, Option, Some, None, Bool, true, false, nat_eq, if◌then◌else◌, refl, sym, ap, ◌∙◌, arith}
 use Rattle.std.proofs.lemmas.Bool.{le-leb, eqb-true}
 use Rattle.loom_tree.specs.declared.expression.Op.{Op}
 use Rattle.loom_tree.specs.declared.token.Sign.{Sign}
 use Rattle.loom_tree.specs.declared.token.Sign.TheVariants as sign
 use Rattle.loom_tree.specs.Token.{Token}
 use Rattle.loom_expression.specs.Written.{Text, prec}
-use Rattle.loom_expression.specs.Machine.{Frame, Left, Minus, Bang, Open, Index, Size, Operand, Over, State, Want, Named, Have, Builder, unsigned, closed, have, reduce, close_paren, close_bracket, have_sign, have_token, step, after, run, alone, finish_operand, finish, is_whole, written}
-use Rattle.loom_expression.proofs.Sound.{Calm, calm_of, brackets_in, Good, GoodOperand, GoodState, ReducedTo, Reduced, reduced, size_of, reduce_size, name_good}
+use Rattle.loom_expression.specs.Machine.{Frame, Left, Minus, Bang, Open, Index, Size, Operand, Over, State, Want, Named, Have, Builder, unsigned, closed, have, reduce, close_paren, close_bracket, have_sign, step, after, run, finish_operand, finish, is_whole, written}
+use Rattle.loom_expression.proofs.Sound.{calm_of, brackets_in, Good, GoodOperand, GoodState, Reduced, reduced, size_of, reduce_size, name_good}
 use Rattle.loom_expression.proofs.Whole.{again, have_calm, have_brackets, finish_some}
 
 -- what closes the open parentheses and brackets

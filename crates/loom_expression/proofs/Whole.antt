@@ -1,12 +1,11 @@
 -- Each written expression is read to its end.
-use Rattle.std.proofs.Common.{ℕ, zero, suc, ◌+◌, ◌-◌, ◌≤◌, ◌<◌, ◌≡◌, max, List, [], ◌∷◌, ◌++◌, Option, Some, None, Bool, true, false, nat_le, nat_lt, nat_eq, if◌then◌else◌, refl, sym, ap, ◌∙◌, arith}
+use Rattle.std.proofs.Common.{ℕ, suc, ◌+◌, ◌-◌, ◌≤◌, ◌<◌, ◌≡◌, List, [], ◌∷◌, ◌++◌, Option, Some, None, Bool, true, false, nat_le, nat_eq, if◌then◌else◌, refl, sym, ap, ◌∙◌, arith}
 use Rattle.std.proofs.lemmas.Bool.{leb-true, le-leb, lt-leb, lt-ltb}
 use Rattle.loom_tree.specs.declared.expression.Op.{Op}
-use Rattle.loom_tree.specs.declared.expression.Op.TheVariants as op
 use Rattle.loom_tree.specs.declared.token.Sign.TheVariants as sign
 use Rattle.loom_tree.specs.Token.{Token}
 use Rattle.loom_expression.specs.Written.{Text, tokens, prec, IsAt, depth, nodes, most, deepest, IsWritten}
-use Rattle.loom_expression.specs.Machine.{Frame, Left, Minus, Bang, Open, Index, Size, Operand, Over, State, Want, Named, Have, Builder, start, signed, unsigned, opened, indexed, closed, joined, has_room, may_nest, may_sign, have, reduce, behind, close_paren, close_bracket, begin_unary, begin_paren, begin_index, have_op, have_sign, step, after, run, alone, finish_operand, finish, is_whole, written}
+use Rattle.loom_expression.specs.Machine.{Frame, Left, Minus, Bang, Open, Index, Size, Operand, Over, State, Want, Named, Have, Builder, start, signed, unsigned, opened, indexed, closed, joined, may_nest, may_sign, have, reduce, behind, close_paren, close_bracket, have_op, have_sign, step, after, run, alone, finish_operand, finish, is_whole, written}
 use Rattle.loom_expression.proofs.Sound.{Looser, Calm, calm_of, prec_small, size_of, reduce_size}
 
 pub run_append : {A : Type 0} (b : Builder A) (s : State A) (xs ys : List Token) → run b s (xs ++ ys) ≡ after (run b s xs) (λ s'. run b s' ys)
@@ -305,8 +304,8 @@ completes w h =
     record {
       last = t.last;
       is = record {
-          runs = t.runs;
-          done = finish_of t.last t.held t.holds ∙ finish_some t.held w t.size t.closes;
-          whole = whole_of t.last t.held t.holds ∙ ap (λ n. nat_eq n 0) none;
-        };
+        runs = t.runs;
+        done = finish_of t.last t.held t.holds ∙ finish_some t.held w t.size t.closes;
+        whole = whole_of t.last t.held t.holds ∙ ap (λ n. nat_eq n 0) none;
+      };
     }

@@ -1,0 +1,408 @@
+//! Reads an expression, token by token.
+ghost use Rattle.std.specs.Prelude.{◌≡◌, ◌≤◌, [], ◌∷◌, length, IfOk, OnOk, Some};
+ghost use Rattle.loom_tree.specs.Tree.{Expression, expression_of};
+ghost use Rattle.loom_tree.specs.Token.{IsSmall, text_of, token_by};
+ghost use Rattle.loom_expression.specs.View.{expression_if, frame_of, operand_of, reduced, size_of, stack_of, state_if, state_of};
+ghost use Rattle.loom_expression.specs.Machine as m;
+
+use crate::part::{Frame, Operand, Size, prec};
+use loom_tree::expression::{Expr, Op};
+use loom_tree::name::{Name, NoMemory};
+use loom_tree::token::{Sign, Token, TokenKind};
+use std::alloc::Global;
+
+/// Where a reader stands in an expression.
+#[derive(Debug, Drop)]
+pub enum Reader {
+    /// An operand must follow.
+    Want(Size, Vec<Frame>),
+    /// A name was read, which may be that of a cell.
+    Named(Name, Size, Vec<Frame>),
+    /// An operand was read.
+    Have(Operand),
+}
+
+fn bin(alloc: Global, op: Op, a: Expr, b: Expr) -> Result<Expr, NoMemory>
+    ensures { IfOk result (λ e. expression_of e ≡ Expression.bin op (expression_of a) (expression_of b)) }
+{
+    Ok(Expr::Bin(op, Box::new(alloc, a)?, Box::new(alloc, b)?))
+}
+
+fn neg(alloc: Global, a: Expr) -> Result<Expr, NoMemory>
+    ensures { IfOk result (λ e. expression_of e ≡ Expression.neg (expression_of a)) }
+{
+    Ok(Expr::Neg(Box::new(alloc, a)?))
+}
+
+fn inverse(alloc: Global, a: Expr) -> Result<Expr, NoMemory>
+    ensures { IfOk result (λ e. expression_of e ≡ Expression.inverse (expression_of a)) }
+{
+    Ok(Expr::Not(Box::new(alloc, a)?))
+}
+
+fn cell(alloc: Global, name: Name, index: Expr) -> Result<Expr, NoMemory>
+    ensures { IfOk result (λ e. expression_of e ≡ Expression.cell name (expression_of index)) }
+{
+    Ok(Expr::Cell(name, Box::new(alloc, index)?))
+}
+
+#[tactic(auto, using(crate::proofs::Stacks::stack_push))]
+fn push(frames: &mut Vec<Frame>, frame: Frame) -> Result<(), NoMemory>
+    ensures { OnOk result (stack_of frames.new.items ≡ frame_of frame ∷ stack_of frames.old.items) }
+{
+    frames.push(frame)?;
+    Ok(())
+}
+
+/// The operand takes the left ones of the operators before it that bind at least by the level.
+#[tactic(auto, using(crate::proofs::Stacks::stack_push))]
+fn reduce(alloc: Global, level: u8, operand: Operand) -> Result<Operand, NoMemory>
+    ensures value { IfOk result (λ r. reduced level (operand_of operand) ≡ operand_of r) }
+    ensures size { IfOk result (λ r. r.size ≡ operand.size) }
+{
+    let Operand {
+        mut value,
+        size,
+        mut frames,
+    } = operand;
+    'down: loop {
+        match frames.pop() {
+            Some(Frame::Left(op, a)) => {
+                if level <= prec(op) {
+                    value = bin(alloc, op, a, value)?;
+                } else {
+                    push(&mut frames, Frame::Left(op, a))?;
+                    return Ok(Operand {
+                        value,
+                        size,
+                        frames,
+                    });
+                }
+            }
+            Some(other) => {
+                push(&mut frames, other)?;
+                return Ok(Operand {
+                    value,
+                    size,
+                    frames,
+                });
+            }
+            None => {
+                return Ok(Operand {
+                    value,
+                    size,
+                    frames,
+                });
+            }
+        }
+    }
+}
+
+/// The operand takes the operators that stand before it.
+#[tactic(auto, using(crate::proofs::Stacks::stack_push))]
+fn have(alloc: Global, operand: Operand) -> Result<Operand, NoMemory>
+    ensures { IfOk result (λ r. m.have m.plain (expression_of operand.value) (size_of operand.size) (stack_of operand.frames.items) ≡ operand_of r) }
+{
+    let Operand {
+        mut value,
+        mut size,
+        mut frames,
+    } = operand;
+    'down: loop {
+        match frames.pop() {
+            Some(Frame::Minus) => {
+                value = neg(alloc, value)?;
+                size = size.unsigned();
+            }
+            Some(Frame::Bang) => {
+                value = inverse(alloc, value)?;
+                size = size.unsigned();
+            }
+            Some(other) => {
+                push(&mut frames, other)?;
+                return Ok(Operand {
+                    value,
+                    size,
+                    frames,
+                });
+            }
+            None => {
+                return Ok(Operand {
+                    value,
+                    size,
+                    frames,
+                });
+            }
+        }
+    }
+}
+
+/// An operator before an operand begins.
+fn begin_unary(frame: Frame, size: Size, mut frames: Vec<Frame>) -> Result<Option<Reader>, NoMemory>
+    ensures { IfOk result (λ r. state_if r ≡ m.begin_unary (frame_of frame) (size_of size) (stack_of frames.items)) }
+{
+    if size.may_sign() {
+        push(&mut frames, frame)?;
+        Ok(Some(Reader::Want(size.signed(), frames)))
+    } else {
+        Ok(None)
+    }
+}
+
+/// A parenthesis begins.
+fn begin_paren(size: Size, mut frames: Vec<Frame>) -> Result<Option<Reader>, NoMemory>
+    ensures { IfOk result (λ r. state_if r ≡ m.begin_paren (size_of size) (stack_of frames.items)) }
+{
+    if size.may_nest() {
+        push(&mut frames, Frame::Open)?;
+        Ok(Some(Reader::Want(size.opened(), frames)))
+    } else {
+        Ok(None)
+    }
+}
+
+/// The index of a cell begins.
+fn begin_index(name: Name, size: Size, mut frames: Vec<Frame>) -> Result<Option<Reader>, NoMemory>
+    ensures { IfOk result (λ r. state_if r ≡ m.begin_index name (size_of size) (stack_of frames.items)) }
+{
+    if size.may_sign() {
+        push(&mut frames, Frame::Index(name))?;
+        Ok(Some(Reader::Want(size.indexed(), frames)))
+    } else {
+        Ok(None)
+    }
+}
+
+/// An operator where an operand must follow.
+fn want_op(op: Op, size: Size, frames: Vec<Frame>) -> Result<Option<Reader>, NoMemory>
+    ensures { IfOk result (λ r. state_if r ≡ m.want_op op (size_of size) (stack_of frames.items)) }
+{
+    match op {
+        Op::Sub => begin_unary(Frame::Minus, size, frames),
+        _ => Ok(None),
+    }
+}
+
+/// A sign where an operand must follow.
+fn want_sign(sign: Sign, size: Size, frames: Vec<Frame>) -> Result<Option<Reader>, NoMemory>
+    ensures { IfOk result (λ r. state_if r ≡ m.want_sign sign (size_of size) (stack_of frames.items)) }
+{
+    match sign {
+        Sign::Bang => begin_unary(Frame::Bang, size, frames),
+        Sign::ParenOpen => begin_paren(size, frames),
+        _ => Ok(None),
+    }
+}
+
+/// An operator behind an operand.
+fn have_op(alloc: Global, op: Op, operand: Operand) -> Result<Option<Reader>, NoMemory>
+    ensures { IfOk result (λ r. state_if r ≡ m.have_op m.plain op (operand_of operand)) }
+{
+    if operand.size.may_join() {
+        let Operand {
+            value,
+            size,
+            mut frames,
+        } = reduce(alloc, prec(op), operand)?;
+        push(&mut frames, Frame::Left(op, value))?;
+        Ok(Some(Reader::Want(size.joined(), frames)))
+    } else {
+        Ok(None)
+    }
+}
+
+#[tactic(auto, using(crate::proofs::Stacks::stack_push))]
+fn close_paren(alloc: Global, operand: Operand) -> Result<Option<Reader>, NoMemory>
+    ensures { IfOk result (λ r. state_if r ≡ m.close_paren m.plain (operand_of operand)) }
+{
+    let Operand {
+        value,
+        size,
+        mut frames,
+    } = operand;
+    match frames.pop() {
+        Some(Frame::Open) => {
+            let whole = Operand {
+                value,
+                size: size.closed(),
+                frames,
+            };
+            Ok(Some(Reader::Have(have(alloc, whole)?)))
+        }
+        _ => Ok(None),
+    }
+}
+
+#[tactic(auto, using(crate::proofs::Stacks::stack_push))]
+fn close_bracket(alloc: Global, operand: Operand) -> Result<Option<Reader>, NoMemory>
+    ensures { IfOk result (λ r. state_if r ≡ m.close_bracket m.plain (operand_of operand)) }
+{
+    let Operand {
+        value,
+        size,
+        mut frames,
+    } = operand;
+    match frames.pop() {
+        Some(Frame::Index(name)) => {
+            let whole = Operand {
+                value: cell(alloc, name, value)?,
+                size: size.closed(),
+                frames,
+            };
+            Ok(Some(Reader::Have(have(alloc, whole)?)))
+        }
+        _ => Ok(None),
+    }
+}
+
+/// A sign behind an operand.
+fn have_sign(alloc: Global, sign: Sign, operand: Operand) -> Result<Option<Reader>, NoMemory>
+    ensures { IfOk result (λ r. state_if r ≡ m.have_sign m.plain sign (operand_of operand)) }
+{
+    match sign {
+        Sign::ParenClose => close_paren(alloc, reduce(alloc, 0, operand)?),
+        Sign::BracketClose => close_bracket(alloc, reduce(alloc, 0, operand)?),
+        _ => Ok(None),
+    }
+}
+
+/// The name of a local or a word is an operand.
+fn named(alloc: Global, name: Name, size: Size, frames: Vec<Frame>) -> Result<Operand, NoMemory>
+    ensures { IfOk result (λ r. m.have m.plain (Expression.var name) (size_of size) (stack_of frames.items) ≡ operand_of r) }
+{
+    have(
+        alloc,
+        Operand {
+            value: Expr::Var(name),
+            size,
+            frames,
+        },
+    )
+}
+
+/// A sign behind a name.
+fn named_sign(
+    alloc: Global,
+    sign: Sign,
+    name: Name,
+    size: Size,
+    frames: Vec<Frame>,
+) -> Result<Option<Reader>, NoMemory>
+    ensures { IfOk result (λ r. state_if r ≡ m.named_sign m.plain sign name (size_of size) (stack_of frames.items)) }
+{
+    match sign {
+        Sign::BracketOpen => begin_index(name, size, frames),
+        _ => have_sign(alloc, sign, named(alloc, name, size, frames)?),
+    }
+}
+
+/// A token where an operand must follow.
+fn want(
+    alloc: Global,
+    size: Size,
+    frames: Vec<Frame>,
+    bytes: &[u8],
+    token: Token,
+) -> Result<Option<Reader>, NoMemory>
+    requires small { IsSmall token.kind }
+    requires ordered { token.start ≤ token.end }
+    requires within { token.end ≤ length bytes.now }
+    ensures { IfOk result (λ r. state_if r ≡ m.step m.plain (m.Want (size_of size) (stack_of frames.items)) (token_by token.kind (text_of bytes.now token))) }
+{
+    match token.kind {
+        TokenKind::Name => {
+            let name = Name::copied(alloc, &bytes[token.start..token.end])?;
+            Ok(Some(Reader::Named(name, size, frames)))
+        }
+        TokenKind::Number(n) => {
+            let whole = Operand {
+                value: Expr::Num(n as i64),
+                size,
+                frames,
+            };
+            Ok(Some(Reader::Have(have(alloc, whole)?)))
+        }
+        TokenKind::Keyword(_) => Ok(None),
+        TokenKind::Op(op) => want_op(op, size, frames),
+        TokenKind::Sign(sign) => want_sign(sign, size, frames),
+        TokenKind::Bad => Ok(None),
+    }
+}
+
+impl Reader {
+    /// A reader that has read nothing.
+    pub fn new(alloc: Global) -> Reader
+        ensures { state_of result ≡ m.start }
+    {
+        Reader::Want(Size::new(), Vec::new(alloc))
+    }
+
+    /// Takes a token of a text with these bytes. `None` says that no expression begins with what was read and this
+    /// token. An `Err` is want of memory.
+    pub fn feed(self, alloc: Global, bytes: &[u8], token: Token) -> Result<Option<Reader>, NoMemory>
+        requires small { IsSmall token.kind }
+        requires ordered { token.start ≤ token.end }
+        requires within { token.end ≤ length bytes.now }
+        ensures { IfOk result (λ r. state_if r ≡ m.step m.plain (state_of self) (token_by token.kind (text_of bytes.now token))) }
+    {
+        match self {
+            Reader::Want(size, frames) => want(alloc, size, frames, bytes, token),
+            Reader::Named(name, size, frames) => match token.kind {
+                TokenKind::Name => Ok(None),
+                TokenKind::Number(_) => Ok(None),
+                TokenKind::Keyword(_) => Ok(None),
+                TokenKind::Op(op) => have_op(alloc, op, named(alloc, name, size, frames)?),
+                TokenKind::Sign(sign) => named_sign(alloc, sign, name, size, frames),
+                TokenKind::Bad => Ok(None),
+            },
+            Reader::Have(operand) => match token.kind {
+                TokenKind::Name => Ok(None),
+                TokenKind::Number(_) => Ok(None),
+                TokenKind::Keyword(_) => Ok(None),
+                TokenKind::Op(op) => have_op(alloc, op, operand),
+                TokenKind::Sign(sign) => have_sign(alloc, sign, operand),
+                TokenKind::Bad => Ok(None),
+            },
+        }
+    }
+
+    /// Whether an expression may end here: an operand was read, and no parenthesis and no bracket is open.
+    pub fn is_whole(&self) -> bool
+        ensures { result ≡ m.is_whole (state_of self.now) }
+    {
+        match self {
+            Reader::Want(_, _) => false,
+            Reader::Named(_, size, _) => size.brackets == 0,
+            Reader::Have(operand) => operand.size.brackets == 0,
+        }
+    }
+
+    /// The expression that was read. `None` says that the tokens are no whole expression. An `Err` is want of memory.
+    pub fn finish(self, alloc: Global) -> Result<Option<Expr>, NoMemory>
+        ensures { IfOk result (λ e. expression_if e ≡ m.finish m.plain (state_of self)) }
+    {
+        match self {
+            Reader::Want(_, _) => Ok(None),
+            Reader::Named(name, size, frames) => {
+                finish_operand(alloc, named(alloc, name, size, frames)?)
+            }
+            Reader::Have(operand) => finish_operand(alloc, operand),
+        }
+    }
+}
+
+/// The expression, where nothing is left that was begun before it.
+#[tactic(auto, using(crate::proofs::Stacks::stack_push))]
+fn finish_operand(alloc: Global, operand: Operand) -> Result<Option<Expr>, NoMemory>
+    ensures { IfOk result (λ e. expression_if e ≡ m.finish_operand m.plain (operand_of operand)) }
+{
+    let Operand {
+        value,
+        size: _,
+        mut frames,
+    } = reduce(alloc, 0, operand)?;
+    match frames.pop() {
+        None => Ok(Some(value)),
+        Some(_) => Ok(None),
+    }
+}

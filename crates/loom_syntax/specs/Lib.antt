@@ -4,3 +4,6 @@ pub mod Head
 pub mod Part
 pub mod Machine
 pub mod View
+pub mod Small
+pub mod TokenView
+pub mod HeadView

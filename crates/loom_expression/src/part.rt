@@ -169,3 +169,16 @@ impl Size {
         }
     }
 }
+
+impl Operand {
+    /// The operand with these parts.
+    pub fn new(value: Expr, size: Size, frames: Vec<Frame>) -> Operand
+        ensures { result ≡ record { value = value; size = size; frames = frames } }
+    {
+        Operand {
+            value,
+            size,
+            frames,
+        }
+    }
+}

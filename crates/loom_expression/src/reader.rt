@@ -72,27 +72,15 @@ fn reduce(alloc: Global, level: u8, operand: Operand) -> Result<Operand, NoMemor
                     value = bin(alloc, op, a, value)?;
                 } else {
                     push(&mut frames, Frame::Left(op, a))?;
-                    return Ok(Operand {
-                        value,
-                        size,
-                        frames,
-                    });
+                    return Ok(Operand::new(value, size, frames));
                 }
             }
             Some(other) => {
                 push(&mut frames, other)?;
-                return Ok(Operand {
-                    value,
-                    size,
-                    frames,
-                });
+                return Ok(Operand::new(value, size, frames));
             }
             None => {
-                return Ok(Operand {
-                    value,
-                    size,
-                    frames,
-                });
+                return Ok(Operand::new(value, size, frames));
             }
         }
     }
@@ -120,18 +108,10 @@ fn have(alloc: Global, operand: Operand) -> Result<Operand, NoMemory>
             }
             Some(other) => {
                 push(&mut frames, other)?;
-                return Ok(Operand {
-                    value,
-                    size,
-                    frames,
-                });
+                return Ok(Operand::new(value, size, frames));
             }
             None => {
-                return Ok(Operand {
-                    value,
-                    size,
-                    frames,
-                });
+                return Ok(Operand::new(value, size, frames));
             }
         }
     }
@@ -222,11 +202,7 @@ fn close_paren(alloc: Global, operand: Operand) -> Result<Option<Reader>, NoMemo
     } = operand;
     match frames.pop() {
         Some(Frame::Open) => {
-            let whole = Operand {
-                value,
-                size: size.closed(),
-                frames,
-            };
+            let whole = Operand::new(value, size.closed(), frames);
             Ok(Some(Reader::Have(have(alloc, whole)?)))
         }
         _ => Ok(None),
@@ -244,11 +220,7 @@ fn close_bracket(alloc: Global, operand: Operand) -> Result<Option<Reader>, NoMe
     } = operand;
     match frames.pop() {
         Some(Frame::Index(name)) => {
-            let whole = Operand {
-                value: cell(alloc, name, value)?,
-                size: size.closed(),
-                frames,
-            };
+            let whole = Operand::new(cell(alloc, name, value)?, size.closed(), frames);
             Ok(Some(Reader::Have(have(alloc, whole)?)))
         }
         _ => Ok(None),
@@ -270,14 +242,7 @@ fn have_sign(alloc: Global, sign: Sign, operand: Operand) -> Result<Option<Reade
 fn named(alloc: Global, name: Name, size: Size, frames: Vec<Frame>) -> Result<Operand, NoMemory>
     ensures { IfOk result (λ r. m.have m.plain (Expression.var name) (size_of size) (stack_of frames.items) ≡ operand_of r) }
 {
-    have(
-        alloc,
-        Operand {
-            value: Expr::Var(name),
-            size,
-            frames,
-        },
-    )
+    have(alloc, Operand::new(Expr::Var(name), size, frames))
 }
 
 /// A sign behind a name.
@@ -315,11 +280,7 @@ fn want(
             Ok(Some(Reader::Named(name, size, frames)))
         }
         TokenKind::Number(n) => {
-            let whole = Operand {
-                value: Expr::Num(n as i64),
-                size,
-                frames,
-            };
+            let whole = Operand::new(Expr::Num(n as i64), size, frames);
             Ok(Some(Reader::Have(have(alloc, whole)?)))
         }
         TokenKind::Keyword(_) => Ok(None),

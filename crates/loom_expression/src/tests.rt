@@ -59,18 +59,28 @@ const BRACKET_CLOSE: Token = Token {
 #[test]
 fn groups_to_the_left(rt: HostRuntime) -> Result<(), Fail> {
     let tokens = [
-        MINUS, NAME, BRACKET_OPEN, NUMBER, BRACKET_CLOSE, MINUS, NAME, MINUS, NUMBER,
+        MINUS,
+        NAME,
+        BRACKET_OPEN,
+        NUMBER,
+        BRACKET_CLOSE,
+        MINUS,
+        NAME,
+        MINUS,
+        NUMBER,
     ];
-    let e = read_expression(rt.alloc(), b"a-7", &tokens).ok().ok_or("refused")?;
+    let e = read_expression(rt.alloc(), b"a-7", &tokens)
+        .ok()
+        .ok_or("refused")?;
     let Expr::Bin(Op::Sub, left, right) = e else {
         return Err("no difference".into());
     };
     assert!(rt; matches!(*right, Expr::Num(7)));
-    let Expr::Bin(Op::Sub, first, second) = *left else {
+    let Expr::Bin(Op::Sub, first, second) = Box::into_inner(left) else {
         return Err("grouped to the right".into());
     };
     assert!(rt; matches!(*second, Expr::Var(_)));
-    let Expr::Neg(cell) = *first else {
+    let Expr::Neg(cell) = Box::into_inner(first) else {
         return Err("no operator before the cell".into());
     };
     assert!(rt; matches!(*cell, Expr::Cell(_, _)));

@@ -1,4 +1,10 @@
-pub mod Tests
-pub mod Head
-pub mod Part
-pub mod PartRun
+pub mod Choices
+pub mod HeadSound
+pub mod PartSound
+pub mod PartWhole
+pub mod Sound
+pub mod Whole
+pub mod Viable
+pub mod PartNatural
+pub mod Natural
+pub mod Refusal

@@ -4,6 +4,8 @@ pub mod Head
 pub mod Part
 pub mod Machine
 pub mod View
+pub mod Laws
 pub mod Small
 pub mod TokenView
 pub mod HeadView
+pub mod StatementView

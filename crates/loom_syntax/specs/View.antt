@@ -1,5 +1,7 @@
 -- Files as trees without pointers.
-use Rattle.std.specs.Prelude.{ℕ}
+use Rattle.std.specs.Prelude.{ℕ, List, map}
+use Rattle.loom_tree.specs.declared.token.Token as rust
+use Rattle.loom_tree.specs.Token.{Placed, placed_of}
 use Rattle.loom_tree.specs.Tree as tree
 use Rattle.loom_tree.specs.Tree.{Expression, Simple, Body}
 use Rattle.loom_expression.specs.Machine as expression
@@ -29,3 +31,7 @@ plain = record {
   declared = declaration_tree;
   func = λ l f params a. tree.Item.func (record { name = f; line = l; params = params; body = a });
 }
+
+-- the tokens of a text, with their lines
+abbrev pub places : List ℕ → List rust.Token → List Placed
+places bytes ts = map (placed_of bytes) ts

@@ -15,8 +15,8 @@ use Rattle.loom_expression.proofs.Viable.{completion, whole_paren, whole_bracket
 use Rattle.loom_syntax.specs.Written.{behind_commas, with_commas, simple_tokens, ended, IsSimple}
 use Rattle.loom_syntax.specs.Tests.{is_keyword, is_sign, name_of}
 use Rattle.loom_syntax.specs.Part.{Target, Let, Set, Goal, Call, RightCall, RightSpawn, Sync, Lock, Test, If, While, Purpose, Value, Argument, Index, CellValue, Condition, Return, Join, Print, Part, LetName, LetAssign, Started, RightOf, RightNamed, SpawnName, SpawnOpen, SyncName, TestOpen, Arguments, Returned, SetAssign, Reading, Ending, TestBrace, PartNext, Goes, Ends, Opens, assigned, applied, synced, closes, argued, closed, ends_here, read_step, begin_part, part_step}
-use Rattle.loom_syntax.proofs.Tests.{sign_is}
-use Rattle.loom_syntax.proofs.Part.{Good}
+use Rattle.loom_syntax.proofs.Choices.{sign_is}
+use Rattle.loom_syntax.proofs.PartSound.{Good}
 
 abbrev pub next_step : PartNext Text → Token → Option (PartNext Text)
 next_step (Goes q) t = part_step written q t

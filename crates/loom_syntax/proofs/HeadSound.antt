@@ -10,7 +10,7 @@ use Rattle.loom_expression.specs.Machine.{after}
 use Rattle.loom_syntax.specs.Written.{Given, none, plus, minus, Declaration, word, array, mutex, sema, behind_commas, with_commas, in_parens, declaration_tokens, head_tokens, ended, IsDeclaration, largest_count}
 use Rattle.loom_syntax.specs.Tests.{is_keyword, is_sign, is_minus, name_of, number_of}
 use Rattle.loom_syntax.specs.Head.{Head, SharedName, SharedNamed, SharedValue, SharedMinus, SharedCells, SharedClose, MutexName, SemaName, SemaNamed, SemaValue, Ending, FnName, FnOpen, FnFirst, FnParam, FnNext, FnBrace, HeadNext, Goes, Declares, Begins, begin_item, shared_named, shared_value, sema_named, sema_value, function_first, function_next, head_step}
-use Rattle.loom_syntax.proofs.Tests.{choose, if_keyword, if_sign, if_minus, if_name, if_number}
+use Rattle.loom_syntax.proofs.Choices.{choose, if_keyword, if_sign, if_minus, if_name, if_number}
 
 -- lists with commas
 

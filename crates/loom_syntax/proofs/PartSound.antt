@@ -15,8 +15,8 @@ use Rattle.loom_expression.proofs.Sound as sound
 use Rattle.loom_syntax.specs.Written.{in_parens, with_commas, arguments, right_tokens, simple_tokens, test_tokens, ended, IsRight, IsSimple, deepest_block}
 use Rattle.loom_syntax.specs.Tests.{is_keyword, is_sign, name_of}
 use Rattle.loom_syntax.specs.Part.{Target, Let, Set, Goal, Call, RightCall, RightSpawn, Sync, Lock, Unlock, Down, Up, Test, If, While, Purpose, Value, Argument, Index, CellValue, Condition, Return, Join, Print, Part, LetName, LetAssign, Started, RightOf, RightNamed, SpawnName, SpawnOpen, SyncName, TestOpen, Arguments, Returned, SetAssign, Reading, Ending, TestBrace, PartNext, Goes, Ends, Opens, assigned, applied, synced, closes, argued, closed, ends_here, read_step, begin_test, begin_keyword, begin_part, started, right_value, right_of, right_named, arguments_step, return_step, part_step}
-use Rattle.loom_syntax.proofs.Tests.{sign_is, choose, if_keyword, if_sign, if_name}
-use Rattle.loom_syntax.proofs.Head.{before_comma, commas_more, before_more}
+use Rattle.loom_syntax.proofs.Choices.{sign_is, choose, if_keyword, if_sign, if_name}
+use Rattle.loom_syntax.proofs.HeadSound.{before_comma, commas_more, before_more}
 
 -- the tokens that were read
 

@@ -1,10 +1,13 @@
 -- What the reader's variables stand for, in a statement up to its block.
-use Rattle.std.specs.Prelude.{Option, Some, None}
+use Rattle.std.specs.Prelude.{ℕ, List, Option, Some, None}
 use Rattle.loom_tree.specs.Tree as tree
 use Rattle.loom_tree.specs.Tree.{Expression, expression_of, expressions_of, returned_of}
 use Rattle.loom_expression.specs.View.{state_of}
+use Rattle.loom_syntax.specs.declared.statement.Binding.{Binding}
+use Rattle.loom_syntax.specs.declared.statement.Binding.TheVariants as b
 use Rattle.loom_syntax.specs.declared.statement.Target as rust_target
-use Rattle.loom_syntax.specs.declared.statement.Target.TheVariants as t
+use Rattle.loom_syntax.specs.declared.statement.Arguing.{Arguing}
+use Rattle.loom_syntax.specs.declared.statement.Arguing.TheVariants as a
 use Rattle.loom_syntax.specs.declared.statement.Goal as rust_goal
 use Rattle.loom_syntax.specs.declared.statement.Goal.TheVariants as g
 use Rattle.loom_syntax.specs.declared.statement.SyncKind.{SyncKind}
@@ -21,14 +24,17 @@ use Rattle.loom_syntax.specs.declared.statement.PartNext as rust_next
 use Rattle.loom_syntax.specs.declared.statement.PartNext.TheVariants as n
 use Rattle.loom_syntax.specs.Part as m
 
+abbrev pub bound_by : Binding → List ℕ → m.Target
+bound_by b.Let x = m.Let x
+bound_by b.Set x = m.Set x
+
 abbrev pub target_of : rust_target.Target → m.Target
-target_of (t.Let x) = m.Let x
-target_of (t.Set x) = m.Set x
+target_of t = bound_by t.binding t.name
 
 abbrev pub goal_of : rust_goal.Goal → m.Goal
 goal_of (g.Call f) = m.Call f
-goal_of (g.RightCall target f) = m.RightCall (target_of target) f
-goal_of (g.RightSpawn target f) = m.RightSpawn (target_of target) f
+goal_of (g.Right a.Call target f) = m.RightCall (target_of target) f
+goal_of (g.Right a.Spawn target f) = m.RightSpawn (target_of target) f
 
 abbrev pub sync_of : SyncKind → m.Sync
 sync_of y.Lock = m.Lock
@@ -77,8 +83,8 @@ part_of (q.TestOpen test) = m.TestOpen (test_of test)
 part_of (q.Arguments goal) = m.Arguments (goal_of goal)
 part_of q.Returned = m.Returned
 part_of (q.SetAssign x i) = m.SetAssign x (expression_of i)
-part_of (q.Reading purpose reader) = m.Reading (purpose_of purpose) (state_of reader)
-part_of (q.Ending s) = m.Ending (simple_of s)
+part_of (q.Reading purpose reader) = m.Reading (purpose_of purpose.value) (state_of reader)
+part_of (q.Ending s) = m.Ending (simple_of s.value)
 part_of (q.TestBrace test e) = m.TestBrace (test_of test) (expression_of e)
 
 abbrev pub part_if : Option rust_part.Part → Option (m.Part Expression)
@@ -87,7 +93,7 @@ part_if (Some q) = Some (part_of q)
 
 abbrev pub next_of : rust_next.PartNext → m.PartNext Expression
 next_of (n.Goes q) = m.PartNext.Goes (part_of q)
-next_of (n.Ends s) = m.PartNext.Ends (simple_of s)
+next_of (n.Ends s) = m.PartNext.Ends (simple_of s.value)
 next_of (n.Opens test e) = m.PartNext.Opens (test_of test) (expression_of e)
 
 abbrev pub next_if : Option rust_next.PartNext → Option (m.PartNext Expression)

@@ -1,5 +1,5 @@
 //! Reads statements up to their blocks.
-ghost use Rattle.std.specs.Prelude.{◌≡◌, ◌++◌, [], ◌∷◌, IfOk, if◌then◌else◌, Some, None};
+ghost use Rattle.std.specs.Prelude.{◌≡◌, IfOk, Some};
 ghost use Rattle.loom_tree.specs.Tree as tree;
 ghost use Rattle.loom_tree.specs.Tree.{expression_of, expressions_of};
 ghost use Rattle.loom_expression.specs.Machine as expression;
@@ -17,19 +17,32 @@ use loom_tree::statement::Right;
 use loom_tree::token::{Keyword, Sign, TokenKind};
 use std::alloc::Global;
 
+/// How a value is written to a name.
+#[derive(Clone, Copy, Drop)]
+pub enum Binding {
+    Let,
+    Set,
+}
+
 /// What a value is written to.
 #[derive(Drop)]
-pub enum Target {
-    Let(Name),
-    Set(Name),
+pub struct Target {
+    pub binding: Binding,
+    pub name: Name,
+}
+
+/// What stands at the right of `=`, with arguments.
+#[derive(Clone, Copy, Drop)]
+pub enum Arguing {
+    Call,
+    Spawn,
 }
 
 /// What arguments are for.
 #[derive(Drop)]
 pub enum Goal {
     Call(Name),
-    RightCall(Target, Name),
-    RightSpawn(Target, Name),
+    Right(Arguing, Target, Name),
 }
 
 /// What is done with a mutex or a semaphore.
@@ -99,9 +112,9 @@ pub enum Part {
     Returned,
     SetAssign(Name, Expr),
     /// The rest of an expression.
-    Reading(Purpose, Reader),
+    Reading(Box<Purpose>, Reader),
     /// The `;` of a statement.
-    Ending(Simple),
+    Ending(Box<Simple>),
     TestBrace(Test, Expr),
 }
 
@@ -110,7 +123,7 @@ pub enum Part {
 pub enum PartNext {
     Goes(Part),
     /// It is whole.
-    Ends(Simple),
+    Ends(Box<Simple>),
     /// Its block begins.
     Opens(Test, Expr),
 }
@@ -118,9 +131,9 @@ pub enum PartNext {
 fn assigned(target: Target, right: Right) -> Simple
     ensures { simple_of result ≡ m.assigned (target_of target) (tree.right_of right) }
 {
-    match target {
-        Target::Let(x) => Simple::Let(x, right),
-        Target::Set(x) => Simple::Set(x, right),
+    match target.binding {
+        Binding::Let => Simple::Let(target.name, right),
+        Binding::Set => Simple::Set(target.name, right),
     }
 }
 
@@ -129,8 +142,8 @@ fn applied(goal: Goal, es: Vec<Expr>) -> Simple
 {
     match goal {
         Goal::Call(f) => Simple::Call(f, Exprs(es)),
-        Goal::RightCall(target, f) => assigned(target, Right::Call(f, Exprs(es))),
-        Goal::RightSpawn(target, f) => assigned(target, Right::Spawn(f, Exprs(es))),
+        Goal::Right(Arguing::Call, target, f) => assigned(target, Right::Call(f, Exprs(es))),
+        Goal::Right(Arguing::Spawn, target, f) => assigned(target, Right::Spawn(f, Exprs(es))),
     }
 }
 
@@ -143,6 +156,25 @@ fn synced(sync: SyncKind, x: Name) -> Simple
         SyncKind::Down => Simple::Down(x),
         SyncKind::Up => Simple::Up(x),
     }
+}
+
+/// Behind this token an expression of this purpose must follow. An `Err` is want of memory.
+fn read(alloc: Global, purpose: Purpose) -> Result<Part, NoMemory>
+    ensures { IfOk result (λ q. part_of q ≡ m.Reading (purpose_of purpose) expression.start) }
+{
+    Ok(Part::Reading(Box::new(alloc, purpose)?, Reader::new(alloc)))
+}
+
+fn ending(alloc: Global, s: Simple) -> Result<Part, NoMemory>
+    ensures { IfOk result (λ q. part_of q ≡ m.Ending (simple_of s)) }
+{
+    Ok(Part::Ending(Box::new(alloc, s)?))
+}
+
+fn ends(alloc: Global, s: Simple) -> Result<PartNext, NoMemory>
+    ensures { IfOk result (λ n. next_of n ≡ m.PartNext.Ends (simple_of s)) }
+{
+    Ok(PartNext::Ends(Box::new(alloc, s)?))
 }
 
 /// Whether the token ends an expression of this purpose, where it is whole.
@@ -161,14 +193,14 @@ fn closes(purpose: &Purpose, spot: Spot) -> bool
     }
 }
 
-/// What is behind an argument and the `,` or `)` that ends it.
-fn argued(alloc: Global, goal: Goal, es: Vec<Expr>, spot: Spot) -> PartNext
-    ensures { next_of result ≡ m.argued (goal_of goal) (expressions_of es.items) (token_of spot.entry) }
+/// What is behind an argument and the `,` or `)` that ends it. An `Err` is want of memory.
+fn argued(alloc: Global, goal: Goal, es: Vec<Expr>, spot: Spot) -> Result<PartNext, NoMemory>
+    ensures { IfOk result (λ n. next_of n ≡ m.argued (goal_of goal) (expressions_of es.items) (token_of spot.entry)) }
 {
     if spot.is_sign(Sign::Comma) {
-        PartNext::Goes(Part::Reading(Purpose::Argument(goal, es), Reader::new(alloc)))
+        Ok(PartNext::Goes(read(alloc, Purpose::Argument(goal, es))?))
     } else {
-        PartNext::Goes(Part::Ending(applied(goal, es)))
+        Ok(PartNext::Goes(ending(alloc, applied(goal, es))?))
     }
 }
 
@@ -177,17 +209,17 @@ fn closed(alloc: Global, purpose: Purpose, e: Expr, spot: Spot) -> Result<PartNe
     ensures { IfOk result (λ n. next_of n ≡ m.closed (purpose_of purpose) (expression_of e) (token_of spot.entry)) }
 {
     match purpose {
-        Purpose::Value(target) => Ok(PartNext::Ends(assigned(target, Right::Value(e)))),
+        Purpose::Value(target) => ends(alloc, assigned(target, Right::Value(e))),
         Purpose::Argument(goal, mut before) => {
             before.push(e)?;
-            Ok(argued(alloc, goal, before, spot))
+            argued(alloc, goal, before, spot)
         }
         Purpose::Index(x) => Ok(PartNext::Goes(Part::SetAssign(x, e))),
-        Purpose::CellValue(x, i) => Ok(PartNext::Ends(Simple::SetCell(x, i, e))),
+        Purpose::CellValue(x, i) => ends(alloc, Simple::SetCell(x, i, e)),
         Purpose::Condition(test) => Ok(PartNext::Goes(Part::TestBrace(test, e))),
-        Purpose::Return => Ok(PartNext::Ends(Simple::Return(Some(e)))),
-        Purpose::Join => Ok(PartNext::Ends(Simple::Join(e))),
-        Purpose::Print => Ok(PartNext::Ends(Simple::Print(e))),
+        Purpose::Return => ends(alloc, Simple::Return(Some(e))),
+        Purpose::Join => ends(alloc, Simple::Join(e)),
+        Purpose::Print => ends(alloc, Simple::Print(e)),
     }
 }
 
@@ -198,26 +230,61 @@ fn ends_here(purpose: &Purpose, reader: &Reader, spot: Spot) -> bool
     reader.is_whole() && closes(purpose, spot)
 }
 
-/// A token in an expression, or behind it.
-fn read_step(
+/// Behind an expression, at the token that ends it. An `Err` is want of memory.
+fn close(
     alloc: Global,
     purpose: Purpose,
     reader: Reader,
     spot: Spot,
 ) -> Result<Option<PartNext>, NoMemory>
-    ensures { IfOk result (λ r. next_if r ≡ m.read_step expression.plain (purpose_of purpose) (state_of reader) (token_of spot.entry)) }
+    ensures { IfOk result (λ r. next_if r ≡ expression.after (expression.finish expression.plain (state_of reader)) (λ e. Some (m.closed (purpose_of purpose) e (token_of spot.entry)))) }
+{
+    match reader.finish(alloc)? {
+        Some(e) => Ok(Some(closed(alloc, purpose, e, spot)?)),
+        None => Ok(None),
+    }
+}
+
+/// A token in an expression. An `Err` is want of memory.
+fn feed(
+    alloc: Global,
+    purpose: Box<Purpose>,
+    reader: Reader,
+    spot: Spot,
+) -> Result<Option<PartNext>, NoMemory>
+    ensures { IfOk result (λ r. next_if r ≡ expression.after (expression.step expression.plain (state_of reader) (token_of spot.entry)) (λ s. Some (m.PartNext.Goes (m.Reading (purpose_of purpose.value) s)))) }
+{
+    match reader.feed(alloc, spot.bytes, spot.token)? {
+        Some(next) => Ok(Some(PartNext::Goes(Part::Reading(purpose, next)))),
+        None => Ok(None),
+    }
+}
+
+/// A token in an expression, or behind it. An `Err` is want of memory.
+fn read_step(
+    alloc: Global,
+    purpose: Box<Purpose>,
+    reader: Reader,
+    spot: Spot,
+) -> Result<Option<PartNext>, NoMemory>
+    ensures { IfOk result (λ r. next_if r ≡ m.read_step expression.plain (purpose_of purpose.value) (state_of reader) (token_of spot.entry)) }
 {
     if ends_here(&purpose, &reader, spot) {
-        match reader.finish(alloc)? {
-            Some(e) => Ok(Some(closed(alloc, purpose, e, spot)?)),
-            None => Ok(None),
-        }
+        close(alloc, Box::into_inner(purpose), reader, spot)
     } else {
-        match reader.feed(alloc, spot.bytes, spot.token)? {
-            Some(next) => Ok(Some(PartNext::Goes(Part::Reading(purpose, next)))),
-            None => Ok(None),
-        }
+        feed(alloc, purpose, reader, spot)
     }
+}
+
+/// The first token of an expression. An `Err` is want of memory.
+fn read_first(
+    alloc: Global,
+    purpose: Purpose,
+    spot: Spot,
+) -> Result<Option<PartNext>, NoMemory>
+    ensures { IfOk result (λ r. next_if r ≡ m.read_step expression.plain (purpose_of purpose) expression.start (token_of spot.entry)) }
+{
+    read_step(alloc, Box::new(alloc, purpose)?, Reader::new(alloc), spot)
 }
 
 fn begin_test(room: bool, test: Test) -> Option<Part>
@@ -226,27 +293,28 @@ fn begin_test(room: bool, test: Test) -> Option<Part>
     if room { Some(Part::TestOpen(test)) } else { None }
 }
 
-fn begin_keyword(alloc: Global, room: bool, keyword: Keyword) -> Option<Part>
-    ensures { part_if result ≡ m.begin_keyword room keyword }
+/// The first keyword of a statement. An `Err` is want of memory.
+fn begin_keyword(alloc: Global, room: bool, keyword: Keyword) -> Result<Option<Part>, NoMemory>
+    ensures { IfOk result (λ r. part_if r ≡ m.begin_keyword room keyword) }
 {
     match keyword {
-        Keyword::Let => Some(Part::LetName),
-        Keyword::If => begin_test(room, Test::If),
-        Keyword::While => begin_test(room, Test::While),
-        Keyword::Return => Some(Part::Returned),
-        Keyword::Lock => Some(Part::SyncName(SyncKind::Lock)),
-        Keyword::Unlock => Some(Part::SyncName(SyncKind::Unlock)),
-        Keyword::Down => Some(Part::SyncName(SyncKind::Down)),
-        Keyword::Up => Some(Part::SyncName(SyncKind::Up)),
-        Keyword::Join => Some(Part::Reading(Purpose::Join, Reader::new(alloc))),
-        Keyword::Print => Some(Part::Reading(Purpose::Print, Reader::new(alloc))),
-        Keyword::Skip => Some(Part::Ending(Simple::Skip)),
-        Keyword::Shared => None,
-        Keyword::Mutex => None,
-        Keyword::Sema => None,
-        Keyword::Fn => None,
-        Keyword::Else => None,
-        Keyword::Spawn => None,
+        Keyword::Let => Ok(Some(Part::LetName)),
+        Keyword::If => Ok(begin_test(room, Test::If)),
+        Keyword::While => Ok(begin_test(room, Test::While)),
+        Keyword::Return => Ok(Some(Part::Returned)),
+        Keyword::Lock => Ok(Some(Part::SyncName(SyncKind::Lock))),
+        Keyword::Unlock => Ok(Some(Part::SyncName(SyncKind::Unlock))),
+        Keyword::Down => Ok(Some(Part::SyncName(SyncKind::Down))),
+        Keyword::Up => Ok(Some(Part::SyncName(SyncKind::Up))),
+        Keyword::Join => Ok(Some(read(alloc, Purpose::Join)?)),
+        Keyword::Print => Ok(Some(read(alloc, Purpose::Print)?)),
+        Keyword::Skip => Ok(Some(ending(alloc, Simple::Skip)?)),
+        Keyword::Shared => Ok(None),
+        Keyword::Mutex => Ok(None),
+        Keyword::Sema => Ok(None),
+        Keyword::Fn => Ok(None),
+        Keyword::Else => Ok(None),
+        Keyword::Spawn => Ok(None),
     }
 }
 
@@ -256,26 +324,12 @@ pub fn begin_part(alloc: Global, room: bool, spot: Spot) -> Result<Option<Part>,
     ensures { IfOk result (λ r. part_if r ≡ m.begin_part room (token_of spot.entry)) }
 {
     if let TokenKind::Keyword(keyword) = spot.token.kind {
-        return Ok(begin_keyword(alloc, room, keyword));
+        return begin_keyword(alloc, room, keyword);
     }
     match spot.name(alloc)? {
         Some(x) => Ok(Some(Part::Started(x))),
         None => Ok(None),
     }
-}
-
-/// What is next, where the token is the one that must follow.
-fn next_where(follows: bool, next: PartNext) -> Option<PartNext>
-    ensures { next_if result ≡ (if follows then Some (next_of next) else None) }
-{
-    if follows { Some(next) } else { None }
-}
-
-/// The part that is next, where the token is the one that must follow.
-fn goes_where(follows: bool, part: Part) -> Option<PartNext>
-    ensures { next_if result ≡ (if follows then Some (m.PartNext.Goes (part_of part)) else None) }
-{
-    next_where(follows, PartNext::Goes(part))
 }
 
 fn let_name(alloc: Global, spot: Spot) -> Result<Option<PartNext>, NoMemory>
@@ -287,17 +341,29 @@ fn let_name(alloc: Global, spot: Spot) -> Result<Option<PartNext>, NoMemory>
     }
 }
 
-fn started(alloc: Global, x: Name, spot: Spot) -> Option<PartNext>
-    ensures { next_if result ≡ m.started x (token_of spot.entry) }
+fn let_assign(name: Name, spot: Spot) -> Option<PartNext>
+    ensures { next_if result ≡ m.part_step expression.plain (m.LetAssign name) (token_of spot.entry) }
 {
     if spot.is_sign(Sign::Assign) {
-        Some(PartNext::Goes(Part::RightOf(Target::Set(x))))
-    } else if spot.is_sign(Sign::BracketOpen) {
-        Some(PartNext::Goes(Part::Reading(Purpose::Index(x), Reader::new(alloc))))
-    } else if spot.is_sign(Sign::ParenOpen) {
-        Some(PartNext::Goes(Part::Arguments(Goal::Call(x))))
+        let binding = Binding::Let;
+        Some(PartNext::Goes(Part::RightOf(Target { binding, name })))
     } else {
         None
+    }
+}
+
+fn started(alloc: Global, name: Name, spot: Spot) -> Result<Option<PartNext>, NoMemory>
+    ensures { IfOk result (λ r. next_if r ≡ m.started name (token_of spot.entry)) }
+{
+    if spot.is_sign(Sign::Assign) {
+        let binding = Binding::Set;
+        Ok(Some(PartNext::Goes(Part::RightOf(Target { binding, name }))))
+    } else if spot.is_sign(Sign::BracketOpen) {
+        Ok(Some(PartNext::Goes(read(alloc, Purpose::Index(name))?)))
+    } else if spot.is_sign(Sign::ParenOpen) {
+        Ok(Some(PartNext::Goes(Part::Arguments(Goal::Call(name)))))
+    } else {
+        Ok(None)
     }
 }
 
@@ -309,7 +375,7 @@ fn right_of(alloc: Global, target: Target, spot: Spot) -> Result<Option<PartNext
     }
     match spot.name(alloc)? {
         Some(f) => Ok(Some(PartNext::Goes(Part::RightNamed(target, f)))),
-        None => read_step(alloc, Purpose::Value(target), Reader::new(alloc), spot),
+        None => read_first(alloc, Purpose::Value(target), spot),
     }
 }
 
@@ -322,10 +388,11 @@ fn right_named(
     ensures { IfOk result (λ r. next_if r ≡ m.right_named expression.plain (target_of target) f (token_of spot.entry)) }
 {
     if spot.is_sign(Sign::ParenOpen) {
-        Ok(Some(PartNext::Goes(Part::Arguments(Goal::RightCall(target, f)))))
+        let goal = Goal::Right(Arguing::Call, target, f);
+        Ok(Some(PartNext::Goes(Part::Arguments(goal))))
     } else {
         let reader = Reader::Named(f, Size::new(), Vec::new(alloc));
-        read_step(alloc, Purpose::Value(target), reader, spot)
+        read_step(alloc, Box::new(alloc, Purpose::Value(target))?, reader, spot)
     }
 }
 
@@ -338,12 +405,33 @@ fn spawn_name(alloc: Global, target: Target, spot: Spot) -> Result<Option<PartNe
     }
 }
 
+fn spawn_open(target: Target, f: Name, spot: Spot) -> Option<PartNext>
+    ensures { next_if result ≡ m.part_step expression.plain (m.SpawnOpen (target_of target) f) (token_of spot.entry) }
+{
+    if spot.is_sign(Sign::ParenOpen) {
+        let goal = Goal::Right(Arguing::Spawn, target, f);
+        Some(PartNext::Goes(Part::Arguments(goal)))
+    } else {
+        None
+    }
+}
+
 fn sync_name(alloc: Global, sync: SyncKind, spot: Spot) -> Result<Option<PartNext>, NoMemory>
     ensures { IfOk result (λ r. next_if r ≡ m.part_step expression.plain (m.SyncName (sync_of sync)) (token_of spot.entry)) }
 {
     match spot.name(alloc)? {
-        Some(x) => Ok(Some(PartNext::Goes(Part::Ending(synced(sync, x))))),
+        Some(x) => Ok(Some(PartNext::Goes(ending(alloc, synced(sync, x))?))),
         None => Ok(None),
+    }
+}
+
+fn test_open(alloc: Global, test: Test, spot: Spot) -> Result<Option<PartNext>, NoMemory>
+    ensures { IfOk result (λ r. next_if r ≡ m.part_step expression.plain (m.TestOpen (test_of test)) (token_of spot.entry)) }
+{
+    if spot.is_sign(Sign::ParenOpen) {
+        Ok(Some(PartNext::Goes(read(alloc, Purpose::Condition(test))?)))
+    } else {
+        Ok(None)
     }
 }
 
@@ -351,9 +439,10 @@ fn arguments_step(alloc: Global, goal: Goal, spot: Spot) -> Result<Option<PartNe
     ensures { IfOk result (λ r. next_if r ≡ m.arguments_step expression.plain (goal_of goal) (token_of spot.entry)) }
 {
     if spot.is_sign(Sign::ParenClose) {
-        Ok(Some(PartNext::Goes(Part::Ending(applied(goal, Vec::new(alloc))))))
+        let call = applied(goal, Vec::new(alloc));
+        Ok(Some(PartNext::Goes(ending(alloc, call)?)))
     } else {
-        read_step(alloc, Purpose::Argument(goal, Vec::new(alloc)), Reader::new(alloc), spot)
+        read_first(alloc, Purpose::Argument(goal, Vec::new(alloc)), spot)
     }
 }
 
@@ -361,9 +450,39 @@ fn return_step(alloc: Global, spot: Spot) -> Result<Option<PartNext>, NoMemory>
     ensures { IfOk result (λ r. next_if r ≡ m.return_step expression.plain (token_of spot.entry)) }
 {
     if spot.is_sign(Sign::Semicolon) {
-        Ok(Some(PartNext::Ends(Simple::Return(None))))
+        Ok(Some(ends(alloc, Simple::Return(None))?))
     } else {
-        read_step(alloc, Purpose::Return, Reader::new(alloc), spot)
+        read_first(alloc, Purpose::Return, spot)
+    }
+}
+
+fn set_assign(alloc: Global, x: Name, i: Expr, spot: Spot) -> Result<Option<PartNext>, NoMemory>
+    ensures { IfOk result (λ r. next_if r ≡ m.part_step expression.plain (m.SetAssign x (expression_of i)) (token_of spot.entry)) }
+{
+    if spot.is_sign(Sign::Assign) {
+        Ok(Some(PartNext::Goes(read(alloc, Purpose::CellValue(x, i))?)))
+    } else {
+        Ok(None)
+    }
+}
+
+fn end_step(s: Box<Simple>, spot: Spot) -> Option<PartNext>
+    ensures { next_if result ≡ m.part_step expression.plain (m.Ending (simple_of s.value)) (token_of spot.entry) }
+{
+    if spot.is_sign(Sign::Semicolon) {
+        Some(PartNext::Ends(s))
+    } else {
+        None
+    }
+}
+
+fn test_brace(test: Test, e: Expr, spot: Spot) -> Option<PartNext>
+    ensures { next_if result ≡ m.part_step expression.plain (m.TestBrace (test_of test) (expression_of e)) (token_of spot.entry) }
+{
+    if spot.is_sign(Sign::BraceOpen) {
+        Some(PartNext::Opens(test, e))
+    } else {
+        None
     }
 }
 
@@ -371,34 +490,21 @@ fn return_step(alloc: Global, spot: Spot) -> Result<Option<PartNext>, NoMemory>
 pub fn part_step(alloc: Global, part: Part, spot: Spot) -> Result<Option<PartNext>, NoMemory>
     ensures { IfOk result (λ r. next_if r ≡ m.part_step expression.plain (part_of part) (token_of spot.entry)) }
 {
-    Ok(match part {
-        Part::LetName => let_name(alloc, spot)?,
-        Part::LetAssign(x) => {
-            goes_where(spot.is_sign(Sign::Assign), Part::RightOf(Target::Let(x)))
-        }
+    match part {
+        Part::LetName => let_name(alloc, spot),
+        Part::LetAssign(x) => Ok(let_assign(x, spot)),
         Part::Started(x) => started(alloc, x, spot),
-        Part::RightOf(target) => right_of(alloc, target, spot)?,
-        Part::RightNamed(target, f) => right_named(alloc, target, f, spot)?,
-        Part::SpawnName(target) => spawn_name(alloc, target, spot)?,
-        Part::SpawnOpen(target, f) => {
-            let arguments = Part::Arguments(Goal::RightSpawn(target, f));
-            goes_where(spot.is_sign(Sign::ParenOpen), arguments)
-        }
-        Part::SyncName(sync) => sync_name(alloc, sync, spot)?,
-        Part::TestOpen(test) => {
-            let condition = Part::Reading(Purpose::Condition(test), Reader::new(alloc));
-            goes_where(spot.is_sign(Sign::ParenOpen), condition)
-        }
-        Part::Arguments(goal) => arguments_step(alloc, goal, spot)?,
-        Part::Returned => return_step(alloc, spot)?,
-        Part::SetAssign(x, i) => {
-            let value = Part::Reading(Purpose::CellValue(x, i), Reader::new(alloc));
-            goes_where(spot.is_sign(Sign::Assign), value)
-        }
-        Part::Reading(purpose, reader) => read_step(alloc, purpose, reader, spot)?,
-        Part::Ending(s) => next_where(spot.is_sign(Sign::Semicolon), PartNext::Ends(s)),
-        Part::TestBrace(test, e) => {
-            next_where(spot.is_sign(Sign::BraceOpen), PartNext::Opens(test, e))
-        }
-    })
+        Part::RightOf(target) => right_of(alloc, target, spot),
+        Part::RightNamed(target, f) => right_named(alloc, target, f, spot),
+        Part::SpawnName(target) => spawn_name(alloc, target, spot),
+        Part::SpawnOpen(target, f) => Ok(spawn_open(target, f, spot)),
+        Part::SyncName(sync) => sync_name(alloc, sync, spot),
+        Part::TestOpen(test) => test_open(alloc, test, spot),
+        Part::Arguments(goal) => arguments_step(alloc, goal, spot),
+        Part::Returned => return_step(alloc, spot),
+        Part::SetAssign(x, i) => set_assign(alloc, x, i, spot),
+        Part::Reading(purpose, reader) => read_step(alloc, purpose, reader, spot),
+        Part::Ending(s) => Ok(end_step(s, spot)),
+        Part::TestBrace(test, e) => Ok(test_brace(test, e, spot)),
+    }
 }

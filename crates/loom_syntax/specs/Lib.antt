@@ -9,3 +9,6 @@ pub mod Small
 pub mod TokenView
 pub mod HeadView
 pub mod StatementView
+pub mod BlockView
+pub mod FileView
+pub mod Items

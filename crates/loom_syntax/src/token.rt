@@ -26,9 +26,19 @@ pub struct Spot<'a> {
 }
 
 impl<'a> Spot<'a> {
-    ghost use Rattle.loom_syntax.specs.Tests.{is_keyword, is_minus, is_sign};
-    ghost use Rattle.loom_syntax.specs.Tests.{name_of, number_of};
-    ghost use Rattle.loom_syntax.specs.TokenView.{number_if, token_of};
+    ghost use Rattle.loom_tree.specs.Token.{placed_of};
+    ghost use Rattle.loom_syntax.specs.Small.{IsWithin};
+    ghost use Rattle.loom_syntax.specs.Tests.{is_keyword, is_minus, is_sign, name_of, number_of};
+    ghost use Rattle.loom_syntax.specs.TokenView.{number_if, spot_of, token_of};
+
+    /// A token whose places lie within the text with these bytes.
+    pub fn new(bytes: &'a [u8], token: Token) -> Spot<'a>
+        requires small { IsSmall token.kind }
+        requires within { IsWithin bytes.now token }
+        ensures { spot_of result ≡ placed_of bytes.now token }
+    {
+        Spot { bytes, token }
+    }
 
     /// Whether it is this keyword.
     pub fn is_keyword(self, keyword: Keyword) -> bool

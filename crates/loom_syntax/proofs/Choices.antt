@@ -1,7 +1,6 @@
 -- What the tests of tokens tell.
-use Rattle.std.proofs.Common.{ℕ, ◌≡◌, List, Option, Some, None, Bool, true, false, nat_eq, if◌then◌else◌, refl, sym, ap, subst, ◌∙◌, IfSome}
+use Rattle.std.proofs.Common.{ℕ, ◌≡◌, List, Option, Bool, true, false, nat_eq, if◌then◌else◌, refl, sym, ap, subst, ◌∙◌, IfSome}
 use Rattle.std.proofs.lemmas.Bool.{eqb-true}
-use Rattle.loom_tree.specs.declared.expression.Op.{Op}
 use Rattle.loom_tree.specs.declared.expression.Op.TheVariants as o
 use Rattle.loom_tree.specs.declared.token.Keyword.{Keyword}
 use Rattle.loom_tree.specs.declared.token.Keyword.TheVariants as w

@@ -1,15 +1,13 @@
 -- What the reader of declarations and of the beginnings of functions keeps.
-use Rattle.std.proofs.Common.{ℕ, ◌≤◌, ◌≡◌, List, [], ◌∷◌, ◌++◌, map, Option, Some, None, Bool, true, false, nat_le, if◌then◌else◌, refl, sym, ap, subst, ◌∙◌, append_assoc, append-nil, IfSome}
+use Rattle.std.proofs.Common.{ℕ, ◌≡◌, List, [], ◌∷◌, ◌++◌, map, nat_le, refl, sym, ap, ◌∙◌, append_assoc, append-nil, IfSome}
 use Rattle.std.proofs.lemmas.Bool.{leb-true}
 use Rattle.std.proofs.lemmas.List.{map-append}
 use Rattle.loom_tree.specs.declared.expression.Op.TheVariants as o
 use Rattle.loom_tree.specs.declared.token.Keyword.TheVariants as w
 use Rattle.loom_tree.specs.declared.token.Sign.TheVariants as g
 use Rattle.loom_tree.specs.Token.{Token}
-use Rattle.loom_expression.specs.Machine.{after}
-use Rattle.loom_syntax.specs.Written.{Given, none, plus, minus, Declaration, word, array, mutex, sema, behind_commas, with_commas, in_parens, declaration_tokens, head_tokens, ended, IsDeclaration, largest_count}
-use Rattle.loom_syntax.specs.Tests.{is_keyword, is_sign, is_minus, name_of, number_of}
-use Rattle.loom_syntax.specs.Head.{Head, SharedName, SharedNamed, SharedValue, SharedMinus, SharedCells, SharedClose, MutexName, SemaName, SemaNamed, SemaValue, Ending, FnName, FnOpen, FnFirst, FnParam, FnNext, FnBrace, HeadNext, Goes, Declares, Begins, begin_item, shared_named, shared_value, sema_named, sema_value, function_first, function_next, head_step}
+use Rattle.loom_syntax.specs.Written.{behind_commas, with_commas, declaration_tokens, head_tokens, ended, IsDeclaration, largest_count}
+use Rattle.loom_syntax.specs.Head.{Head, SharedName, SharedNamed, SharedValue, SharedMinus, SharedCells, SharedClose, MutexName, SemaName, SemaNamed, SemaValue, Ending, FnName, FnOpen, FnFirst, FnParam, FnNext, FnBrace, HeadNext, Goes, Declares, Begins, begin_item, sema_value, head_step}
 use Rattle.loom_syntax.proofs.Choices.{choose, if_keyword, if_sign, if_minus, if_name, if_number}
 
 -- lists with commas
@@ -93,9 +91,9 @@ filled (y ∷ xs) x = tt
 pub begin_good : (t : Token) → IfSome (begin_item t) (λ h. Good h × (read h ≡ t ∷ []))
 begin_good t =
     if_keyword w.Shared t _ _ (λ t h. Good h × (read h ≡ t ∷ [])) (tt, refl)
-      (if_keyword w.Mutex t _ _ (λ t h. Good h × (read h ≡ t ∷ [])) (tt, refl)
-         (if_keyword w.Sema t _ _ (λ t h. Good h × (read h ≡ t ∷ [])) (tt, refl)
-            (if_keyword w.Fn t _ _ (λ t h. Good h × (read h ≡ t ∷ [])) (tt, refl) tt)))
+    (if_keyword w.Mutex t _ _ (λ t h. Good h × (read h ≡ t ∷ [])) (tt, refl)
+    (if_keyword w.Sema t _ _ (λ t h. Good h × (read h ≡ t ∷ [])) (tt, refl)
+    (if_keyword w.Fn t _ _ (λ t h. Good h × (read h ≡ t ∷ [])) (tt, refl) tt)))
 
 pub sema_good : (x : List ℕ) (n : ℕ) → IfSome (sema_value x n) (Reads (read (SemaValue x)) (Token.num n))
 sema_good x n = choose (nat_le n largest_count) _ _ (Reads (read (SemaValue x)) (Token.num n)) (λ is. (leb-true n largest_count is, refl)) (λ is. tt)
@@ -111,11 +109,11 @@ pub step_good : (h : Head) (t : Token) → Good h → IfSome (head_step h t) (Re
 step_good SharedName t ok = if_name t _ (Reads (read SharedName)) (λ x. (tt, refl))
 step_good (SharedNamed x) t ok =
     if_sign g.Semicolon t _ _ (Reads (read (SharedNamed x))) (tt, refl)
-      (if_sign g.Assign t _ _ (Reads (read (SharedNamed x))) (tt, refl)
-         (if_sign g.BracketOpen t _ _ (Reads (read (SharedNamed x))) (tt, refl) tt))
+    (if_sign g.Assign t _ _ (Reads (read (SharedNamed x))) (tt, refl)
+    (if_sign g.BracketOpen t _ _ (Reads (read (SharedNamed x))) (tt, refl) tt))
 step_good (SharedValue x) t ok =
     if_minus t _ _ (Reads (read (SharedValue x))) (tt, refl)
-      (if_number t _ (Reads (read (SharedValue x))) (λ n. (tt, refl)))
+    (if_number t _ (Reads (read (SharedValue x))) (λ n. (tt, refl)))
 step_good (SharedMinus x) t ok = if_number t _ (Reads (read (SharedMinus x))) (λ n. (tt, refl))
 step_good (SharedCells x) t ok = if_number t _ (Reads (read (SharedCells x))) (λ n. (tt, refl))
 step_good (SharedClose x n) t ok = if_sign g.BracketClose t _ _ (Reads (read (SharedClose x n))) (tt, refl) tt
@@ -123,16 +121,16 @@ step_good MutexName t ok = if_name t _ (Reads (read MutexName)) (λ x. (tt, refl
 step_good SemaName t ok = if_name t _ (Reads (read SemaName)) (λ x. (tt, refl))
 step_good (SemaNamed x) t ok =
     if_sign g.Semicolon t _ _ (Reads (read (SemaNamed x))) (tt, refl)
-      (if_sign g.Assign t _ _ (Reads (read (SemaNamed x))) (tt, refl) tt)
+    (if_sign g.Assign t _ _ (Reads (read (SemaNamed x))) (tt, refl) tt)
 step_good (SemaValue x) t ok = if_number t _ (Reads (read (SemaValue x))) (sema_good x)
 step_good (Ending d) t ok = if_sign g.Semicolon t _ _ (Reads (read (Ending d))) (ok, refl) tt
 step_good FnName t ok = if_name t _ (Reads (read FnName)) (λ f. (tt, refl))
 step_good (FnOpen f) t ok = if_sign g.ParenOpen t _ _ (Reads (read (FnOpen f))) (tt, refl) tt
 step_good (FnFirst f) t ok =
     if_sign g.ParenClose t _ _ (Reads (read (FnFirst f))) (tt, refl)
-      (if_name t _ (Reads (read (FnFirst f))) (λ x. (tt, refl)))
+    (if_name t _ (Reads (read (FnFirst f))) (λ x. (tt, refl)))
 step_good (FnParam f params) t ok = if_name t _ (Reads (read (FnParam f params))) (λ x. (filled params x, param_read f params x))
 step_good (FnNext f params) t ok =
     if_sign g.Comma t _ _ (Reads (read (FnNext f params))) (tt, comma_read f params ok)
-      (if_sign g.ParenClose t _ _ (Reads (read (FnNext f params))) (tt, simp append_assoc) tt)
+    (if_sign g.ParenClose t _ _ (Reads (read (FnNext f params))) (tt, simp append_assoc) tt)
 step_good (FnBrace f params) t ok = if_sign g.BraceOpen t _ _ (Reads (read (FnBrace f params))) (tt, refl) tt

@@ -1,9 +1,9 @@
 -- The reader over trees does what the reader over written files does.
-use Rattle.std.proofs.Common.{ℕ, suc, ◌≡◌, List, [], ◌∷◌, ◌++◌, map, length, Option, Some, None, Bool, true, false, nat_lt, if◌then◌else◌, refl, sym, ap, ◌∙◌}
+use Rattle.std.proofs.Common.{ℕ, suc, ◌≡◌, List, [], ◌∷◌, ◌++◌, map, Option, Some, None, nat_lt, refl, sym, ap, ◌∙◌}
 use Rattle.std.proofs.lemmas.List.{map-append, length-map}
 use Rattle.loom_tree.specs.declared.token.Keyword.TheVariants as w
 use Rattle.loom_tree.specs.declared.token.Sign.TheVariants as g
-use Rattle.loom_tree.specs.Token.{Token, Placed}
+use Rattle.loom_tree.specs.Token.{Placed}
 use Rattle.loom_tree.specs.Tree as tree
 use Rattle.loom_tree.specs.Tree.{Expression, Body}
 use Rattle.loom_expression.specs.Written as expressions
@@ -14,7 +14,7 @@ use Rattle.loom_syntax.specs.Written.{Block, Item, simple_tree, block_tree, item
 use Rattle.loom_syntax.specs.Tests.{is_keyword, is_sign}
 use Rattle.loom_syntax.specs.Head.{HeadNext, begin_item, head_step}
 use Rattle.loom_syntax.specs.Part.{Test, If, While, PartNext, begin_part, part_step}
-use Rattle.loom_syntax.specs.Machine.{Around, Then, Else, Loop, Opened, Point, Start, AfterIf, ElseBrace, Within, Inside, At, InsideNext, Goes, Ends, Header, State, Between, Heading, InFunction, start, close, room, shut_in, shut, around, parted, statement_step, inside_step, headed, insided, step, run, finish, Piece, simple, if_, if_else, while_, chain, written}
+use Rattle.loom_syntax.specs.Machine.{Around, Then, Else, Loop, Opened, Point, Start, AfterIf, ElseBrace, Within, Inside, At, InsideNext, Goes, Ends, Header, State, Between, Heading, InFunction, close, room, shut_in, shut, around, parted, statement_step, inside_step, headed, insided, step, run, finish, Piece, simple, if_, if_else, while_, chain, written}
 use Rattle.loom_syntax.specs.View.{Statement, plain}
 use Rattle.loom_syntax.specs.View as view
 use Rattle.loom_syntax.proofs.PartNatural.{over, over_if, over_after, part_map, next_map, begin_map, part_state}
@@ -100,8 +100,8 @@ started_map os ss p = rw (room_map os, begin_map (room os) p.token) (go (begin_p
 pub statement_map : (os : List (Opened Text Piece Block)) (ss : List Piece) (p : Placed) → statement_step plain (map opened_map os) (map piece_map ss) p ≡ over inside_next_map (statement_step written os ss p)
 statement_map os ss p =
     over_if inside_next_map (is_sign g.BraceClose p.token) _ _ _ _
-      (ap (λ a. Some (shut plain a (map opened_map os))) (close_map ss) ∙ ap Some (shut_map (close written ss) os))
-      (started_map os ss p)
+    (ap (λ a. Some (shut plain a (map opened_map os))) (close_map ss) ∙ ap Some (shut_map (close written ss) os))
+    (started_map os ss p)
 
 pub within_map : (os : List (Opened Text Piece Block)) (ss : List Piece) (l : ℕ) (o : Option (PartNext Text))
     → after (over next_map o) (λ n. Some (Goes (parted plain (map opened_map os) (map piece_map ss) l n))) ≡ over inside_next_map (after o (λ n. Some (Goes (parted written os ss l n))))
@@ -112,7 +112,7 @@ pub inside_state : (i : Inside Text Piece Block) (p : Placed) → inside_step pl
 inside_state (At os ss Start) p = statement_map os ss p
 inside_state (At os ss (AfterIf l e a)) p =
     over_if inside_next_map (is_keyword w.Else p.token) _ _ _ _ refl
-      (ap (λ z. statement_step plain (map opened_map os) z p) (more_map ss (if_ l e a)) ∙ statement_map os (ss ++ if_ l e a ∷ []) p)
+    (ap (λ z. statement_step plain (map opened_map os) z p) (more_map ss (if_ l e a)) ∙ statement_map os (ss ++ if_ l e a ∷ []) p)
 inside_state (At os ss (ElseBrace l e a)) p = over_if inside_next_map (is_sign g.BraceOpen p.token) _ _ _ _ refl refl
 inside_state (At os ss (Within l q)) p = rw (part_state q p.token) (within_map os ss l (part_step expression.written q p.token))
 

@@ -5,14 +5,14 @@ use Rattle.loom_tree.specs.declared.token.Keyword.{Keyword}
 use Rattle.loom_tree.specs.declared.token.Keyword.TheVariants as w
 use Rattle.loom_tree.specs.declared.token.Sign.TheVariants as g
 use Rattle.loom_tree.specs.Token.{Token}
-use Rattle.loom_tree.specs.Tree.{Expression, Right, Simple}
+use Rattle.loom_tree.specs.Tree.{Expression, Right}
 use Rattle.loom_expression.specs.Written.{Text, tree}
 use Rattle.loom_expression.specs.Machine as expression
 use Rattle.loom_expression.specs.Machine.{after, is_whole, written, plain}
 use Rattle.loom_expression.proofs.Natural as natural
 use Rattle.loom_syntax.specs.Written.{right_tree, simple_tree}
 use Rattle.loom_syntax.specs.Tests.{is_keyword, is_sign, name_of}
-use Rattle.loom_syntax.specs.Part.{Target, Let, Set, Goal, Call, RightCall, RightSpawn, Sync, Lock, Unlock, Down, Up, Test, If, While, Purpose, Value, Argument, Index, CellValue, Condition, Return, Join, Print, Part, LetName, LetAssign, Started, RightOf, RightNamed, SpawnName, SpawnOpen, SyncName, TestOpen, Arguments, Returned, SetAssign, Reading, Ending, TestBrace, PartNext, Goes, Ends, Opens, assigned, applied, synced, closes, argued, closed, ends_here, read_step, begin_test, begin_keyword, begin_part, right_value, right_of, right_named, arguments_step, return_step, part_step}
+use Rattle.loom_syntax.specs.Part.{Target, Let, Set, Goal, Call, RightCall, RightSpawn, Sync, Lock, Unlock, Down, Up, Test, If, While, Purpose, Value, Argument, Index, CellValue, Condition, Return, Join, Print, Part, LetName, LetAssign, Started, RightOf, RightNamed, SpawnName, SpawnOpen, SyncName, TestOpen, Arguments, Returned, SetAssign, Reading, Ending, TestBrace, PartNext, Goes, Ends, Opens, assigned, applied, synced, closes, argued, closed, ends_here, read_step, begin_test, begin_keyword, begin_part, right_value, part_step}
 
 abbrev pub over : {A B : Type 0} → (A → B) → Option A → Option B
 over f None = None
@@ -168,8 +168,8 @@ part_state LetName t = over_after next_map (name_of t) _ _ (λ x. refl)
 part_state (LetAssign x) t = over_if next_map (is_sign g.Assign t) _ _ _ _ refl refl
 part_state (Started x) t =
     over_if next_map (is_sign g.Assign t) _ _ _ _ refl
-      (over_if next_map (is_sign g.BracketOpen t) _ _ _ _ refl
-         (over_if next_map (is_sign g.ParenOpen t) _ _ _ _ refl refl))
+    (over_if next_map (is_sign g.BracketOpen t) _ _ _ _ refl
+    (over_if next_map (is_sign g.ParenOpen t) _ _ _ _ refl refl))
 part_state (RightOf target) t = over_if next_map (is_keyword w.Spawn t) _ _ _ _ refl (value_map target t (name_of t))
 part_state (RightNamed target f) t =
     over_if next_map (is_sign g.ParenOpen t) _ _ _ _ refl (read_map (Value target) (expression.Named f (record { nodes = 1; unary = 0; brackets = 0 }) []) t)

@@ -4,7 +4,6 @@ use Rattle.std.specs.List.{AllByRecursion}
 use Rattle.std.proofs.lemmas.List.{map-append}
 use Rattle.loom_tree.specs.declared.token.Keyword.{Keyword}
 use Rattle.loom_tree.specs.declared.token.Keyword.TheVariants as w
-use Rattle.loom_tree.specs.declared.token.Sign.{Sign}
 use Rattle.loom_tree.specs.declared.token.Sign.TheVariants as g
 use Rattle.loom_tree.specs.Token.{Token}
 use Rattle.loom_tree.specs.Tree.{Right, Simple}
@@ -12,9 +11,9 @@ use Rattle.loom_expression.specs.Written.{Text, tokens, IsWritten}
 use Rattle.loom_expression.specs.Machine as expression
 use Rattle.loom_expression.specs.Machine.{after, is_whole, written}
 use Rattle.loom_expression.proofs.Sound as sound
-use Rattle.loom_syntax.specs.Written.{in_parens, with_commas, arguments, right_tokens, simple_tokens, test_tokens, ended, IsRight, IsSimple, deepest_block}
-use Rattle.loom_syntax.specs.Tests.{is_keyword, is_sign, name_of}
-use Rattle.loom_syntax.specs.Part.{Target, Let, Set, Goal, Call, RightCall, RightSpawn, Sync, Lock, Unlock, Down, Up, Test, If, While, Purpose, Value, Argument, Index, CellValue, Condition, Return, Join, Print, Part, LetName, LetAssign, Started, RightOf, RightNamed, SpawnName, SpawnOpen, SyncName, TestOpen, Arguments, Returned, SetAssign, Reading, Ending, TestBrace, PartNext, Goes, Ends, Opens, assigned, applied, synced, closes, argued, closed, ends_here, read_step, begin_test, begin_keyword, begin_part, started, right_value, right_of, right_named, arguments_step, return_step, part_step}
+use Rattle.loom_syntax.specs.Written.{with_commas, arguments, right_tokens, simple_tokens, test_tokens, ended, IsRight, IsSimple, deepest_block}
+use Rattle.loom_syntax.specs.Tests.{is_sign, name_of}
+use Rattle.loom_syntax.specs.Part.{Target, Let, Set, Goal, Call, RightCall, RightSpawn, Sync, Lock, Unlock, Down, Up, Test, If, While, Purpose, Value, Argument, Index, CellValue, Condition, Return, Join, Print, Part, LetName, LetAssign, Started, RightOf, RightNamed, SpawnName, SpawnOpen, SyncName, TestOpen, Arguments, Returned, SetAssign, Reading, Ending, TestBrace, PartNext, Goes, Ends, Opens, assigned, applied, synced, closes, argued, closed, ends_here, read_step, begin_test, begin_keyword, begin_part, right_value, arguments_step, part_step}
 use Rattle.loom_syntax.proofs.Choices.{sign_is, choose, if_keyword, if_sign, if_name}
 use Rattle.loom_syntax.proofs.HeadSound.{before_comma, commas_more, before_more}
 
@@ -165,15 +164,15 @@ argued_good n goal before e t all ok = go (is_sign g.Comma t) refl
         → Reads n (closed_read (Argument goal before) e) t (if v then Goes (Reading (Argument goal (before ++ e ∷ [])) expression.start) else Goes (Ending (applied goal (before ++ e ∷ []))))
     go true is c =
         subst (λ z. Reads n (closed_read (Argument goal before) e) z (Goes (Reading (Argument goal (before ++ e ∷ [])) expression.start))) (sym (sign_is g.Comma t is))
-          ((more, sound.start_good), rw (before_tokens before e) (simp (append_assoc, append-nil)))
+        ((more, sound.start_good), rw (before_tokens before e) (simp (append_assoc, append-nil)))
     go false is c =
         subst (λ z. Reads n (closed_read (Argument goal before) e) z (Goes (Ending (applied goal (before ++ e ∷ []))))) (sym (sign_is g.ParenClose t c))
-          (applied_good goal (before ++ e ∷ []) more, rw (applied_tokens goal (before ++ e ∷ []), commas_tokens before e) (simp append_assoc))
+        (applied_good goal (before ++ e ∷ []) more, rw (applied_tokens goal (before ++ e ∷ []), commas_tokens before e) (simp append_assoc))
 
 pub closed_good : (n : ℕ) (p : Purpose Text) (e : Text) (t : Token) → GoodPurpose n p → IsWritten e → closes p t ≡ true → Reads n (closed_read p e) t (closed p e t)
 closed_good n (Value target) e t ok good is =
     subst (λ z. Reads n (closed_read (Value target) e) z (Ends (assigned target (Right.value e)))) (sym (sign_is g.Semicolon t is))
-      (assigned_good target (Right.value e) good, ap ended (assigned_tokens target (Right.value e)))
+    (assigned_good target (Right.value e) good, ap ended (assigned_tokens target (Right.value e)))
 closed_good n (Argument goal before) e t ok good is = argued_good n goal before e t ok good is
 closed_good n (Index x) e t ok good is =
     subst (λ z. Reads n (closed_read (Index x) e) z (Goes (SetAssign x e))) (sym (sign_is g.BracketClose t is)) (good, refl)
@@ -196,10 +195,10 @@ ends_closes p s t is = go (is_whole s) is
 pub read_good : (n : ℕ) (p : Purpose Text) (s : expression.State Text) (t : Token) → GoodPurpose n p → sound.GoodState s → IfSome (read_step written p s t) (Reads n (read (Reading p s)) t)
 read_good n p s t ok good =
     choose (ends_here p s t) _ _ (Reads n (read (Reading p s)) t)
-      (λ is. after_good (expression.finish written s) (λ e. closed p e t) (sound.Spells (sound.read s)) (Reads n (read (Reading p s)) t) (sound.finish_good s good)
-         (λ e spells. subst (λ ts. Reads n (purpose_read p ++ ts) t (closed p e t)) spells.1 (closed_good n p e t ok spells.0 (ends_closes p s t is))))
-      (λ is. after_good (expression.step written s t) (λ s'. Goes (Reading p s')) (sound.Reads (sound.read s) t) (Reads n (read (Reading p s)) t) (sound.step_good s t good)
-         (λ s' reads. ((ok, reads.0), ap (λ ts. purpose_read p ++ ts) reads.1 ∙ sym (append_assoc (purpose_read p) (sound.read s) (t ∷ [])))))
+    (λ is. after_good (expression.finish written s) (λ e. closed p e t) (sound.Spells (sound.read s)) (Reads n (read (Reading p s)) t) (sound.finish_good s good)
+    (λ e spells. subst (λ ts. Reads n (purpose_read p ++ ts) t (closed p e t)) spells.1 (closed_good n p e t ok spells.0 (ends_closes p s t is))))
+    (λ is. after_good (expression.step written s t) (λ s'. Goes (Reading p s')) (sound.Reads (sound.read s) t) (Reads n (read (Reading p s)) t) (sound.step_good s t good)
+    (λ s' reads. ((ok, reads.0), ap (λ ts. purpose_read p ++ ts) reads.1 ∙ sym (append_assoc (purpose_read p) (sound.read s) (t ∷ [])))))
 
 -- the first token of an expression
 pub first_good : (n : ℕ) (p : Purpose Text) (t : Token) → GoodPurpose n p → IfSome (read_step written p expression.start t) (Reads n (purpose_read p) t)
@@ -257,12 +256,12 @@ step_good n LetName t ok = if_name t _ (Reads n (read LetName)) (λ x. (tt, refl
 step_good n (LetAssign x) t ok = if_sign g.Assign t _ _ (Reads n (read (LetAssign x))) (tt, refl) tt
 step_good n (Started x) t ok =
     if_sign g.Assign t _ _ (Reads n (read (Started x))) (tt, refl)
-      (if_sign g.BracketOpen t _ _ (Reads n (read (Started x))) ((tt, sound.start_good), refl)
-         (if_sign g.ParenOpen t _ _ (Reads n (read (Started x))) (tt, refl) tt))
+    (if_sign g.BracketOpen t _ _ (Reads n (read (Started x))) ((tt, sound.start_good), refl)
+    (if_sign g.ParenOpen t _ _ (Reads n (read (Started x))) (tt, refl) tt))
 step_good n (RightOf target) t ok = if_keyword w.Spawn t _ _ (Reads n (read (RightOf target))) (tt, refl) (value_good n target t)
 step_good n (RightNamed target f) t ok =
     if_sign g.ParenOpen t _ _ (Reads n (read (RightNamed target f))) (tt, refl)
-      (read_good n (Value target) (expression.Named f (record { nodes = 1; unary = 0; brackets = 0 }) []) t tt sound.start_good)
+    (read_good n (Value target) (expression.Named f (record { nodes = 1; unary = 0; brackets = 0 }) []) t tt sound.start_good)
 step_good n (SpawnName target) t ok = if_name t _ (Reads n (read (SpawnName target))) (λ f. (tt, simp append_assoc))
 step_good n (SpawnOpen target f) t ok = if_sign g.ParenOpen t _ _ (Reads n (read (SpawnOpen target f))) (tt, refl) tt
 step_good n (SyncName sync) t ok = if_name t _ (Reads n (read (SyncName sync))) (λ x. (synced_good sync x, synced_tokens sync x))

@@ -1,7 +1,6 @@
 -- Each statement is read up to its end or its block, and each good part has an end.
-use Rattle.std.proofs.Common.{ℕ, ◌<◌, ◌≡◌, List, [], ◌∷◌, ◌++◌, map, Option, Some, None, Bool, true, false, if◌then◌else◌, refl, sym, ap, subst, ◌∙◌, append_assoc, append-nil, IfSome}
+use Rattle.std.proofs.Common.{ℕ, ◌≡◌, List, [], ◌∷◌, ◌++◌, map, Option, Some, None, Bool, true, false, if◌then◌else◌, refl, sym, ap, ◌∙◌, append_assoc, IfSome}
 use Rattle.std.specs.List.{AllByRecursion}
-use Rattle.loom_tree.specs.declared.token.Keyword.TheVariants as w
 use Rattle.loom_tree.specs.declared.token.Sign.{Sign}
 use Rattle.loom_tree.specs.declared.token.Sign.TheVariants as g
 use Rattle.loom_tree.specs.Token.{Token}
@@ -13,8 +12,8 @@ use Rattle.loom_expression.proofs.Sound as sound
 use Rattle.loom_expression.proofs.Whole.{completes}
 use Rattle.loom_expression.proofs.Viable.{completion, whole_paren, whole_bracket, outside_none}
 use Rattle.loom_syntax.specs.Written.{behind_commas, with_commas, simple_tokens, ended, IsSimple}
-use Rattle.loom_syntax.specs.Tests.{is_keyword, is_sign, name_of}
-use Rattle.loom_syntax.specs.Part.{Target, Let, Set, Goal, Call, RightCall, RightSpawn, Sync, Lock, Test, If, While, Purpose, Value, Argument, Index, CellValue, Condition, Return, Join, Print, Part, LetName, LetAssign, Started, RightOf, RightNamed, SpawnName, SpawnOpen, SyncName, TestOpen, Arguments, Returned, SetAssign, Reading, Ending, TestBrace, PartNext, Goes, Ends, Opens, assigned, applied, synced, closes, argued, closed, ends_here, read_step, begin_part, part_step}
+use Rattle.loom_syntax.specs.Tests.{is_sign}
+use Rattle.loom_syntax.specs.Part.{Target, Let, Set, Goal, Call, RightCall, RightSpawn, Sync, Lock, Test, Purpose, Value, Argument, Index, CellValue, Condition, Return, Join, Print, Part, LetName, LetAssign, Started, RightOf, RightNamed, SpawnName, SpawnOpen, SyncName, TestOpen, Arguments, Returned, SetAssign, Reading, Ending, TestBrace, PartNext, Goes, Ends, Opens, assigned, applied, synced, closes, closed, ends_here, read_step, begin_part, part_step}
 use Rattle.loom_syntax.proofs.Choices.{sign_is}
 use Rattle.loom_syntax.proofs.PartSound.{Good}
 
@@ -90,7 +89,7 @@ pub expression_run : (p : Purpose Text) (e : Text) (t : Token) (rest : List Toke
 expression_run p e t rest ok is =
     let c = completes e ok in
     run_append (Goes (Reading p expression.start)) (tokens e) (t ∷ rest)
-      ∙ rw (fed_run p expression.start c.last (tokens e) sound.start_good c.is.runs) (ap (λ o. after o (λ m. run m rest)) (read_to p c.last e t c.is.whole c.is.done is))
+    ∙ rw (fed_run p expression.start c.last (tokens e) sound.start_good c.is.runs) (ap (λ o. after o (λ m. run m rest)) (read_to p c.last e t c.is.whole c.is.done is))
 
 -- the first token of an expression
 pub record Front (e : Text) : Type 0 where
@@ -135,21 +134,21 @@ pub later_run : (goal : Goal) (before : List Text) (e : Text) (es : List Text) �
 later_run goal before e [] ok all = expression_run (Argument goal before) e (Token.sign g.ParenClose) [] ok refl
 later_run goal before e (e' ∷ es) ok all =
     expression_run (Argument goal before) e (Token.sign g.Comma) ((tokens e' ++ behind_commas (map tokens es)) ++ Token.sign g.ParenClose ∷ []) ok refl
-      ∙ ap (run (Goes (Reading (Argument goal (before ++ e ∷ [])) expression.start))) (append_assoc (tokens e') (behind_commas (map tokens es)) (Token.sign g.ParenClose ∷ []))
-      ∙ later_run goal (before ++ e ∷ []) e' es all.0 all.1
-      ∙ ap (λ z. Some (Goes (Ending (applied goal z)))) (append_assoc before (e ∷ []) (e' ∷ es))
+    ∙ ap (run (Goes (Reading (Argument goal (before ++ e ∷ [])) expression.start))) (append_assoc (tokens e') (behind_commas (map tokens es)) (Token.sign g.ParenClose ∷ []))
+    ∙ later_run goal (before ++ e ∷ []) e' es all.0 all.1
+    ∙ ap (λ z. Some (Goes (Ending (applied goal z)))) (append_assoc before (e ∷ []) (e' ∷ es))
 
 pub arguments_run : (goal : Goal) (es : List Text) → AllByRecursion IsWritten es → run (Goes (Arguments goal)) (with_commas (map tokens es) ++ Token.sign g.ParenClose ∷ []) ≡ Some (Goes (Ending (applied goal es)))
 arguments_run goal [] all = refl
 arguments_run goal (e ∷ es) all =
     ap (run (Goes (Arguments goal))) (append_assoc (tokens e) (behind_commas (map tokens es)) (Token.sign g.ParenClose ∷ []))
-      ∙ first_same (Arguments goal) (Argument goal []) e (behind_commas (map tokens es) ++ Token.sign g.ParenClose ∷ []) all.0 (λ t s is. rw (begins_not g.ParenClose t expression.start s refl is) refl)
-      ∙ later_run goal [] e es all.0 all.1
+    ∙ first_same (Arguments goal) (Argument goal []) e (behind_commas (map tokens es) ++ Token.sign g.ParenClose ∷ []) all.0 (λ t s is. rw (begins_not g.ParenClose t expression.start s refl is) refl)
+    ∙ later_run goal [] e es all.0 all.1
 
 pub goal_run : (goal : Goal) (es : List Text) → AllByRecursion IsWritten es → run (Goes (Arguments goal)) (ended (with_commas (map tokens es) ++ Token.sign g.ParenClose ∷ [])) ≡ Some (Ends (applied goal es))
 goal_run goal es all =
     run_append (Goes (Arguments goal)) (with_commas (map tokens es) ++ Token.sign g.ParenClose ∷ []) (Token.sign g.Semicolon ∷ [])
-      ∙ rw (arguments_run goal es all) refl
+    ∙ rw (arguments_run goal es all) refl
 
 -- the right of `=`
 
@@ -200,13 +199,13 @@ pub cell_run : (x : List ℕ) (i e : Text) → IsWritten i → IsWritten e
     → run (Goes (Reading (Index x) expression.start)) (ended (tokens i ++ Token.sign g.BracketClose ∷ Token.sign g.Assign ∷ tokens e)) ≡ Some (Ends (Simple.set_cell x i e))
 cell_run x i e oki oke =
     ap (run (Goes (Reading (Index x) expression.start))) (append_assoc (tokens i) (Token.sign g.BracketClose ∷ Token.sign g.Assign ∷ tokens e) (Token.sign g.Semicolon ∷ []))
-      ∙ expression_run (Index x) i (Token.sign g.BracketClose) (Token.sign g.Assign ∷ ended (tokens e)) oki refl
-      ∙ expression_run (CellValue x i) e (Token.sign g.Semicolon) [] oke refl
+    ∙ expression_run (Index x) i (Token.sign g.BracketClose) (Token.sign g.Assign ∷ ended (tokens e)) oki refl
+    ∙ expression_run (CellValue x i) e (Token.sign g.Semicolon) [] oke refl
 
 pub return_run : (e : Text) → IsWritten e → run (Goes Returned) (ended (tokens e)) ≡ Some (Ends (Simple.return (Some e)))
 return_run e ok =
     first_same Returned Return e (Token.sign g.Semicolon ∷ []) ok (λ t s is. rw (begins_not g.Semicolon t expression.start s refl is) refl)
-      ∙ expression_run Return e (Token.sign g.Semicolon) [] ok refl
+    ∙ expression_run Return e (Token.sign g.Semicolon) [] ok refl
 
 pub readable : (s : Simple Text) → IsSimple s → IsReadable s
 readable (Simple.let_ x (Right.value e)) ok = record { first = _; rest = _; part = LetName; is = refl; begins = λ room. refl; runs = right_run (Let x) e ok }
@@ -267,7 +266,7 @@ ending_settled s = behind (Ending s) (Token.sign g.Semicolon) (Ends s) refl (at_
 pub cell_settled : (x : List ℕ) (i : Text) → Settled (Goes (SetAssign x i))
 cell_settled x i =
     behind (SetAssign x i) (Token.sign g.Assign) (Goes (Reading (CellValue x i) expression.start)) refl
-      (reading_settled (CellValue x i) expression.start (Token.sign g.Semicolon) sound.start_good refl (λ e. at_end (Ends (Simple.set_cell x i e)) tt))
+    (reading_settled (CellValue x i) expression.start (Token.sign g.Semicolon) sound.start_good refl (λ e. at_end (Ends (Simple.set_cell x i e)) tt))
 
 pub brace_settled : (test : Test) (e : Text) → Settled (Goes (TestBrace test e))
 brace_settled test e = behind (TestBrace test e) (Token.sign g.BraceOpen) (Opens test e) refl (at_end (Opens test e) tt)

@@ -1,6 +1,6 @@
 -- What the reader over trees tells of files.
 use Rattle.std.proofs.Common.{ℕ, ◌+◌, ◌≤◌, ◌<◌, ◌≡◌, List, [], ◌∷◌, ◌++◌, map, length, take, get_or, Option, Some, None, refl, sym, ap, subst, ◌∙◌, arith}
-use Rattle.std.proofs.lemmas.List.{take_more, take-map, get_or-map, length-map}
+use Rattle.std.proofs.lemmas.List.{take_more, take-map, length-map}
 use Rattle.std.proofs.Math.Seq.{take-length}
 use Rattle.loom_tree.specs.declared.token.Token as rust
 use Rattle.loom_tree.specs.Token.{Placed, placed_of}

@@ -1,5 +1,5 @@
 -- What the reader of files keeps: it has read just the tokens that it was given.
-use Rattle.std.proofs.Common.{ℕ, suc, ◌<◌, ◌≡◌, List, [], ◌∷◌, ◌++◌, map, length, Option, Some, None, Bool, true, false, nat_lt, if◌then◌else◌, refl, sym, ap, subst, ◌∙◌, append_assoc, append-nil, IfSome}
+use Rattle.std.proofs.Common.{ℕ, suc, ◌<◌, ◌≡◌, List, [], ◌∷◌, ◌++◌, length, Option, Some, None, refl, sym, ap, subst, ◌∙◌, append_assoc, append-nil, IfSome}
 use Rattle.std.specs.List.{AllByRecursion, flat_map}
 use Rattle.std.proofs.lemmas.Bool.{ltb-true}
 use Rattle.std.proofs.lemmas.List.{map-append}
@@ -7,17 +7,14 @@ use Rattle.std.proofs.lemmas.Grind.{flat_map-append}
 use Rattle.loom_tree.specs.declared.token.Keyword.TheVariants as w
 use Rattle.loom_tree.specs.declared.token.Sign.TheVariants as g
 use Rattle.loom_tree.specs.Token.{Token, Placed}
-use Rattle.loom_tree.specs.Tree.{Simple}
 use Rattle.loom_expression.specs.Written.{Text, IsWritten}
 use Rattle.loom_expression.specs.Machine as expression
 use Rattle.loom_expression.specs.Machine.{after}
-use Rattle.loom_syntax.specs.Written.{Mark, on, at, Fits, Spells, Block, Declaration, Item, declared, func, simple_tokens, test_tokens, declaration_tokens, head_tokens, begun, ended, in_braces, block_marks, item_marks, deepest_block, IsSimple, IsBlock, IsDeclaration, IsItem}
+use Rattle.loom_syntax.specs.Written.{Mark, on, at, Fits, Spells, Block, Item, declared, func, simple_tokens, test_tokens, declaration_tokens, head_tokens, begun, ended, in_braces, block_marks, item_marks, deepest_block, IsSimple, IsBlock, IsItem}
 use Rattle.loom_syntax.specs.Tests.{is_keyword, is_sign}
-use Rattle.loom_syntax.specs.Head as head
-use Rattle.loom_syntax.specs.Head.{Head, HeadNext, begin_item, head_step}
-use Rattle.loom_syntax.specs.Part as part
-use Rattle.loom_syntax.specs.Part.{Test, If, While, Part, PartNext, begin_part, part_step}
-use Rattle.loom_syntax.specs.Machine.{Around, Then, Else, Loop, Opened, Point, Start, AfterIf, ElseBrace, Within, Inside, At, InsideNext, Goes, Ends, Header, State, Between, Heading, InFunction, start, close, room, shut_in, shut, around, parted, statement_step, inside_step, headed, insided, step, run, Piece, simple, if_, if_else, while_, chain, written}
+use Rattle.loom_syntax.specs.Head.{HeadNext, begin_item, head_step}
+use Rattle.loom_syntax.specs.Part.{Test, If, While, PartNext, begin_part, part_step}
+use Rattle.loom_syntax.specs.Machine.{Around, Then, Else, Loop, Opened, Point, Start, AfterIf, ElseBrace, Within, Inside, At, InsideNext, Goes, Ends, Header, State, Between, Heading, InFunction, close, room, shut_in, shut, around, parted, statement_step, inside_step, headed, insided, step, run, Piece, simple, if_, if_else, while_, chain, written}
 use Rattle.loom_syntax.proofs.Choices.{keyword_is, sign_is, choose}
 use Rattle.loom_syntax.proofs.HeadSound as in_head
 use Rattle.loom_syntax.proofs.PartSound as in_part
@@ -202,14 +199,16 @@ pub shut_in_good : (a : Block) (inner : List Mark) (l : ℕ) (r : Around Text Bl
     → Reads ((before_marks os ss ++ around_marks l r) ++ inner) p (Goes (shut_in written a l r ss os))
 shut_in_good a inner l (Then e) ss os p is fits good h all opens =
     ((opens, all, (h.0, h.1, good)), adds_on (Token.sign g.BraceClose) p ((before_marks os ss ++ around_marks l (Then e)) ++ inner) _ fits (then_marks (before_marks os ss) inner l e a is))
-shut_in_good a inner l (Else e first) ss os p is fits good h all opens =
-    ((opens, all_more (IsPiece (suc (length os))) ss (if_else l e first a) all (h.0, h.1, h.2, good), tt),
-     adds_on (Token.sign g.BraceClose) p ((before_marks os ss ++ around_marks l (Else e first)) ++ inner) _ fits
-       (append-nil (before_marks os (ss ++ if_else l e first a ∷ [])) ∙ before_more os ss (if_else l e first a) ∙ else_marks (before_marks os ss) inner l e first a is))
-shut_in_good a inner l (Loop e) ss os p is fits good h all opens =
-    ((opens, all_more (IsPiece (suc (length os))) ss (while_ l e a) all (h.0, h.1, good), tt),
-     adds_on (Token.sign g.BraceClose) p ((before_marks os ss ++ around_marks l (Loop e)) ++ inner) _ fits
-       (append-nil (before_marks os (ss ++ while_ l e a ∷ [])) ∙ before_more os ss (while_ l e a) ∙ loop_marks (before_marks os ss) inner l e a is))
+shut_in_good a inner l (Else e first) ss os p is fits good h all opens = (
+  (opens, all_more (IsPiece (suc (length os))) ss (if_else l e first a) all (h.0, h.1, h.2, good), tt),
+  adds_on (Token.sign g.BraceClose) p ((before_marks os ss ++ around_marks l (Else e first)) ++ inner) _ fits
+      (append-nil (before_marks os (ss ++ if_else l e first a ∷ [])) ∙ before_more os ss (if_else l e first a) ∙ else_marks (before_marks os ss) inner l e first a is),
+)
+shut_in_good a inner l (Loop e) ss os p is fits good h all opens = (
+  (opens, all_more (IsPiece (suc (length os))) ss (while_ l e a) all (h.0, h.1, good), tt),
+  adds_on (Token.sign g.BraceClose) p ((before_marks os ss ++ around_marks l (Loop e)) ++ inner) _ fits
+      (append-nil (before_marks os (ss ++ while_ l e a ∷ [])) ∙ before_more os ss (while_ l e a) ∙ loop_marks (before_marks os ss) inner l e a is),
+)
 
 pub shut_good : (os : List (Opened Text Piece Block)) (ss : List Piece) (p : Placed) → p.token ≡ Token.sign g.BraceClose → GoodOpens os → AllByRecursion (IsPiece (suc (length os))) ss
     → Reads (before_marks os ss) p (shut written (close written ss) os)
@@ -222,11 +221,13 @@ pub statement_good : (os : List (Opened Text Piece Block)) (ss : List Piece) (p 
     → IfSome (statement_step written os ss p) (Reads (before_marks os ss) p)
 statement_good os ss p opens all =
     choose (is_sign g.BraceClose p.token) _ _ (Reads (before_marks os ss) p)
-      (λ is. shut_good os ss p (sign_is g.BraceClose p.token is) opens all)
-      (λ is. after_good (begin_part (room os) p.token) (λ q. Goes (At os ss (Within p.line q))) (λ q. in_part.Good (suc (length os)) q × (in_part.read q ≡ p.token ∷ [])) (Reads (before_marks os ss) p)
-         (in_part.begin_good (suc (length os)) (room os) p.token (λ v. ltb-true (suc (length os)) deepest_block v))
-         (λ q h. ((opens, all, (h.0, full_more [] (in_part.read q) p.token h.1)),
-            adds_from (before_marks os ss ++ []) (before_marks os ss) p _ (append-nil (before_marks os ss)) (adds_behind (before_marks os ss) [] p (begun p.line (in_part.read q)) (begun_one p (in_part.read q) h.1)))))
+    (λ is. shut_good os ss p (sign_is g.BraceClose p.token is) opens all)
+    (λ is. after_good (begin_part (room os) p.token) (λ q. Goes (At os ss (Within p.line q))) (λ q. in_part.Good (suc (length os)) q × (in_part.read q ≡ p.token ∷ [])) (Reads (before_marks os ss) p)
+    (in_part.begin_good (suc (length os)) (room os) p.token (λ v. ltb-true (suc (length os)) deepest_block v))
+    (λ q h. (
+      (opens, all, (h.0, full_more [] (in_part.read q) p.token h.1)),
+      adds_from (before_marks os ss ++ []) (before_marks os ss) p _ (append-nil (before_marks os ss)) (adds_behind (before_marks os ss) [] p (begun p.line (in_part.read q)) (begun_one p (in_part.read q) h.1)),
+    )))
 
 -- a token of a statement
 
@@ -240,19 +241,22 @@ around_good n While e h k = (h, k)
 
 pub parted_good : (os : List (Opened Text Piece Block)) (ss : List Piece) (l : ℕ) (ts : List Token) (p : Placed) (n : PartNext Text) → Full ts → GoodOpens os → AllByRecursion (IsPiece (suc (length os))) ss
     → in_part.Reads (suc (length os)) ts p.token n → Reads (before_marks os ss ++ begun l ts) p (Goes (parted written os ss l n))
-parted_good os ss l ts p (PartNext.Goes q) full opens all h =
-    ((opens, all, (h.0, full_more ts (in_part.read q) p.token h.1)),
-     adds_behind (before_marks os ss) (begun l ts) p (begun l (in_part.read q)) (adds_on p.token p (begun l ts) (begun l (in_part.read q)) refl (begun_more l ts (in_part.read q) p.token full h.1)))
-parted_good os ss l ts p (PartNext.Ends s) full opens all h =
-    ((opens, all_more (IsPiece (suc (length os))) ss (simple l s) all h.0, tt),
-     adds_on p.token p (before_marks os ss ++ begun l ts) _ refl
-       (append-nil (before_marks os (ss ++ simple l s ∷ [])) ∙ before_more os ss (simple l s) ∙ ap (λ z. before_marks os ss ++ z) (begun_more l ts (ended (simple_tokens s)) p.token full h.1) ∙ sym (append_assoc (before_marks os ss) (begun l ts) (on p.token ∷ []))))
-parted_good os ss l ts p (PartNext.Opens test e) full opens all h =
-    ((((around_good (suc (length os)) test e h.0.0 h.0.1, all, opens)), tt, tt),
-     adds_on p.token p (before_marks os ss ++ begun l ts) _ refl
-       (append-nil (before_marks (record { line = l; around = around test e; before = ss } ∷ os) []) ∙ append-nil (opens_marks (record { line = l; around = around test e; before = ss } ∷ os))
-          ∙ ap (λ z. before_marks os ss ++ z) (around_is l test e ∙ sym (begun_more l (test_tokens (test_word test) e) (test_tokens (test_word test) e ++ Token.sign g.BraceOpen ∷ []) (Token.sign g.BraceOpen) tt refl) ∙ begun_more l ts (test_tokens (test_word test) e ++ Token.sign g.BraceOpen ∷ []) p.token full h.1)
-          ∙ sym (append_assoc (before_marks os ss) (begun l ts) (on p.token ∷ []))))
+parted_good os ss l ts p (PartNext.Goes q) full opens all h = (
+  (opens, all, (h.0, full_more ts (in_part.read q) p.token h.1)),
+  adds_behind (before_marks os ss) (begun l ts) p (begun l (in_part.read q)) (adds_on p.token p (begun l ts) (begun l (in_part.read q)) refl (begun_more l ts (in_part.read q) p.token full h.1)),
+)
+parted_good os ss l ts p (PartNext.Ends s) full opens all h = (
+  (opens, all_more (IsPiece (suc (length os))) ss (simple l s) all h.0, tt),
+  adds_on p.token p (before_marks os ss ++ begun l ts) _ refl
+      (append-nil (before_marks os (ss ++ simple l s ∷ [])) ∙ before_more os ss (simple l s) ∙ ap (λ z. before_marks os ss ++ z) (begun_more l ts (ended (simple_tokens s)) p.token full h.1) ∙ sym (append_assoc (before_marks os ss) (begun l ts) (on p.token ∷ []))),
+)
+parted_good os ss l ts p (PartNext.Opens test e) full opens all h = (
+  (((around_good (suc (length os)) test e h.0.0 h.0.1, all, opens)), tt, tt),
+  adds_on p.token p (before_marks os ss ++ begun l ts) _ refl
+      (append-nil (before_marks (record { line = l; around = around test e; before = ss } ∷ os) []) ∙ append-nil (opens_marks (record { line = l; around = around test e; before = ss } ∷ os))
+      ∙ ap (λ z. before_marks os ss ++ z) (around_is l test e ∙ sym (begun_more l (test_tokens (test_word test) e) (test_tokens (test_word test) e ++ Token.sign g.BraceOpen ∷ []) (Token.sign g.BraceOpen) tt refl) ∙ begun_more l ts (test_tokens (test_word test) e ++ Token.sign g.BraceOpen ∷ []) p.token full h.1)
+      ∙ sym (append_assoc (before_marks os ss) (begun l ts) (on p.token ∷ []))),
+)
 
 -- a token in a function
 
@@ -262,24 +266,25 @@ else_good os ss l e a p h is = (h, adds_on (Token.word w.Else) p (inside_marks (
 
 pub brace_good : (os : List (Opened Text Piece Block)) (ss : List Piece) (l : ℕ) (e : Text) (a : Block) (p : Placed) → GoodInside (At os ss (ElseBrace l e a)) → p.token ≡ Token.sign g.BraceOpen
     → Reads (inside_marks (At os ss (ElseBrace l e a))) p (Goes (At (record { line = l; around = Else e a; before = ss } ∷ os) [] Start))
-brace_good os ss l e a p h is =
-    (((h.2, h.1, h.0), tt, tt),
-     adds_on (Token.sign g.BraceOpen) p (inside_marks (At os ss (ElseBrace l e a))) _ is
-       (append-nil (before_marks (record { line = l; around = Else e a; before = ss } ∷ os) []) ∙ append-nil (opens_marks (record { line = l; around = Else e a; before = ss } ∷ os)) ∙ brace_shape (before_marks os ss) (begun l (test_tokens w.If e)) (in_braces (block_marks a))))
+brace_good os ss l e a p h is = (
+  ((h.2, h.1, h.0), tt, tt),
+  adds_on (Token.sign g.BraceOpen) p (inside_marks (At os ss (ElseBrace l e a))) _ is
+      (append-nil (before_marks (record { line = l; around = Else e a; before = ss } ∷ os) []) ∙ append-nil (opens_marks (record { line = l; around = Else e a; before = ss } ∷ os)) ∙ brace_shape (before_marks os ss) (begun l (test_tokens w.If e)) (in_braces (block_marks a))),
+)
 
 pub inside_good : (i : Inside Text Piece Block) (p : Placed) → GoodInside i → IfSome (inside_step written i p) (Reads (inside_marks i) p)
 inside_good (At os ss Start) p h =
     subst (λ z. IfSome (statement_step written os ss p) (Reads z p)) (sym (append-nil (before_marks os ss))) (statement_good os ss p h.0 h.1)
 inside_good (At os ss (AfterIf l e a)) p h =
     choose (is_keyword w.Else p.token) _ _ (Reads (inside_marks (At os ss (AfterIf l e a))) p)
-      (λ is. else_good os ss l e a p h (keyword_is w.Else p.token is))
-      (λ is. subst (λ z. IfSome (statement_step written os (ss ++ if_ l e a ∷ []) p) (Reads z p)) (before_more os ss (if_ l e a))
-         (statement_good os (ss ++ if_ l e a ∷ []) p h.0 (all_more (IsPiece (suc (length os))) ss (if_ l e a) h.1 h.2)))
+    (λ is. else_good os ss l e a p h (keyword_is w.Else p.token is))
+    (λ is. subst (λ z. IfSome (statement_step written os (ss ++ if_ l e a ∷ []) p) (Reads z p)) (before_more os ss (if_ l e a))
+    (statement_good os (ss ++ if_ l e a ∷ []) p h.0 (all_more (IsPiece (suc (length os))) ss (if_ l e a) h.1 h.2)))
 inside_good (At os ss (ElseBrace l e a)) p h =
     choose (is_sign g.BraceOpen p.token) _ _ (Reads (inside_marks (At os ss (ElseBrace l e a))) p) (λ is. brace_good os ss l e a p h (sign_is g.BraceOpen p.token is)) (λ is. tt)
 inside_good (At os ss (Within l q)) p h =
     after_good (part_step expression.written q p.token) (λ n. Goes (parted written os ss l n)) (in_part.Reads (suc (length os)) (in_part.read q) p.token) (Reads (inside_marks (At os ss (Within l q))) p)
-      (in_part.step_good (suc (length os)) q p.token h.2.0) (λ n r. parted_good os ss l (in_part.read q) p n h.2.1 h.0 h.1 r)
+    (in_part.step_good (suc (length os)) q p.token h.2.0) (λ n r. parted_good os ss l (in_part.read q) p n h.2.1 h.0 h.1 r)
 
 -- a token of a file
 
@@ -287,18 +292,21 @@ abbrev pub Leads : List Mark → Placed → State Text Piece Block Item → Type
 Leads before p s = GoodState s × Adds before p (read s)
 
 pub headed_good : (is : List Item) (l : ℕ) (ts : List Token) (p : Placed) (n : HeadNext) → AllByRecursion IsItem is → Full ts → in_head.Reads ts p.token n → Leads (items_marks is ++ begun l ts) p (headed written is l n)
-headed_good is l ts p (HeadNext.Goes h) all full r =
-    ((all, r.0, full_more ts (in_head.read h) p.token r.1),
-     adds_behind (items_marks is) (begun l ts) p (begun l (in_head.read h)) (adds_on p.token p (begun l ts) (begun l (in_head.read h)) refl (begun_more l ts (in_head.read h) p.token full r.1)))
-headed_good is l ts p (HeadNext.Declares d) all full r =
-    (all_more IsItem is (declared l d) all r.0,
-     adds_on p.token p (items_marks is ++ begun l ts) _ refl
-       (flat_more item_marks is (declared l d) ∙ ap (λ z. items_marks is ++ z) (begun_more l ts (ended (declaration_tokens d)) p.token full r.1) ∙ sym (append_assoc (items_marks is) (begun l ts) (on p.token ∷ []))))
-headed_good is l ts p (HeadNext.Begins f params) all full r =
-    ((all, (tt, tt, tt)),
-     adds_on p.token p (items_marks is ++ begun l ts) _ refl
-       (ap (λ z. items_marks is ++ z) (append-nil (header_marks (record { line = l; name = f; params = params })) ∙ sym (begun_more l (head_tokens f params) (head_tokens f params ++ Token.sign g.BraceOpen ∷ []) (Token.sign g.BraceOpen) tt refl) ∙ begun_more l ts (head_tokens f params ++ Token.sign g.BraceOpen ∷ []) p.token full r.1)
-          ∙ sym (append_assoc (items_marks is) (begun l ts) (on p.token ∷ []))))
+headed_good is l ts p (HeadNext.Goes h) all full r = (
+  (all, r.0, full_more ts (in_head.read h) p.token r.1),
+  adds_behind (items_marks is) (begun l ts) p (begun l (in_head.read h)) (adds_on p.token p (begun l ts) (begun l (in_head.read h)) refl (begun_more l ts (in_head.read h) p.token full r.1)),
+)
+headed_good is l ts p (HeadNext.Declares d) all full r = (
+  all_more IsItem is (declared l d) all r.0,
+  adds_on p.token p (items_marks is ++ begun l ts) _ refl
+      (flat_more item_marks is (declared l d) ∙ ap (λ z. items_marks is ++ z) (begun_more l ts (ended (declaration_tokens d)) p.token full r.1) ∙ sym (append_assoc (items_marks is) (begun l ts) (on p.token ∷ []))),
+)
+headed_good is l ts p (HeadNext.Begins f params) all full r = (
+  (all, (tt, tt, tt)),
+  adds_on p.token p (items_marks is ++ begun l ts) _ refl
+      (ap (λ z. items_marks is ++ z) (append-nil (header_marks (record { line = l; name = f; params = params })) ∙ sym (begun_more l (head_tokens f params) (head_tokens f params ++ Token.sign g.BraceOpen ∷ []) (Token.sign g.BraceOpen) tt refl) ∙ begun_more l ts (head_tokens f params ++ Token.sign g.BraceOpen ∷ []) p.token full r.1)
+      ∙ sym (append_assoc (items_marks is) (begun l ts) (on p.token ∷ []))),
+)
 
 pub insided_good : (is : List Item) (f : Header) (before : List Mark) (p : Placed) (n : InsideNext Text Piece Block) → AllByRecursion IsItem is → Reads before p n → Leads (items_marks is ++ (header_marks f ++ before)) p (insided written is f n)
 insided_good is f before p (Goes i) all r =
@@ -313,8 +321,10 @@ insided_good is f before p (Ends a) all r =
 pub step_good : (s : State Text Piece Block Item) (p : Placed) → GoodState s → IfSome (step written s p) (Leads (read s) p)
 step_good (Between is) p h =
     after_good (begin_item p.token) (λ d. Heading is p.line d) (λ d. in_head.Good d × (in_head.read d ≡ p.token ∷ [])) (Leads (items_marks is) p) (in_head.begin_good p.token)
-      (λ d r. ((h, r.0, full_more [] (in_head.read d) p.token r.1),
-         adds_from (items_marks is ++ []) (items_marks is) p _ (append-nil (items_marks is)) (adds_behind (items_marks is) [] p (begun p.line (in_head.read d)) (begun_one p (in_head.read d) r.1))))
+    (λ d r. (
+      (h, r.0, full_more [] (in_head.read d) p.token r.1),
+      adds_from (items_marks is ++ []) (items_marks is) p _ (append-nil (items_marks is)) (adds_behind (items_marks is) [] p (begun p.line (in_head.read d)) (begun_one p (in_head.read d) r.1)),
+    ))
 step_good (Heading is l d) p h =
     after_good (head_step d p.token) (λ n. headed written is l n) (in_head.Reads (in_head.read d) p.token) (Leads (read (Heading is l d)) p) (in_head.step_good d p.token h.1) (λ n r. headed_good is l (in_head.read d) p n h.0 h.2 r)
 step_good (InFunction is f i) p h =

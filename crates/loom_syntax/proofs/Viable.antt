@@ -1,15 +1,13 @@
 -- What the reader takes begins a file, and what it refuses begins none.
-use Rattle.std.proofs.Common.{ℕ, ◌<◌, ◌≡◌, List, [], ◌∷◌, ◌++◌, map, Option, Some, None, refl, sym, ap, subst, ◌∙◌, IfSome}
-use Rattle.std.specs.List.{AllByRecursion, flat_map}
+use Rattle.std.proofs.Common.{ℕ, ◌≡◌, List, [], ◌∷◌, ◌++◌, map, Some, None, refl, sym, ap, subst, ◌∙◌, IfSome}
 use Rattle.loom_tree.specs.declared.token.Sign.TheVariants as g
 use Rattle.loom_tree.specs.Token.{Token, Placed}
 use Rattle.loom_tree.specs.Tree as tree
 use Rattle.loom_expression.specs.Written.{Text}
-use Rattle.loom_expression.specs.Machine.{after}
-use Rattle.loom_syntax.specs.Written.{Mark, on, at, Spells, Block, none, plus, minus, Declaration, word, array, mutex, sema, Item, item_marks, item_tree, IsItem, IsFile, IsViable}
+use Rattle.loom_syntax.specs.Written.{on, Spells, Block, none, plus, minus, word, array, mutex, sema, Item, item_tree, IsFile, IsViable}
 use Rattle.loom_syntax.specs.Head.{Head, SharedName, SharedNamed, SharedValue, SharedMinus, SharedCells, SharedClose, MutexName, SemaName, SemaNamed, SemaValue, Ending, FnName, FnOpen, FnFirst, FnParam, FnNext, FnBrace, HeadNext, Declares, Begins}
-use Rattle.loom_syntax.specs.Part.{Part, PartNext}
-use Rattle.loom_syntax.specs.Machine.{Around, Then, Else, Loop, Opened, Point, Start, AfterIf, ElseBrace, Within, Inside, At, Header, State, Between, Heading, InFunction, start, close, shut_in, around, parted, headed, step, run, finish, Piece, if_, if_else, while_, written}
+use Rattle.loom_syntax.specs.Part.{PartNext}
+use Rattle.loom_syntax.specs.Machine.{Around, Then, Else, Loop, Opened, Point, Start, AfterIf, ElseBrace, Within, At, Header, State, Between, Heading, InFunction, start, close, shut_in, around, parted, headed, run, finish, Piece, if_, if_else, while_, written}
 use Rattle.loom_syntax.proofs.PartWhole as in_part
 use Rattle.loom_syntax.proofs.PartWhole.{settled}
 use Rattle.loom_syntax.proofs.Sound.{GoodState, Comes, run_good}
@@ -76,11 +74,11 @@ inside_ended is f os ss Start h = start_ended is f os ss
 inside_ended is f os ss (AfterIf l e a) h = shut_ended (InFunction is f (At os ss (AfterIf l e a))) os (if_shuts is f os ss l e a (shuts is f os (ss ++ if_ l e a ∷ [])))
 inside_ended is f os ss (ElseBrace l e a) h =
     ended_behind (InFunction is f (At os ss (ElseBrace l e a))) (InFunction is f (At (record { line = l; around = Else e a; before = ss } ∷ os) [] Start)) (placed (Token.sign g.BraceOpen) ∷ []) refl
-      (start_ended is f (record { line = l; around = Else e a; before = ss } ∷ os) [])
+    (start_ended is f (record { line = l; around = Else e a; before = ss } ∷ os) [])
 inside_ended is f os ss (Within l q) h =
     let s = settled _ q h.1.2.0 in
     ended_behind (InFunction is f (At os ss (Within l q))) (InFunction is f (parted written os ss l s.last)) (map placed s.more)
-      (part_takes is f os ss l (PartNext.Goes q) s.last s.more s.runs (map placed s.more) (placed_spells s.more)) (final_ended is f os ss l s.last s.final)
+    (part_takes is f os ss l (PartNext.Goes q) s.last s.more s.runs (map placed s.more) (placed_spells s.more)) (final_ended is f os ss l s.last s.final)
 
 -- declarations, and functions up to their block
 

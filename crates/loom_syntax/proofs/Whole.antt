@@ -1,21 +1,20 @@
 -- Each written file is read.
-use Rattle.std.proofs.Common.{ℕ, suc, ◌≤◌, ◌<◌, ◌≡◌, List, [], ◌∷◌, ◌++◌, map, length, Option, Some, None, Bool, true, false, nat_le, nat_lt, if◌then◌else◌, refl, sym, ap, subst, ◌∙◌, append_assoc, append-nil, IfSome}
+use Rattle.std.proofs.Common.{ℕ, suc, ◌<◌, ◌≡◌, List, [], ◌∷◌, ◌++◌, map, length, Option, Some, None, Bool, true, false, refl, sym, ap, subst, ◌∙◌, append_assoc, append-nil}
 use Rattle.std.specs.List.{AllByRecursion, flat_map}
 use Rattle.std.proofs.lemmas.Bool.{lt-ltb, le-leb}
 use Rattle.loom_tree.specs.declared.expression.Op.TheVariants as o
 use Rattle.loom_tree.specs.declared.token.Keyword.TheVariants as w
-use Rattle.loom_tree.specs.declared.token.Sign.{Sign}
 use Rattle.loom_tree.specs.declared.token.Sign.TheVariants as g
 use Rattle.loom_tree.specs.Token.{Token, Placed}
 use Rattle.loom_tree.specs.Tree.{Simple}
 use Rattle.loom_expression.specs.Written.{Text, tokens, IsWritten}
 use Rattle.loom_expression.specs.Machine as expression
 use Rattle.loom_expression.specs.Machine.{after}
-use Rattle.loom_syntax.specs.Written.{Mark, on, at, Fits, Spells, Block, Given, none, plus, minus, Declaration, word, array, mutex, sema, Item, declared, func, behind_commas, with_commas, simple_tokens, test_tokens, declaration_tokens, head_tokens, begun, ended, in_braces, block_marks, item_marks, deepest_block, largest_count, IsSimple, IsBlock, IsDeclaration, IsItem}
+use Rattle.loom_syntax.specs.Written.{Mark, on, at, Spells, Block, none, plus, minus, Declaration, word, array, mutex, sema, Item, declared, func, behind_commas, with_commas, simple_tokens, test_tokens, declaration_tokens, head_tokens, begun, ended, in_braces, block_marks, item_marks, deepest_block, largest_count, IsSimple, IsBlock, IsDeclaration, IsItem}
 use Rattle.loom_syntax.specs.Tests.{is_keyword, is_sign}
 use Rattle.loom_syntax.specs.Head.{Head, SharedName, MutexName, SemaName, FnName, FnFirst, FnNext, HeadNext, Declares, Begins, begin_item, head_step}
 use Rattle.loom_syntax.specs.Part.{Test, If, While, Part, TestOpen, PartNext, begin_part, part_step}
-use Rattle.loom_syntax.specs.Machine.{Around, Then, Else, Loop, Opened, Point, Start, AfterIf, ElseBrace, Within, Inside, At, InsideNext, Goes, Ends, Header, State, Between, Heading, InFunction, start, close, room, around, parted, statement_step, inside_step, headed, step, run, Piece, simple, if_, if_else, while_, written}
+use Rattle.loom_syntax.specs.Machine.{Around, Then, Else, Loop, Opened, Start, AfterIf, ElseBrace, Within, At, Header, State, Between, Heading, InFunction, start, close, room, around, parted, headed, step, run, Piece, simple, if_, if_else, while_, written}
 use Rattle.loom_syntax.proofs.Choices.{keyword_is, sign_is}
 use Rattle.loom_syntax.proofs.HeadSound.{named}
 use Rattle.loom_syntax.proofs.PartSound.{test_word}
@@ -133,8 +132,8 @@ function_takes is l f params =
     let same : head_tokens f params ++ Token.sign g.BraceOpen ∷ [] ≡ Token.word w.Fn ∷ rest =
     ap (λ z. Token.word w.Fn ∷ Token.name f ∷ Token.sign g.ParenOpen ∷ z) (append_assoc (with_commas (map named params)) (Token.sign g.ParenClose ∷ []) (Token.sign g.BraceOpen ∷ [])) in
     takes_is (Between is) _ (begun l (Token.word w.Fn ∷ rest)) _
-      (ap (begun l) (sym same) ∙ begun_more l (head_tokens f params) (head_tokens f params ++ Token.sign g.BraceOpen ∷ []) (Token.sign g.BraceOpen) tt refl)
-      (item_takes is l (Token.word w.Fn) FnName (Begins f params) rest refl (params_run f params))
+    (ap (begun l) (sym same) ∙ begun_more l (head_tokens f params) (head_tokens f params ++ Token.sign g.BraceOpen ∷ []) (Token.sign g.BraceOpen) tt refl)
+    (item_takes is l (Token.word w.Fn) FnName (Begins f params) rest refl (params_run f params))
 
 -- statements up to their blocks
 
@@ -178,14 +177,14 @@ pub statement_takes : (is : List Item) (f : Header) (os : List (Opened Text Piec
     → Takes (InFunction is f (At os ss Start)) (begun l (t ∷ ts)) (InFunction is f (parted written os ss l m))
 statement_takes is f os ss l t q m ts h k =
     takes_at (InFunction is f (At os ss Start)) (InFunction is f (At os ss (Within l q))) (InFunction is f (parted written os ss l m)) l t (map on ts) (begins is f os ss l t q h)
-      (part_takes is f os ss l (PartNext.Goes q) m ts k)
+    (part_takes is f os ss l (PartNext.Goes q) m ts k)
 
 pub simple_takes : (is : List Item) (f : Header) (os : List (Opened Text Piece Block)) (ss : List Piece) (l : ℕ) (s : Simple Text) → IsSimple s
     → Takes (InFunction is f (At os ss Start)) (begun l (ended (simple_tokens s))) (InFunction is f (At os (ss ++ simple l s ∷ []) Start))
 simple_takes is f os ss l s ok =
     let r = readable s ok in
     takes_is (InFunction is f (At os ss Start)) (InFunction is f (At os (ss ++ simple l s ∷ []) Start)) (begun l (ended (r.first ∷ r.rest))) (begun l (ended (simple_tokens s))) (ap (λ z. begun l (ended z)) (sym r.is))
-      (statement_takes is f os ss l r.first r.part (PartNext.Ends s) (ended r.rest) (r.begins (room os)) r.runs)
+    (statement_takes is f os ss l r.first r.part (PartNext.Ends s) (ended r.rest) (r.begins (room os)) r.runs)
 
 pub test_begins : (os : List (Opened Text Piece Block)) (test : Test) → suc (length os) < deepest_block → begin_part {A = Text} (room os) (Token.word (test_word test)) ≡ Some (TestOpen test)
 test_begins os If h = rw (lt-ltb (suc (length os)) deepest_block h) refl
@@ -198,8 +197,8 @@ test_takes is f os ss l test e ok h =
     let same : test_tokens (test_word test) e ++ Token.sign g.BraceOpen ∷ [] ≡ Token.word (test_word test) ∷ rest =
     ap (λ z. Token.word (test_word test) ∷ Token.sign g.ParenOpen ∷ z) (append_assoc (tokens e) (Token.sign g.ParenClose ∷ []) (Token.sign g.BraceOpen ∷ [])) in
     takes_is (InFunction is f (At os ss Start)) _ (begun l (Token.word (test_word test) ∷ rest)) _
-      (ap (begun l) (sym same) ∙ begun_more l (test_tokens (test_word test) e) (test_tokens (test_word test) e ++ Token.sign g.BraceOpen ∷ []) (Token.sign g.BraceOpen) tt refl)
-      (statement_takes is f os ss l (Token.word (test_word test)) (TestOpen test) (PartNext.Opens test e) rest (test_begins os test h) (test_run test e ok))
+    (ap (begun l) (sym same) ∙ begun_more l (test_tokens (test_word test) e) (test_tokens (test_word test) e ++ Token.sign g.BraceOpen ∷ []) (Token.sign g.BraceOpen) tt refl)
+    (statement_takes is f os ss l (Token.word (test_word test)) (TestOpen test) (PartNext.Opens test e) rest (test_begins os test h) (test_run test e ok))
 
 -- blocks
 
@@ -262,10 +261,10 @@ loop_append head a rest ms = head_append head a (rest ++ ms) ∙ group head (in_
 
 pub else_append : (head a b rest ms : List Mark)
     → (head ++ on (Token.sign g.BraceOpen) ∷ []) ++ (a ++ on (Token.sign g.BraceClose) ∷ on (Token.word w.Else) ∷ on (Token.sign g.BraceOpen) ∷ (b ++ on (Token.sign g.BraceClose) ∷ (rest ++ ms)))
-      ≡ ((head ++ in_braces a ++ on (Token.word w.Else) ∷ in_braces b) ++ rest) ++ ms
+    ≡ ((head ++ in_braces a ++ on (Token.word w.Else) ∷ in_braces b) ++ rest) ++ ms
 else_append head a b rest ms =
     ap (λ z. (head ++ on (Token.sign g.BraceOpen) ∷ []) ++ (a ++ on (Token.sign g.BraceClose) ∷ on (Token.word w.Else) ∷ z)) (sym (braces_append b (rest ++ ms)))
-      ∙ head_append head a (on (Token.word w.Else) ∷ (in_braces b ++ (rest ++ ms))) ∙ group head (in_braces a) (in_braces b) rest ms
+    ∙ head_append head a (on (Token.word w.Else) ∷ (in_braces b ++ (rest ++ ms))) ∙ group head (in_braces a) (in_braces b) rest ms
   where
     group : (x y v z u : List Mark) → x ++ (y ++ on (Token.word w.Else) ∷ (v ++ (z ++ u))) ≡ ((x ++ y ++ on (Token.word w.Else) ∷ v) ++ z) ++ u
     group x y v z u = simp append_assoc
@@ -281,43 +280,43 @@ pub inner_takes : (a : Block) → IsTaken a → (is : List Item) (f : Header) (l
     → Takes (InFunction is f (At (record { line = l; around = r; before = before } ∷ os) [] Start)) (block_marks a ++ on (Token.sign g.BraceClose) ∷ ms) s'
 inner_takes a ih is f l r before os ms s s' ok closing more =
     ih is f (record { line = l; around = r; before = before } ∷ os) [] (on (Token.sign g.BraceClose) ∷ ms) s' ok refl
-      (takes_on (InFunction is f (At (record { line = l; around = r; before = before } ∷ os) (pieces a) Start)) s s' (Token.sign g.BraceClose) ms closing more)
+    (takes_on (InFunction is f (At (record { line = l; around = r; before = before } ∷ os) (pieces a) Start)) s s' (Token.sign g.BraceClose) ms closing more)
 
 pub more_pieces : (is : List Item) (f : Header) (os : List (Opened Text Piece Block)) (ss : List Piece) (s : Piece) (rest : Block) (ms : List Mark) (s' : State Text Piece Block Item)
     → Takes (InFunction is f (At os (ss ++ s ∷ pieces rest) Start)) ms s' → Takes (InFunction is f (At os ((ss ++ s ∷ []) ++ pieces rest) Start)) ms s'
 more_pieces is f os ss s rest ms s' h =
     takes_from (InFunction is f (At os (ss ++ s ∷ pieces rest) Start)) (InFunction is f (At os ((ss ++ s ∷ []) ++ pieces rest) Start)) s' ms
-      (ap (λ z. InFunction is f (At os z Start)) (sym (append_assoc ss (s ∷ []) (pieces rest)))) h
+    (ap (λ z. InFunction is f (At os z Start)) (sym (append_assoc ss (s ∷ []) (pieces rest)))) h
 
 pub simple_taken : (l : ℕ) (s : Simple Text) (rest : Block) → IsTaken rest → IsTaken (Block.simple l s rest)
 simple_taken l s rest ih is f os ss ms s' ok follows h =
     takes_is (InFunction is f (At os ss Start)) s' (begun l (ended (simple_tokens s)) ++ (block_marks rest ++ ms)) (block_marks (Block.simple l s rest) ++ ms) (sym (append_assoc (begun l (ended (simple_tokens s))) (block_marks rest) ms))
-      (takes_append (InFunction is f (At os ss Start)) (InFunction is f (At os (ss ++ simple l s ∷ []) Start)) s' (begun l (ended (simple_tokens s))) (block_marks rest ++ ms)
-         (simple_takes is f os ss l s ok.0)
-         (ih is f os (ss ++ simple l s ∷ []) ms s' ok.1 follows (more_pieces is f os ss (simple l s) rest ms s' h)))
+    (takes_append (InFunction is f (At os ss Start)) (InFunction is f (At os (ss ++ simple l s ∷ []) Start)) s' (begun l (ended (simple_tokens s))) (block_marks rest ++ ms)
+    (simple_takes is f os ss l s ok.0)
+    (ih is f os (ss ++ simple l s ∷ []) ms s' ok.1 follows (more_pieces is f os ss (simple l s) rest ms s' h)))
 
 pub while_taken : (l : ℕ) (e : Text) (a rest : Block) → IsTaken a → IsTaken rest → IsTaken (Block.while_ l e a rest)
 while_taken l e a rest iha ih is f os ss ms s' ok follows h =
     let o : Opened Text Piece Block = record { line = l; around = Loop e; before = ss } in
     takes_is (InFunction is f (At os ss Start)) s' ((begun l (test_tokens w.While e) ++ on (Token.sign g.BraceOpen) ∷ []) ++ (block_marks a ++ on (Token.sign g.BraceClose) ∷ (block_marks rest ++ ms))) (block_marks (Block.while_ l e a rest) ++ ms)
-      (loop_append (begun l (test_tokens w.While e)) (block_marks a) (block_marks rest) ms)
-      (takes_append (InFunction is f (At os ss Start)) (InFunction is f (At (o ∷ os) [] Start)) s' (begun l (test_tokens w.While e) ++ on (Token.sign g.BraceOpen) ∷ []) (block_marks a ++ on (Token.sign g.BraceClose) ∷ (block_marks rest ++ ms))
-         (test_takes is f os ss l While e ok.0.0 ok.0.1)
-         (inner_takes a iha is f l (Loop e) ss os (block_marks rest ++ ms) (InFunction is f (At os (ss ++ while_ l e a ∷ []) Start)) s' ok.0.2
-            (λ line. ap (λ z. Some (InFunction is f (At os (ss ++ while_ l e z ∷ []) Start))) (pieces_close a))
-            (ih is f os (ss ++ while_ l e a ∷ []) ms s' ok.1 follows (more_pieces is f os ss (while_ l e a) rest ms s' h))))
+    (loop_append (begun l (test_tokens w.While e)) (block_marks a) (block_marks rest) ms)
+    (takes_append (InFunction is f (At os ss Start)) (InFunction is f (At (o ∷ os) [] Start)) s' (begun l (test_tokens w.While e) ++ on (Token.sign g.BraceOpen) ∷ []) (block_marks a ++ on (Token.sign g.BraceClose) ∷ (block_marks rest ++ ms))
+    (test_takes is f os ss l While e ok.0.0 ok.0.1)
+    (inner_takes a iha is f l (Loop e) ss os (block_marks rest ++ ms) (InFunction is f (At os (ss ++ while_ l e a ∷ []) Start)) s' ok.0.2
+    (λ line. ap (λ z. Some (InFunction is f (At os (ss ++ while_ l e z ∷ []) Start))) (pieces_close a))
+    (ih is f os (ss ++ while_ l e a ∷ []) ms s' ok.1 follows (more_pieces is f os ss (while_ l e a) rest ms s' h))))
 
 pub if_taken : (l : ℕ) (e : Text) (a rest : Block) → IsTaken a → IsTaken rest → IsTaken (Block.if_ l e a rest)
 if_taken l e a rest iha ih is f os ss ms s' ok follows h =
     let o : Opened Text Piece Block = record { line = l; around = Then e; before = ss } in
     takes_is (InFunction is f (At os ss Start)) s' ((begun l (test_tokens w.If e) ++ on (Token.sign g.BraceOpen) ∷ []) ++ (block_marks a ++ on (Token.sign g.BraceClose) ∷ (block_marks rest ++ ms))) (block_marks (Block.if_ l e a rest) ++ ms)
-      (loop_append (begun l (test_tokens w.If e)) (block_marks a) (block_marks rest) ms)
-      (takes_append (InFunction is f (At os ss Start)) (InFunction is f (At (o ∷ os) [] Start)) s' (begun l (test_tokens w.If e) ++ on (Token.sign g.BraceOpen) ∷ []) (block_marks a ++ on (Token.sign g.BraceClose) ∷ (block_marks rest ++ ms))
-         (test_takes is f os ss l If e ok.0.0 ok.0.1)
-         (inner_takes a iha is f l (Then e) ss os (block_marks rest ++ ms) (InFunction is f (At os ss (AfterIf l e a))) s' ok.0.2
-            (λ line. ap (λ z. Some (InFunction is f (At os ss (AfterIf l e z)))) (pieces_close a))
-            (if_takes is f os ss l e a (block_marks rest ++ ms) s' (block_no_else (suc (length os)) rest ms ok.1 follows)
-               (ih is f os (ss ++ if_ l e a ∷ []) ms s' ok.1 follows (more_pieces is f os ss (if_ l e a) rest ms s' h)))))
+    (loop_append (begun l (test_tokens w.If e)) (block_marks a) (block_marks rest) ms)
+    (takes_append (InFunction is f (At os ss Start)) (InFunction is f (At (o ∷ os) [] Start)) s' (begun l (test_tokens w.If e) ++ on (Token.sign g.BraceOpen) ∷ []) (block_marks a ++ on (Token.sign g.BraceClose) ∷ (block_marks rest ++ ms))
+    (test_takes is f os ss l If e ok.0.0 ok.0.1)
+    (inner_takes a iha is f l (Then e) ss os (block_marks rest ++ ms) (InFunction is f (At os ss (AfterIf l e a))) s' ok.0.2
+    (λ line. ap (λ z. Some (InFunction is f (At os ss (AfterIf l e z)))) (pieces_close a))
+    (if_takes is f os ss l e a (block_marks rest ++ ms) s' (block_no_else (suc (length os)) rest ms ok.1 follows)
+    (ih is f os (ss ++ if_ l e a ∷ []) ms s' ok.1 follows (more_pieces is f os ss (if_ l e a) rest ms s' h)))))
 
 pub else_taken : (l : ℕ) (e : Text) (a b rest : Block) → IsTaken a → IsTaken b → IsTaken rest → IsTaken (Block.if_else l e a b rest)
 else_taken l e a b rest iha ihb ih is f os ss ms s' ok follows h =
@@ -326,16 +325,16 @@ else_taken l e a b rest iha ihb ih is f os ss ms s' ok follows h =
     let second = block_marks b ++ on (Token.sign g.BraceClose) ∷ behind in
     let first = on (Token.word w.Else) ∷ on (Token.sign g.BraceOpen) ∷ second in
     takes_is (InFunction is f (At os ss Start)) s' ((begun l (test_tokens w.If e) ++ on (Token.sign g.BraceOpen) ∷ []) ++ (block_marks a ++ on (Token.sign g.BraceClose) ∷ first)) (block_marks (Block.if_else l e a b rest) ++ ms)
-      (else_append (begun l (test_tokens w.If e)) (block_marks a) (block_marks b) (block_marks rest) ms)
-      (takes_append (InFunction is f (At os ss Start)) (InFunction is f (At (o ∷ os) [] Start)) s' (begun l (test_tokens w.If e) ++ on (Token.sign g.BraceOpen) ∷ []) (block_marks a ++ on (Token.sign g.BraceClose) ∷ first)
-         (test_takes is f os ss l If e ok.0.0 ok.0.1)
-         (inner_takes a iha is f l (Then e) ss os first (InFunction is f (At os ss (AfterIf l e a))) s' ok.0.2
-            (λ line. ap (λ z. Some (InFunction is f (At os ss (AfterIf l e z)))) (pieces_close a))
-            (takes_on (InFunction is f (At os ss (AfterIf l e a))) (InFunction is f (At os ss (ElseBrace l e a))) s' (Token.word w.Else) (on (Token.sign g.BraceOpen) ∷ second) (λ line. refl)
-               (takes_on (InFunction is f (At os ss (ElseBrace l e a))) (InFunction is f (At (record { line = l; around = Else e a; before = ss } ∷ os) [] Start)) s' (Token.sign g.BraceOpen) second (λ line. refl)
-                  (inner_takes b ihb is f l (Else e a) ss os behind (InFunction is f (At os (ss ++ if_else l e a b ∷ []) Start)) s' ok.0.3
-                     (λ line. ap (λ z. Some (InFunction is f (At os (ss ++ if_else l e a z ∷ []) Start))) (pieces_close b))
-                     (ih is f os (ss ++ if_else l e a b ∷ []) ms s' ok.1 follows (more_pieces is f os ss (if_else l e a b) rest ms s' h)))))))
+    (else_append (begun l (test_tokens w.If e)) (block_marks a) (block_marks b) (block_marks rest) ms)
+    (takes_append (InFunction is f (At os ss Start)) (InFunction is f (At (o ∷ os) [] Start)) s' (begun l (test_tokens w.If e) ++ on (Token.sign g.BraceOpen) ∷ []) (block_marks a ++ on (Token.sign g.BraceClose) ∷ first)
+    (test_takes is f os ss l If e ok.0.0 ok.0.1)
+    (inner_takes a iha is f l (Then e) ss os first (InFunction is f (At os ss (AfterIf l e a))) s' ok.0.2
+    (λ line. ap (λ z. Some (InFunction is f (At os ss (AfterIf l e z)))) (pieces_close a))
+    (takes_on (InFunction is f (At os ss (AfterIf l e a))) (InFunction is f (At os ss (ElseBrace l e a))) s' (Token.word w.Else) (on (Token.sign g.BraceOpen) ∷ second) (λ line. refl)
+    (takes_on (InFunction is f (At os ss (ElseBrace l e a))) (InFunction is f (At (record { line = l; around = Else e a; before = ss } ∷ os) [] Start)) s' (Token.sign g.BraceOpen) second (λ line. refl)
+    (inner_takes b ihb is f l (Else e a) ss os behind (InFunction is f (At os (ss ++ if_else l e a b ∷ []) Start)) s' ok.0.3
+    (λ line. ap (λ z. Some (InFunction is f (At os (ss ++ if_else l e a z ∷ []) Start))) (pieces_close b))
+    (ih is f os (ss ++ if_else l e a b ∷ []) ms s' ok.1 follows (more_pieces is f os ss (if_else l e a b) rest ms s' h)))))))
 
 pub taken : (b : Block) → IsTaken b
 taken Block.end = λ is f os ss ms s' ok follows h. takes_from (InFunction is f (At os (ss ++ []) Start)) (InFunction is f (At os ss Start)) s' ms (ap (λ z. InFunction is f (At os z Start)) (append-nil ss)) h
@@ -351,11 +350,11 @@ func_takes is l f params body ok =
     let header : Header = record { line = l; name = f; params = params } in
     let last = Between (is ++ func l f params body ∷ []) in
     takes_is (Between is) last ((begun l (head_tokens f params) ++ on (Token.sign g.BraceOpen) ∷ []) ++ (block_marks body ++ on (Token.sign g.BraceClose) ∷ [])) (item_marks (func l f params body))
-      (append_assoc (begun l (head_tokens f params)) (on (Token.sign g.BraceOpen) ∷ []) (block_marks body ++ on (Token.sign g.BraceClose) ∷ []))
-      (takes_append (Between is) (InFunction is header (At [] [] Start)) last (begun l (head_tokens f params) ++ on (Token.sign g.BraceOpen) ∷ []) (block_marks body ++ on (Token.sign g.BraceClose) ∷ [])
-         (function_takes is l f params)
-         (taken body is header [] [] (on (Token.sign g.BraceClose) ∷ []) last ok refl
-            (takes_on (InFunction is header (At [] (pieces body) Start)) last last (Token.sign g.BraceClose) [] (λ line. ap (λ z. Some (Between (is ++ func l f params z ∷ []))) (pieces_close body)) (takes_none last))))
+    (append_assoc (begun l (head_tokens f params)) (on (Token.sign g.BraceOpen) ∷ []) (block_marks body ++ on (Token.sign g.BraceClose) ∷ []))
+    (takes_append (Between is) (InFunction is header (At [] [] Start)) last (begun l (head_tokens f params) ++ on (Token.sign g.BraceOpen) ∷ []) (block_marks body ++ on (Token.sign g.BraceClose) ∷ [])
+    (function_takes is l f params)
+    (taken body is header [] [] (on (Token.sign g.BraceClose) ∷ []) last ok refl
+    (takes_on (InFunction is header (At [] (pieces body) Start)) last last (Token.sign g.BraceClose) [] (λ line. ap (λ z. Some (Between (is ++ func l f params z ∷ []))) (pieces_close body)) (takes_none last))))
 
 pub one_takes : (is : List Item) (i : Item) → IsItem i → Takes (Between is) (item_marks i) (Between (is ++ i ∷ []))
 one_takes is (declared l d) ok = declared_takes is l d ok
@@ -365,7 +364,7 @@ pub items_take : (is items : List Item) → AllByRecursion IsItem items → Take
 items_take is [] all = takes_to (Between is) (Between is) (Between (is ++ [])) [] (ap Between (sym (append-nil is))) (takes_none (Between is))
 items_take is (i ∷ items) all =
     takes_append (Between is) (Between (is ++ i ∷ [])) (Between (is ++ i ∷ items)) (item_marks i) (flat_map item_marks items) (one_takes is i all.0)
-      (takes_to (Between (is ++ i ∷ [])) (Between ((is ++ i ∷ []) ++ items)) (Between (is ++ i ∷ items)) (flat_map item_marks items) (ap Between (append_assoc is (i ∷ []) items)) (items_take (is ++ i ∷ []) items all.1))
+    (takes_to (Between (is ++ i ∷ [])) (Between ((is ++ i ∷ []) ++ items)) (Between (is ++ i ∷ items)) (flat_map item_marks items) (ap Between (append_assoc is (i ∷ []) items)) (items_take (is ++ i ∷ []) items all.1))
 
 -- The tokens of a written file lead to its items.
 pub file_read : (items : List Item) (ps : List Placed) → AllByRecursion IsItem items → Spells (flat_map item_marks items) ps → run written start ps ≡ Some (Between items)

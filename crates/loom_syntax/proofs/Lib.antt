@@ -9,3 +9,4 @@ pub mod PartNatural
 pub mod Natural
 pub mod Refusal
 pub mod Blocks
+pub mod Within

@@ -83,12 +83,7 @@ fn declared(line: u32, declaration: Declaration) -> Item
 }
 
 /// Behind a token of an item up to its block.
-fn headed(
-    alloc: Global,
-    mut items: Vec<Item>,
-    line: u32,
-    next: HeadNext,
-) -> Result<State, NoMemory>
+fn headed(alloc: Global, mut items: Vec<Item>, line: u32, next: HeadNext) -> Result<State, NoMemory>
     ensures { IfOk result (λ s. state_of s ≡ m.headed plain (items_of items.items) line (head.next_of next)) }
 {
     match next {

@@ -250,7 +250,10 @@ pub fn head_step(alloc: Global, head: Head, spot: Spot) -> Result<Option<HeadNex
         Head::SharedCells(x) => shared_cells(x, spot),
         Head::SharedClose(x, n) => {
             let array = Declaration::Array(x, n);
-            next_where(spot.is_sign(Sign::BracketClose), HeadNext::Goes(Head::Ending(array)))
+            next_where(
+                spot.is_sign(Sign::BracketClose),
+                HeadNext::Goes(Head::Ending(array)),
+            )
         }
         Head::MutexName => mutex_name(alloc, spot)?,
         Head::SemaName => sema_name(alloc, spot)?,
@@ -259,7 +262,10 @@ pub fn head_step(alloc: Global, head: Head, spot: Spot) -> Result<Option<HeadNex
         Head::Ending(d) => next_where(spot.is_sign(Sign::Semicolon), HeadNext::Declares(d)),
         Head::FnName => function_name(alloc, spot)?,
         Head::FnOpen(f) => {
-            next_where(spot.is_sign(Sign::ParenOpen), HeadNext::Goes(Head::FnFirst(f)))
+            next_where(
+                spot.is_sign(Sign::ParenOpen),
+                HeadNext::Goes(Head::FnFirst(f)),
+            )
         }
         Head::FnFirst(f) => function_first(alloc, f, spot)?,
         Head::FnParam(f, params) => function_param(alloc, f, params, spot)?,

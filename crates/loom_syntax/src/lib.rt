@@ -5,6 +5,8 @@
 #![tactic(auto)]
 
 pub mod block;
+#[cfg(test)]
+mod examples;
 pub mod file;
 pub mod item;
 pub mod items;

@@ -277,11 +277,7 @@ fn read_step(
 }
 
 /// The first token of an expression. An `Err` is want of memory.
-fn read_first(
-    alloc: Global,
-    purpose: Purpose,
-    spot: Spot,
-) -> Result<Option<PartNext>, NoMemory>
+fn read_first(alloc: Global, purpose: Purpose, spot: Spot) -> Result<Option<PartNext>, NoMemory>
     ensures { IfOk result (λ r. next_if r ≡ m.read_step expression.plain (purpose_of purpose) expression.start (token_of spot.entry)) }
 {
     read_step(alloc, Box::new(alloc, purpose)?, Reader::new(alloc), spot)
@@ -290,7 +286,11 @@ fn read_first(
 fn begin_test(room: bool, test: Test) -> Option<Part>
     ensures { part_if result ≡ m.begin_test room (test_of test) }
 {
-    if room { Some(Part::TestOpen(test)) } else { None }
+    if room {
+        Some(Part::TestOpen(test))
+    } else {
+        None
+    }
 }
 
 /// The first keyword of a statement. An `Err` is want of memory.
@@ -392,7 +392,12 @@ fn right_named(
         Ok(Some(PartNext::Goes(Part::Arguments(goal))))
     } else {
         let reader = Reader::Named(f, Size::new(), Vec::new(alloc));
-        read_step(alloc, Box::new(alloc, Purpose::Value(target))?, reader, spot)
+        read_step(
+            alloc,
+            Box::new(alloc, Purpose::Value(target))?,
+            reader,
+            spot,
+        )
     }
 }
 

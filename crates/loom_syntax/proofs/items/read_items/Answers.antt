@@ -15,13 +15,13 @@ none = record { kind = k.Name; start = 0; end = 0; line = 0 }
 pub returns-in-None : goal.returns-in-None
 returns-in-None c =
     let stepped : state_if c.in_ok-next.field-0 ≡ m.step plain (state_of c.read.state) (placed_of c.args.bytes.now (get_or c.args.tokens.now c.read.i none)) =
-        c.in_ok-next.ensures ∙ ap (m.step plain (state_of c.read.state)) c.new-in-read.ensures in
+    c.in_ok-next.ensures ∙ ap (m.step plain (state_of c.read.state)) c.new-in-read.ensures in
     refused_at c.args.bytes.now c.args.tokens.now c.read.i none (state_of c.read.state) (omega arith) c.read.invariant (ap state_if (sym c.in-None.is) ∙ stepped)
 
 pub read-preserved : goal.read-preserved
 read-preserved c =
     let stepped : state_if c.in_ok-next.field-0 ≡ m.step plain (state_of c.read.state) (placed_of c.args.bytes.now (get_or c.args.tokens.now c.read.i none)) =
-        c.in_ok-next.ensures ∙ ap (m.step plain (state_of c.read.state)) c.new-in-read.ensures in
+    c.in_ok-next.ensures ∙ ap (m.step plain (state_of c.read.state)) c.new-in-read.ensures in
     took_one c.args.bytes.now c.args.tokens.now c.read.i none (state_of c.read.state) _ (omega arith) c.read.invariant (ap state_if (sym c.in-Some.is) ∙ stepped)
 
 pub returns-in-Some-finish : goal.returns-in-Some-finish

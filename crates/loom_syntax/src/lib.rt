@@ -4,4 +4,12 @@
 //! `specs/Head.antt`, `specs/Part.antt` and `specs/Machine.antt`.
 #![tactic(auto)]
 
+pub mod block;
+#[cfg(test)]
+mod examples;
+pub mod file;
+pub mod item;
+pub mod items;
 pub mod laws;
+pub mod statement;
+pub mod token;

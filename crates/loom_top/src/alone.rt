@@ -13,11 +13,11 @@ use crate::code::code_of;
 use crate::command::program_name;
 use crate::run::run;
 use crate::status::Status;
-use crate::stub::{LangError, parse_program};
 use crate::write::put_journal;
 use loom_io::shelf::{Shelf, ShelfError};
 use loom_io::sink::{Sink, SinkFailed};
 use loom_io::whole::put_all;
+use loom_lang::parse::{LangError, parse_program};
 use loom_trace::journal::Journal;
 use std::alloc::Global;
 

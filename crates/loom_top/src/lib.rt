@@ -7,7 +7,6 @@ mod code;
 mod command;
 mod run;
 pub mod status;
-pub mod stub;
 #[cfg(test)]
 mod tests;
 mod write;

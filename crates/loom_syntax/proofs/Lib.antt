@@ -8,3 +8,4 @@ pub mod Viable
 pub mod PartNatural
 pub mod Natural
 pub mod Refusal
+pub mod Blocks

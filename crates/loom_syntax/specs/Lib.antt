@@ -5,3 +5,10 @@ pub mod Part
 pub mod Machine
 pub mod View
 pub mod Laws
+pub mod Small
+pub mod TokenView
+pub mod HeadView
+pub mod StatementView
+pub mod BlockView
+pub mod FileView
+pub mod Items

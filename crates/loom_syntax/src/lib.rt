@@ -4,4 +4,10 @@
 //! `specs/Head.antt`, `specs/Part.antt` and `specs/Machine.antt`.
 #![tactic(auto)]
 
+pub mod block;
+pub mod file;
+pub mod item;
+pub mod items;
 pub mod laws;
+pub mod statement;
+pub mod token;

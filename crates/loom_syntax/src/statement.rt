@@ -1,0 +1,510 @@
+//! Reads statements up to their blocks.
+ghost use Rattle.std.specs.Prelude.{◌≡◌, IfOk, Some};
+ghost use Rattle.loom_tree.specs.Tree as tree;
+ghost use Rattle.loom_tree.specs.Tree.{expression_of, expressions_of};
+ghost use Rattle.loom_expression.specs.Machine as expression;
+ghost use Rattle.loom_expression.specs.View.{state_of};
+ghost use Rattle.loom_syntax.specs.TokenView.{token_of};
+ghost use Rattle.loom_syntax.specs.StatementView.{goal_of, next_if, next_of, part_if, part_of, purpose_of, simple_of, sync_of, target_of, test_of};
+ghost use Rattle.loom_syntax.specs.Part as m;
+
+use crate::token::Spot;
+use loom_expression::part::Size;
+use loom_expression::reader::Reader;
+use loom_tree::expression::{Expr, Exprs};
+use loom_tree::name::{Name, NoMemory};
+use loom_tree::statement::Right;
+use loom_tree::token::{Keyword, Sign, TokenKind};
+use std::alloc::Global;
+
+/// How a value is written to a name.
+#[derive(Clone, Copy, Drop)]
+pub enum Binding {
+    Let,
+    Set,
+}
+
+/// What a value is written to.
+#[derive(Drop)]
+pub struct Target {
+    pub binding: Binding,
+    pub name: Name,
+}
+
+/// What stands at the right of `=`, with arguments.
+#[derive(Clone, Copy, Drop)]
+pub enum Arguing {
+    Call,
+    Spawn,
+}
+
+/// What arguments are for.
+#[derive(Drop)]
+pub enum Goal {
+    Call(Name),
+    Right(Arguing, Target, Name),
+}
+
+/// What is done with a mutex or a semaphore.
+#[derive(Clone, Copy, Drop)]
+pub enum SyncKind {
+    Lock,
+    Unlock,
+    Down,
+    Up,
+}
+
+/// The statements with a condition.
+#[derive(Clone, Copy, Drop)]
+pub enum Test {
+    If,
+    While,
+}
+
+/// What an expression is for.
+#[derive(Drop)]
+pub enum Purpose {
+    Value(Target),
+    /// An argument behind those before it.
+    Argument(Goal, Vec<Expr>),
+    Index(Name),
+    CellValue(Name, Expr),
+    Condition(Test),
+    Return,
+    Join,
+    Print,
+}
+
+/// A statement without a block.
+#[derive(Drop)]
+pub enum Simple {
+    Let(Name, Right),
+    Set(Name, Right),
+    SetCell(Name, Expr, Expr),
+    Call(Name, Exprs),
+    Return(Option<Expr>),
+    Lock(Name),
+    Unlock(Name),
+    Down(Name),
+    Up(Name),
+    Join(Expr),
+    Print(Expr),
+    Skip,
+}
+
+/// What was read of a statement, named by what must follow.
+#[derive(Drop)]
+pub enum Part {
+    LetName,
+    LetAssign(Name),
+    /// `=`, `[` or `(` behind a name.
+    Started(Name),
+    RightOf(Target),
+    /// A name was read, of a function if `(` follows, else of an expression.
+    RightNamed(Target, Name),
+    SpawnName(Target),
+    SpawnOpen(Target, Name),
+    SyncName(SyncKind),
+    TestOpen(Test),
+    /// The first argument, or `)`.
+    Arguments(Goal),
+    /// An expression or `;`.
+    Returned,
+    SetAssign(Name, Expr),
+    /// The rest of an expression.
+    Reading(Box<Purpose>, Reader),
+    /// The `;` of a statement.
+    Ending(Box<Simple>),
+    TestBrace(Test, Expr),
+}
+
+/// How a statement goes on behind a token.
+#[derive(Drop)]
+pub enum PartNext {
+    Goes(Part),
+    /// It is whole.
+    Ends(Box<Simple>),
+    /// Its block begins.
+    Opens(Test, Expr),
+}
+
+fn assigned(target: Target, right: Right) -> Simple
+    ensures { simple_of result ≡ m.assigned (target_of target) (tree.right_of right) }
+{
+    match target.binding {
+        Binding::Let => Simple::Let(target.name, right),
+        Binding::Set => Simple::Set(target.name, right),
+    }
+}
+
+fn applied(goal: Goal, es: Vec<Expr>) -> Simple
+    ensures { simple_of result ≡ m.applied (goal_of goal) (expressions_of es.items) }
+{
+    match goal {
+        Goal::Call(f) => Simple::Call(f, Exprs(es)),
+        Goal::Right(Arguing::Call, target, f) => assigned(target, Right::Call(f, Exprs(es))),
+        Goal::Right(Arguing::Spawn, target, f) => assigned(target, Right::Spawn(f, Exprs(es))),
+    }
+}
+
+fn synced(sync: SyncKind, x: Name) -> Simple
+    ensures { simple_of result ≡ m.synced (sync_of sync) x }
+{
+    match sync {
+        SyncKind::Lock => Simple::Lock(x),
+        SyncKind::Unlock => Simple::Unlock(x),
+        SyncKind::Down => Simple::Down(x),
+        SyncKind::Up => Simple::Up(x),
+    }
+}
+
+/// Behind this token an expression of this purpose must follow. An `Err` is want of memory.
+fn read(alloc: Global, purpose: Purpose) -> Result<Part, NoMemory>
+    ensures { IfOk result (λ q. part_of q ≡ m.Reading (purpose_of purpose) expression.start) }
+{
+    Ok(Part::Reading(Box::new(alloc, purpose)?, Reader::new(alloc)))
+}
+
+fn ending(alloc: Global, s: Simple) -> Result<Part, NoMemory>
+    ensures { IfOk result (λ q. part_of q ≡ m.Ending (simple_of s)) }
+{
+    Ok(Part::Ending(Box::new(alloc, s)?))
+}
+
+fn ends(alloc: Global, s: Simple) -> Result<PartNext, NoMemory>
+    ensures { IfOk result (λ n. next_of n ≡ m.PartNext.Ends (simple_of s)) }
+{
+    Ok(PartNext::Ends(Box::new(alloc, s)?))
+}
+
+/// Whether the token ends an expression of this purpose, where it is whole.
+fn closes(purpose: &Purpose, spot: Spot) -> bool
+    ensures { result ≡ m.closes (purpose_of purpose.now) (token_of spot.entry) }
+{
+    match purpose {
+        Purpose::Value(_) => spot.is_sign(Sign::Semicolon),
+        Purpose::Argument(_, _) => spot.is_sign(Sign::Comma) || spot.is_sign(Sign::ParenClose),
+        Purpose::Index(_) => spot.is_sign(Sign::BracketClose),
+        Purpose::CellValue(_, _) => spot.is_sign(Sign::Semicolon),
+        Purpose::Condition(_) => spot.is_sign(Sign::ParenClose),
+        Purpose::Return => spot.is_sign(Sign::Semicolon),
+        Purpose::Join => spot.is_sign(Sign::Semicolon),
+        Purpose::Print => spot.is_sign(Sign::Semicolon),
+    }
+}
+
+/// What is behind an argument and the `,` or `)` that ends it. An `Err` is want of memory.
+fn argued(alloc: Global, goal: Goal, es: Vec<Expr>, spot: Spot) -> Result<PartNext, NoMemory>
+    ensures { IfOk result (λ n. next_of n ≡ m.argued (goal_of goal) (expressions_of es.items) (token_of spot.entry)) }
+{
+    if spot.is_sign(Sign::Comma) {
+        Ok(PartNext::Goes(read(alloc, Purpose::Argument(goal, es))?))
+    } else {
+        Ok(PartNext::Goes(ending(alloc, applied(goal, es))?))
+    }
+}
+
+/// What is behind an expression and the token that ends it. An `Err` is want of memory.
+fn closed(alloc: Global, purpose: Purpose, e: Expr, spot: Spot) -> Result<PartNext, NoMemory>
+    ensures { IfOk result (λ n. next_of n ≡ m.closed (purpose_of purpose) (expression_of e) (token_of spot.entry)) }
+{
+    match purpose {
+        Purpose::Value(target) => ends(alloc, assigned(target, Right::Value(e))),
+        Purpose::Argument(goal, mut before) => {
+            before.push(e)?;
+            argued(alloc, goal, before, spot)
+        }
+        Purpose::Index(x) => Ok(PartNext::Goes(Part::SetAssign(x, e))),
+        Purpose::CellValue(x, i) => ends(alloc, Simple::SetCell(x, i, e)),
+        Purpose::Condition(test) => Ok(PartNext::Goes(Part::TestBrace(test, e))),
+        Purpose::Return => ends(alloc, Simple::Return(Some(e))),
+        Purpose::Join => ends(alloc, Simple::Join(e)),
+        Purpose::Print => ends(alloc, Simple::Print(e)),
+    }
+}
+
+/// Whether the token ends the expression.
+fn ends_here(purpose: &Purpose, reader: &Reader, spot: Spot) -> bool
+    ensures { result ≡ m.ends_here (purpose_of purpose.now) (state_of reader.now) (token_of spot.entry) }
+{
+    reader.is_whole() && closes(purpose, spot)
+}
+
+/// Behind an expression, at the token that ends it. An `Err` is want of memory.
+fn close(
+    alloc: Global,
+    purpose: Purpose,
+    reader: Reader,
+    spot: Spot,
+) -> Result<Option<PartNext>, NoMemory>
+    ensures { IfOk result (λ r. next_if r ≡ expression.after (expression.finish expression.plain (state_of reader)) (λ e. Some (m.closed (purpose_of purpose) e (token_of spot.entry)))) }
+{
+    match reader.finish(alloc)? {
+        Some(e) => Ok(Some(closed(alloc, purpose, e, spot)?)),
+        None => Ok(None),
+    }
+}
+
+/// A token in an expression. An `Err` is want of memory.
+fn feed(
+    alloc: Global,
+    purpose: Box<Purpose>,
+    reader: Reader,
+    spot: Spot,
+) -> Result<Option<PartNext>, NoMemory>
+    ensures { IfOk result (λ r. next_if r ≡ expression.after (expression.step expression.plain (state_of reader) (token_of spot.entry)) (λ s. Some (m.PartNext.Goes (m.Reading (purpose_of purpose.value) s)))) }
+{
+    match reader.feed(alloc, spot.bytes, spot.token)? {
+        Some(next) => Ok(Some(PartNext::Goes(Part::Reading(purpose, next)))),
+        None => Ok(None),
+    }
+}
+
+/// A token in an expression, or behind it. An `Err` is want of memory.
+fn read_step(
+    alloc: Global,
+    purpose: Box<Purpose>,
+    reader: Reader,
+    spot: Spot,
+) -> Result<Option<PartNext>, NoMemory>
+    ensures { IfOk result (λ r. next_if r ≡ m.read_step expression.plain (purpose_of purpose.value) (state_of reader) (token_of spot.entry)) }
+{
+    if ends_here(&purpose, &reader, spot) {
+        close(alloc, Box::into_inner(purpose), reader, spot)
+    } else {
+        feed(alloc, purpose, reader, spot)
+    }
+}
+
+/// The first token of an expression. An `Err` is want of memory.
+fn read_first(
+    alloc: Global,
+    purpose: Purpose,
+    spot: Spot,
+) -> Result<Option<PartNext>, NoMemory>
+    ensures { IfOk result (λ r. next_if r ≡ m.read_step expression.plain (purpose_of purpose) expression.start (token_of spot.entry)) }
+{
+    read_step(alloc, Box::new(alloc, purpose)?, Reader::new(alloc), spot)
+}
+
+fn begin_test(room: bool, test: Test) -> Option<Part>
+    ensures { part_if result ≡ m.begin_test room (test_of test) }
+{
+    if room { Some(Part::TestOpen(test)) } else { None }
+}
+
+/// The first keyword of a statement. An `Err` is want of memory.
+fn begin_keyword(alloc: Global, room: bool, keyword: Keyword) -> Result<Option<Part>, NoMemory>
+    ensures { IfOk result (λ r. part_if r ≡ m.begin_keyword room keyword) }
+{
+    match keyword {
+        Keyword::Let => Ok(Some(Part::LetName)),
+        Keyword::If => Ok(begin_test(room, Test::If)),
+        Keyword::While => Ok(begin_test(room, Test::While)),
+        Keyword::Return => Ok(Some(Part::Returned)),
+        Keyword::Lock => Ok(Some(Part::SyncName(SyncKind::Lock))),
+        Keyword::Unlock => Ok(Some(Part::SyncName(SyncKind::Unlock))),
+        Keyword::Down => Ok(Some(Part::SyncName(SyncKind::Down))),
+        Keyword::Up => Ok(Some(Part::SyncName(SyncKind::Up))),
+        Keyword::Join => Ok(Some(read(alloc, Purpose::Join)?)),
+        Keyword::Print => Ok(Some(read(alloc, Purpose::Print)?)),
+        Keyword::Skip => Ok(Some(ending(alloc, Simple::Skip)?)),
+        Keyword::Shared => Ok(None),
+        Keyword::Mutex => Ok(None),
+        Keyword::Sema => Ok(None),
+        Keyword::Fn => Ok(None),
+        Keyword::Else => Ok(None),
+        Keyword::Spawn => Ok(None),
+    }
+}
+
+/// The first token of a statement, where a block may open or where none may. `None` where no statement begins with it. An
+/// `Err` is want of memory.
+pub fn begin_part(alloc: Global, room: bool, spot: Spot) -> Result<Option<Part>, NoMemory>
+    ensures { IfOk result (λ r. part_if r ≡ m.begin_part room (token_of spot.entry)) }
+{
+    if let TokenKind::Keyword(keyword) = spot.token.kind {
+        return begin_keyword(alloc, room, keyword);
+    }
+    match spot.name(alloc)? {
+        Some(x) => Ok(Some(Part::Started(x))),
+        None => Ok(None),
+    }
+}
+
+fn let_name(alloc: Global, spot: Spot) -> Result<Option<PartNext>, NoMemory>
+    ensures { IfOk result (λ r. next_if r ≡ m.part_step expression.plain m.LetName (token_of spot.entry)) }
+{
+    match spot.name(alloc)? {
+        Some(x) => Ok(Some(PartNext::Goes(Part::LetAssign(x)))),
+        None => Ok(None),
+    }
+}
+
+fn let_assign(name: Name, spot: Spot) -> Option<PartNext>
+    ensures { next_if result ≡ m.part_step expression.plain (m.LetAssign name) (token_of spot.entry) }
+{
+    if spot.is_sign(Sign::Assign) {
+        let binding = Binding::Let;
+        Some(PartNext::Goes(Part::RightOf(Target { binding, name })))
+    } else {
+        None
+    }
+}
+
+fn started(alloc: Global, name: Name, spot: Spot) -> Result<Option<PartNext>, NoMemory>
+    ensures { IfOk result (λ r. next_if r ≡ m.started name (token_of spot.entry)) }
+{
+    if spot.is_sign(Sign::Assign) {
+        let binding = Binding::Set;
+        Ok(Some(PartNext::Goes(Part::RightOf(Target { binding, name }))))
+    } else if spot.is_sign(Sign::BracketOpen) {
+        Ok(Some(PartNext::Goes(read(alloc, Purpose::Index(name))?)))
+    } else if spot.is_sign(Sign::ParenOpen) {
+        Ok(Some(PartNext::Goes(Part::Arguments(Goal::Call(name)))))
+    } else {
+        Ok(None)
+    }
+}
+
+fn right_of(alloc: Global, target: Target, spot: Spot) -> Result<Option<PartNext>, NoMemory>
+    ensures { IfOk result (λ r. next_if r ≡ m.right_of expression.plain (target_of target) (token_of spot.entry)) }
+{
+    if spot.is_keyword(Keyword::Spawn) {
+        return Ok(Some(PartNext::Goes(Part::SpawnName(target))));
+    }
+    match spot.name(alloc)? {
+        Some(f) => Ok(Some(PartNext::Goes(Part::RightNamed(target, f)))),
+        None => read_first(alloc, Purpose::Value(target), spot),
+    }
+}
+
+fn right_named(
+    alloc: Global,
+    target: Target,
+    f: Name,
+    spot: Spot,
+) -> Result<Option<PartNext>, NoMemory>
+    ensures { IfOk result (λ r. next_if r ≡ m.right_named expression.plain (target_of target) f (token_of spot.entry)) }
+{
+    if spot.is_sign(Sign::ParenOpen) {
+        let goal = Goal::Right(Arguing::Call, target, f);
+        Ok(Some(PartNext::Goes(Part::Arguments(goal))))
+    } else {
+        let reader = Reader::Named(f, Size::new(), Vec::new(alloc));
+        read_step(alloc, Box::new(alloc, Purpose::Value(target))?, reader, spot)
+    }
+}
+
+fn spawn_name(alloc: Global, target: Target, spot: Spot) -> Result<Option<PartNext>, NoMemory>
+    ensures { IfOk result (λ r. next_if r ≡ m.part_step expression.plain (m.SpawnName (target_of target)) (token_of spot.entry)) }
+{
+    match spot.name(alloc)? {
+        Some(f) => Ok(Some(PartNext::Goes(Part::SpawnOpen(target, f)))),
+        None => Ok(None),
+    }
+}
+
+fn spawn_open(target: Target, f: Name, spot: Spot) -> Option<PartNext>
+    ensures { next_if result ≡ m.part_step expression.plain (m.SpawnOpen (target_of target) f) (token_of spot.entry) }
+{
+    if spot.is_sign(Sign::ParenOpen) {
+        let goal = Goal::Right(Arguing::Spawn, target, f);
+        Some(PartNext::Goes(Part::Arguments(goal)))
+    } else {
+        None
+    }
+}
+
+fn sync_name(alloc: Global, sync: SyncKind, spot: Spot) -> Result<Option<PartNext>, NoMemory>
+    ensures { IfOk result (λ r. next_if r ≡ m.part_step expression.plain (m.SyncName (sync_of sync)) (token_of spot.entry)) }
+{
+    match spot.name(alloc)? {
+        Some(x) => Ok(Some(PartNext::Goes(ending(alloc, synced(sync, x))?))),
+        None => Ok(None),
+    }
+}
+
+fn test_open(alloc: Global, test: Test, spot: Spot) -> Result<Option<PartNext>, NoMemory>
+    ensures { IfOk result (λ r. next_if r ≡ m.part_step expression.plain (m.TestOpen (test_of test)) (token_of spot.entry)) }
+{
+    if spot.is_sign(Sign::ParenOpen) {
+        Ok(Some(PartNext::Goes(read(alloc, Purpose::Condition(test))?)))
+    } else {
+        Ok(None)
+    }
+}
+
+fn arguments_step(alloc: Global, goal: Goal, spot: Spot) -> Result<Option<PartNext>, NoMemory>
+    ensures { IfOk result (λ r. next_if r ≡ m.arguments_step expression.plain (goal_of goal) (token_of spot.entry)) }
+{
+    if spot.is_sign(Sign::ParenClose) {
+        let call = applied(goal, Vec::new(alloc));
+        Ok(Some(PartNext::Goes(ending(alloc, call)?)))
+    } else {
+        read_first(alloc, Purpose::Argument(goal, Vec::new(alloc)), spot)
+    }
+}
+
+fn return_step(alloc: Global, spot: Spot) -> Result<Option<PartNext>, NoMemory>
+    ensures { IfOk result (λ r. next_if r ≡ m.return_step expression.plain (token_of spot.entry)) }
+{
+    if spot.is_sign(Sign::Semicolon) {
+        Ok(Some(ends(alloc, Simple::Return(None))?))
+    } else {
+        read_first(alloc, Purpose::Return, spot)
+    }
+}
+
+fn set_assign(alloc: Global, x: Name, i: Expr, spot: Spot) -> Result<Option<PartNext>, NoMemory>
+    ensures { IfOk result (λ r. next_if r ≡ m.part_step expression.plain (m.SetAssign x (expression_of i)) (token_of spot.entry)) }
+{
+    if spot.is_sign(Sign::Assign) {
+        Ok(Some(PartNext::Goes(read(alloc, Purpose::CellValue(x, i))?)))
+    } else {
+        Ok(None)
+    }
+}
+
+fn end_step(s: Box<Simple>, spot: Spot) -> Option<PartNext>
+    ensures { next_if result ≡ m.part_step expression.plain (m.Ending (simple_of s.value)) (token_of spot.entry) }
+{
+    if spot.is_sign(Sign::Semicolon) {
+        Some(PartNext::Ends(s))
+    } else {
+        None
+    }
+}
+
+fn test_brace(test: Test, e: Expr, spot: Spot) -> Option<PartNext>
+    ensures { next_if result ≡ m.part_step expression.plain (m.TestBrace (test_of test) (expression_of e)) (token_of spot.entry) }
+{
+    if spot.is_sign(Sign::BraceOpen) {
+        Some(PartNext::Opens(test, e))
+    } else {
+        None
+    }
+}
+
+/// What is behind a token; `None` where it can't follow. An `Err` is want of memory.
+pub fn part_step(alloc: Global, part: Part, spot: Spot) -> Result<Option<PartNext>, NoMemory>
+    ensures { IfOk result (λ r. next_if r ≡ m.part_step expression.plain (part_of part) (token_of spot.entry)) }
+{
+    match part {
+        Part::LetName => let_name(alloc, spot),
+        Part::LetAssign(x) => Ok(let_assign(x, spot)),
+        Part::Started(x) => started(alloc, x, spot),
+        Part::RightOf(target) => right_of(alloc, target, spot),
+        Part::RightNamed(target, f) => right_named(alloc, target, f, spot),
+        Part::SpawnName(target) => spawn_name(alloc, target, spot),
+        Part::SpawnOpen(target, f) => Ok(spawn_open(target, f, spot)),
+        Part::SyncName(sync) => sync_name(alloc, sync, spot),
+        Part::TestOpen(test) => test_open(alloc, test, spot),
+        Part::Arguments(goal) => arguments_step(alloc, goal, spot),
+        Part::Returned => return_step(alloc, spot),
+        Part::SetAssign(x, i) => set_assign(alloc, x, i, spot),
+        Part::Reading(purpose, reader) => read_step(alloc, purpose, reader, spot),
+        Part::Ending(s) => Ok(end_step(s, spot)),
+        Part::TestBrace(test, e) => Ok(test_brace(test, e, spot)),
+    }
+}

@@ -7,7 +7,9 @@ mod gather;
 pub mod laws;
 mod limits;
 mod names;
-mod parse;
+pub mod parse;
 pub mod program;
 mod rules;
+#[cfg(test)]
+mod tests;
 mod walk;

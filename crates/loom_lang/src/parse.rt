@@ -1,12 +1,15 @@
 //! From the bytes of a file to its program.
-ghost use Rattle.std.specs.Prelude.{◌≡◌, IfOk};
-ghost use Rattle.loom_tree.specs.Tree.{items_of};
+ghost use Rattle.std.specs.Prelude.{◌≡◌, ◌≤◌, length, IfOk};
+ghost use Rattle.loom_tree.specs.Tree.{Source, items_of};
 ghost use Rattle.loom_lang.specs.Rules.{IsLawful};
 ghost use Rattle.loom_lang.specs.Gathered.{source_of_items};
+ghost use Rattle.loom_lang.specs.Program.{IsProgram};
 
 use crate::gather::gather;
 use crate::program::Program;
 use crate::rules::is_lawful;
+use loom_lexer::text::tokenize;
+use loom_syntax::items::{SyntaxError, read_items};
 use loom_tree::item::Items;
 use loom_tree::name::NoMemory;
 use std::alloc::Global;
@@ -31,7 +34,6 @@ impl From<NoMemory> for LangError {
     }
 }
 
-/// The program of the items of a file. `Refused` comes exactly where they break the rules on names or a limit.
 fn program_of(alloc: Global, items: Items) -> Result<Program, LangError>
     ensures program { IfOk result (λ p. (source_of_items (items_of items) ≡ p) × IsLawful p) }
     ensures refused { result ≡ Err LangError.Refused → IsLawful (source_of_items (items_of items)) → ⊥ }
@@ -43,4 +45,18 @@ fn program_of(alloc: Global, items: Items) -> Result<Program, LangError>
         return Err(LangError::Refused);
     }
     Ok(Program::new(declared))
+}
+
+/// The program that the bytes of a file are. `Refused` comes exactly where they are none, and memory didn't run out.
+pub fn parse_program(alloc: Global, bytes: &[u8]) -> Result<Program, LangError>
+    requires { length bytes.now ≤ 65536 }
+    ensures program { IfOk result (λ p. IsProgram bytes.now p) }
+    ensures refused { result ≡ Err LangError.Refused → (p : Source) → IsProgram bytes.now p → ⊥ }
+{
+    let tokens = tokenize(alloc, bytes)?;
+    match read_items(alloc, bytes, &tokens.0) {
+        Ok(items) => program_of(alloc, items),
+        Err(SyntaxError::Syntax(_)) => Err(LangError::Refused),
+        Err(SyntaxError::NoMemory) => Err(LangError::NoMemory),
+    }
 }

@@ -1,7 +1,6 @@
 -- What it means to read the items of a file.
-use Rattle.std.specs.Prelude.{ℕ, ◌≤◌, length, List, Result, Ok, Err}
+use Rattle.std.specs.Prelude.{List, Result, Ok, Err}
 use Rattle.loom_tree.specs.declared.item.Item.{Item}
-use Rattle.loom_tree.specs.declared.token.Token.{Token}
 use Rattle.loom_tree.specs.Token.{Placed}
 use Rattle.loom_tree.specs.Tree.{items_of}
 use Rattle.loom_syntax.specs.declared.items.SyntaxError.{SyntaxError}

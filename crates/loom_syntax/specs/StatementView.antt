@@ -6,7 +6,6 @@ use Rattle.loom_expression.specs.View.{state_of}
 use Rattle.loom_syntax.specs.declared.statement.Binding.{Binding}
 use Rattle.loom_syntax.specs.declared.statement.Binding.TheVariants as b
 use Rattle.loom_syntax.specs.declared.statement.Target as rust_target
-use Rattle.loom_syntax.specs.declared.statement.Arguing.{Arguing}
 use Rattle.loom_syntax.specs.declared.statement.Arguing.TheVariants as a
 use Rattle.loom_syntax.specs.declared.statement.Goal as rust_goal
 use Rattle.loom_syntax.specs.declared.statement.Goal.TheVariants as g

@@ -196,16 +196,10 @@ fn function_name(alloc: Global, spot: Spot) -> Result<Option<HeadNext>, NoMemory
 fn function_first(alloc: Global, f: Name, spot: Spot) -> Result<Option<HeadNext>, NoMemory>
     ensures { IfOk result (λ r. next_if r ≡ m.function_first f (token_of spot.entry)) }
 {
-    let mut params: Vec<Name> = Vec::new(alloc);
     if spot.is_sign(Sign::ParenClose) {
-        return Ok(Some(HeadNext::Goes(Head::FnBrace(f, params))));
-    }
-    match spot.name(alloc)? {
-        Some(x) => {
-            params.push(x)?;
-            Ok(Some(HeadNext::Goes(Head::FnNext(f, params))))
-        }
-        None => Ok(None),
+        Ok(Some(HeadNext::Goes(Head::FnBrace(f, Vec::new(alloc)))))
+    } else {
+        function_param(alloc, f, Vec::new(alloc), spot)
     }
 }
 

@@ -1,10 +1,10 @@
 -- Items that are gathered one after another are gathered by their kinds.
-use Rattle.std.proofs.Common.{ℕ, ℤ, ◌+◌, ◌<◌, ◌≡◌, List, [], ◌∷◌, ◌++◌, Option, Some, None, MatchOption, refl, ap, sym, ◌∙◌, subst, arith, append_assoc}
+use Rattle.std.proofs.Common.{ℕ, ℤ, ◌+◌, ◌<◌, ◌≡◌, List, [], ◌∷◌, ◌++◌, Option, Some, None, MatchOption, ap, sym, ◌∙◌, arith, append_assoc}
 use Rattle.std.specs.Prelude.{flat_map}
 use Rattle.std.proofs.lemmas.List.{append-nil}
 use Rattle.loom_tree.specs.declared.item.Word.{Word}
 use Rattle.loom_tree.specs.Tree.{Item, word, mutex, sema, func, Source}
-use Rattle.loom_lang.specs.Rules.{cells_of, cell_count}
+use Rattle.loom_lang.specs.Rules.{cell_count}
 use Rattle.loom_lang.specs.Gathered.{words_in, mutexes_in, semas_in, funcs_in, source_of_items, nothing, with_item, gathered}
 
 -- the items of one behind those of the other

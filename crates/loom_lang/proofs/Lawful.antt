@@ -1,7 +1,7 @@
 -- The tests decide the rules.
-use Rattle.std.proofs.Common.{ℕ, ◌+◌, ◌<◌, ◌≤◌, ◌≡◌, Bool, true, false, not, ◌&&◌, cond, nat_lt, List, [], ◌∷◌, length, Option, Some, None, Result, Ok, Err, IfOk, IsTrue, ◌↔◌, refl, ap, sym, ◌∙◌, arith}
+use Rattle.std.proofs.Common.{ℕ, ◌≤◌, ◌≡◌, Bool, true, false, not, ◌&&◌, cond, nat_lt, List, [], ◌∷◌, length, None, Result, Ok, Err, IfOk, IsTrue, ◌↔◌, refl, ap, sym, ◌∙◌}
 use Rattle.std.specs.Prelude.{is_some, codes}
-use Rattle.std.proofs.lemmas.Bool.{lt-ltb, le-ltb, ltb-false}
+use Rattle.std.proofs.lemmas.Bool.{le-ltb, ltb-false}
 use Rattle.std.proofs.Math.Dec.{ltb}
 use Rattle.loom_tree.specs.Tree.{Function, Source}
 use Rattle.loom_lang.specs.Rules.{IsLawful, IsLawfulFunction, AreLawfulFunctions, is_ascending, is_distinct, is_apart, knows_body, locals_of, file_names, lines_of, shared_names, cell_count, takes}

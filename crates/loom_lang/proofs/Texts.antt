@@ -1,10 +1,10 @@
 -- Bytes are a text of at most one list of items.
-use Rattle.std.proofs.Common.{ℕ, ◌+◌, ◌<◌, ◌≤◌, ◌≡◌, ◌⊎◌, inl, inr, List, length, take, drop, take-append-drop, ap, sym, ◌∙◌, subst, arith}
+use Rattle.std.proofs.Common.{ℕ, ◌+◌, ◌<◌, ◌≤◌, ◌≡◌, List, length, drop, take-append-drop, ap, sym, ◌∙◌, subst, arith}
 use Rattle.loom_tree.specs.Token.{Placed}
 use Rattle.loom_tree.specs.Tree.{Item, Source}
 use Rattle.loom_lexer.specs.Tokens.{AreTokens}
 use Rattle.loom_lexer.proofs.Told.{one_list_of_tokens}
-use Rattle.loom_syntax.specs.Written.{IsFile, IsViable, IsRefusedAt}
+use Rattle.loom_syntax.specs.Written.{IsFile, IsRefusedAt}
 use Rattle.loom_syntax.proofs.Viable.{one_file}
 use Rattle.loom_lang.specs.Gathered.{source_of_items}
 use Rattle.loom_lang.specs.Rules.{IsLawful}

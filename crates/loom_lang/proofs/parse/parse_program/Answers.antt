@@ -1,4 +1,4 @@
-use Rattle.std.proofs.Common.{◌≡◌, map, ap, subst}
+use Rattle.std.proofs.Common.{◌≡◌, map}
 use Rattle.loom_tree.specs.Token.{placed_of}
 use Rattle.loom_lexer.specs.Tokens.{AreTokens}
 use Rattle.loom_lang.proofs.Texts.{no_program_of_items, no_program_of_tokens}

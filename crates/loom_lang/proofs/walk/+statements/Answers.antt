@@ -1,4 +1,4 @@
-use Rattle.std.proofs.Common.{◌≡◌, rules, ap, sym, ◌∙◌}
+use Rattle.std.proofs.Common.{◌≡◌, rules, ap, ◌∙◌}
 use Rattle.loom_tree.specs.declared.statement.Stmts.{the_lemmas}
 use Rattle.loom_tree.specs.Tree.{body_of, behind}
 use Rattle.loom_lang.proofs.Statements.{count_step}

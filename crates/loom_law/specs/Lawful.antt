@@ -1,5 +1,5 @@
 -- Lawful journals: those of a program that runs without commands.
-use Rattle.std.specs.Prelude.{ℕ, suc, map, take, length, ◌≡◌, ◌==◌, Bool, true, false, ◌||◌, ◌&&◌, List, [], ◌∷◌, ◌++◌, Option, Some, None, if◌then◌else◌}
+use Rattle.std.specs.Prelude.{ℕ, suc, map, take, length, ◌≡◌, ◌==◌, Bool, true, false, ◌||◌, List, [], ◌∷◌, ◌++◌, Option, Some, None, if◌then◌else◌}
 use Rattle.loom_tree.specs.Tree.{Source}
 use Rattle.loom_trace.specs.declared.entry.Entry.{Entry}
 use Rattle.loom_trace.specs.declared.entry.Entry.TheVariants as e
@@ -54,10 +54,10 @@ abbrev pub thread_entries : List Entry → ℕ
 thread_entries [] = 0
 thread_entries (x ∷ xs) = if is_some_thread (thread_of x) then suc (thread_entries xs) else thread_entries xs
 
--- the last entry, and the last one of a thread; `so_far` is the one that stands before the list
-abbrev pub last_from : Option Entry → List Entry → Option Entry
-last_from so_far [] = so_far
-last_from so_far (x ∷ xs) = last_from (Some x) xs
+-- the last thread entry, and the last one of a thread; `so_far` is the one that stands before the list
+abbrev pub last_thread_entry : Option Entry → List Entry → Option Entry
+last_thread_entry so_far [] = so_far
+last_thread_entry so_far (x ∷ xs) = last_thread_entry (if is_some_thread (thread_of x) then Some x else so_far) xs
 
 abbrev pub last_of_thread : ℕ → Option Entry → List Entry → Option Entry
 last_of_thread t so_far [] = so_far
@@ -108,13 +108,13 @@ pub record IsStalled (s : Store) (front : List Entry) : Type 0 where
 abbrev pub AllEnded : Store → Type 0
 AllEnded s = (t : ℕ) (x : Spawned) → thread_at s t ≡ Some x → x.ended ≡ true
 
--- the stop test answers yes for the last entry, where it is a thread entry
+-- the stop test answers yes for the last thread entry
 abbrev pub stops_at : (Entry → Bool) → Option Entry → Bool
 stops_at stop None = false
-stops_at stop (Some x) = is_some_thread (thread_of x) && stop x
+stops_at stop (Some x) = stop x
 
 abbrev pub is_stopped : (Entry → Bool) → List Entry → Bool
-is_stopped stop front = stops_at stop (last_from None front)
+is_stopped stop front = stops_at stop (last_thread_entry None front)
 
 abbrev pub is_at_limit : ℕ → List Entry → Bool
 is_at_limit limit front = thread_entries front == limit

@@ -1,6 +1,5 @@
 -- A body by its first statement, and the number of a word by its place.
-use Rattle.std.proofs.Common.{ℕ, suc, ◌+◌, ◌<◌, ◌≤◌, ◌≡◌, ◌==◌, ℤ, Bool, true, false, ◌&&◌, List, [], ◌∷◌, ◌++◌, drop, length, get_or, refl, sym, ap, ◌∙◌, arith, if◌then◌else◌}
-use Rattle.std.specs.Cmp.Lexicographic.{pointwise}
+use Rattle.std.proofs.Common.{ℕ, ◌+◌, ◌<◌, ◌≤◌, ◌≡◌, ℤ, ◌&&◌, List, [], ◌∷◌, ◌++◌, length, get_or, refl, sym, ap, arith}
 use Rattle.loom_tree.specs.declared.item.Word.{Word}
 use Rattle.loom_tree.specs.declared.statement.Right.TheVariants as r
 use Rattle.loom_tree.specs.declared.statement.Kind.{Kind}
@@ -8,7 +7,6 @@ use Rattle.loom_tree.specs.declared.statement.Kind.TheVariants as k
 use Rattle.loom_tree.specs.Tree.{Body, behind}
 use Rattle.loom_tree.specs.declared.statement.Func.{Func}
 use Rattle.loom_tree.specs.Tree.{functions_of, function_of}
-use Rattle.loom_trace.specs.declared.entry.Entry.{Entry}
 use Rattle.loom_top.specs.Plain.{body_deeds, entries, entries_of, first_values, function_events}
 use Rattle.loom_top.specs.Built.{builds_body}
 use Rattle.loom_top.specs.Kinds.{kind_deeds, kind_values, kind_builds}

@@ -1,8 +1,7 @@
 -- The one run has fewer entries than its text has bytes.
-use Rattle.std.proofs.Common.{ℕ, zero, suc, ◌+◌, ◌<◌, ◌≤◌, ◌≡◌, ℤ, List, [], ◌∷◌, ◌++◌, map, flat_map, length, Option, Some, None, refl, sym, ap, subst, ◌∙◌, arith, length-append}
+use Rattle.std.proofs.Common.{ℕ, suc, ◌+◌, ◌≤◌, ◌≡◌, ℤ, List, [], ◌∷◌, ◌++◌, map, flat_map, length, Option, Some, None, refl, ap, subst, arith, length-append}
 use Rattle.std.proofs.lemmas.List.{length-map}
 use Rattle.loom_tree.specs.declared.item.Word.{Word}
-use Rattle.loom_tree.specs.declared.expression.Op.{Op}
 use Rattle.loom_tree.specs.declared.expression.Op.TheVariants as o
 use Rattle.loom_tree.specs.declared.token.Keyword.TheVariants as w
 use Rattle.loom_tree.specs.declared.token.Sign.TheVariants as g
@@ -12,7 +11,6 @@ use Rattle.loom_tree.specs.Tree as tree
 use Rattle.loom_expression.specs.Written.{Text, tokens}
 use Rattle.loom_expression.specs.Written as expression
 use Rattle.loom_syntax.specs.Written.{Mark, Spells, Block, Declaration, Item, begun, ended, head_tokens, test_tokens, simple_tokens, simple_tree, in_braces, block_marks, block_tree, item_marks, item_tree}
-use Rattle.loom_syntax.specs.Written as written
 use Rattle.loom_lexer.specs.declared.lexeme.Kind.{Kind}
 use Rattle.loom_tree.specs.declared.token.TokenKind.{TokenKind}
 use Rattle.loom_lexer.specs.Lexeme.{Lexeme, IsLexed, Spells as Spells_lexeme}

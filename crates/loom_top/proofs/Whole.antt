@@ -18,7 +18,7 @@ use Rattle.loom_lang.specs.Trace as trace
 use Rattle.loom_law.specs.Event.{Event, Deed, entry_by, entry_of, is_target, targets}
 use Rattle.loom_law.specs.Replay.{Spawned, Store, start, replay}
 use Rattle.loom_law.specs.Run.{AreRun}
-use Rattle.loom_law.specs.Lawful.{thread_of, is_some_thread, thread_entries, last_from, stops_at, is_over, AllEnded, Ends, Stands, IsFinished, IsLawful}
+use Rattle.loom_law.specs.Lawful.{thread_of, is_some_thread, thread_entries, last_thread_entry, stops_at, is_over, AllEnded, Ends, Stands, IsFinished, IsLawful}
 use Rattle.loom_top.specs.Built.{builds_words, builds_body, builds_functions, is_nil, is_built}
 use Rattle.loom_top.specs.Plain.{deed, tells, body_deeds, first_values, entries, entries_of, function_events, never}
 use Rattle.loom_top.proofs.Facts.{both}
@@ -64,11 +64,11 @@ below_limit n limit h = go (eqb_tells n limit)
 
 pub never_stopped : (o : Option Entry) → stops_at never o ≡ false
 never_stopped None = refl
-never_stopped (Some x) = elim (is_some_thread (thread_of x)) as (λ v. (v && never x) ≡ false) [ true ↦ refl | false ↦ refl ]
+never_stopped (Some x) = refl
 
 pub not_over : (limit : ℕ) (front : List Entry) → length front < limit → is_over limit never front ≡ false
 not_over limit front h =
-    let stopped = never_stopped (last_from None front) in
+    let stopped = never_stopped (last_thread_entry None front) in
     let limited = below_limit (thread_entries front) limit (omega (arith, few_entries front)) in
     rw (stopped, limited) refl
 

@@ -1,5 +1,5 @@
 -- What the top call answers, and what it writes.
-use Rattle.std.specs.Prelude.{ℕ, ◌+◌, ◌<◌, ◌≤◌, ◌≡◌, ◌≢◌, ◌⊎◌, true, List, [], ◌∷◌, ◌++◌, codes, length, take, Option, Some, IfSome}
+use Rattle.std.specs.Prelude.{ℕ, ◌<◌, ◌≤◌, ◌≡◌, ◌⊎◌, true, List, ◌++◌, codes, length, Option, Some, IfSome}
 use Rattle.std.specs.Io.KnownBytes.{Appends}
 use Rattle.loom_io.specs.Causes.{Rose, TookFront}
 use Rattle.loom_tree.specs.Tree.{Source}

@@ -1,7 +1,7 @@
-use Rattle.std.proofs.Common.{◌≡◌, ◌≤◌, ◌<◌, List, ℕ, map, codes, length, refl, ap, sym, subst, arith}
+use Rattle.std.proofs.Common.{◌≤◌, ◌<◌, map, codes, length, refl, ap, arith}
 use Rattle.loom_top.specs.declared.status.Status.TheVariants as status
-use Rattle.loom_top.specs.Answers.{FileEnds, source_limit}
-use Rattle.loom_top.proofs.Top.{WasRead, answered, file_answered, long_file}
+use Rattle.loom_top.specs.Answers.{source_limit}
+use Rattle.loom_top.proofs.Top.{answered, file_answered, long_file}
 use Rattle.loom_top.proofs.alone.answer.Goals as goal
 
 pub returns-in_default-clause-answers : goal.returns-in_default-clause-answers

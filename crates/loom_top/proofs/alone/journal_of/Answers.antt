@@ -1,4 +1,4 @@
-use Rattle.std.proofs.Common.{◌≤◌, arith, not}
+use Rattle.std.proofs.Common.{arith}
 use Rattle.loom_lang.proofs.Texts.{one_program}
 use Rattle.loom_top.proofs.Few.{few_in_program}
 use Rattle.loom_top.proofs.Top.{not_built, none_runs}

@@ -1,4 +1,4 @@
-use Rattle.std.proofs.Common.{◌≡◌, ◌++◌, List, ℕ, codes, subst}
+use Rattle.std.proofs.Common.{◌++◌, List, ℕ, codes, subst}
 use Rattle.std.specs.Io.KnownBytes.{Appends}
 use Rattle.loom_io.specs.Causes.{TookFront}
 use Rattle.loom_io.proofs.Pages.{front_longer}

@@ -1,4 +1,4 @@
-use Rattle.std.proofs.Common.{◌≡◌, List, ℕ, ◌∷◌, [], ◌∙◌, ap, arith, refl, slice_index_or, Bor, subst}
+use Rattle.std.proofs.Common.{List, ℕ, ◌∷◌, [], ◌∙◌, ap, arith, refl, slice_index_or, Bor, subst}
 use Rattle.std.specs.Cmp.Lexicographic.{same_text}
 use Rattle.loom_top.specs.Command.{IsFileName}
 use Rattle.loom_top.proofs.Words.{two_words}

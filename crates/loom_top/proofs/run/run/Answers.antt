@@ -1,4 +1,4 @@
-use Rattle.std.proofs.Common.{◌≡◌, ◌<◌, List, sym, subst, arith}
+use Rattle.std.proofs.Common.{◌<◌, List, subst, arith}
 use Rattle.loom_trace.specs.declared.entry.Entry.{Entry}
 use Rattle.loom_top.specs.Answers.{IsDone}
 use Rattle.loom_top.specs.Plain.{function_events}

@@ -55,10 +55,22 @@ pub enum Kind {
 
 /// A list of statements.
 #[cycle(statements)]
-#[derive(Debug, Drop)]
+#[derive(Debug)]
 pub enum Stmts {
     End,
     More(Box<Stmt>, Box<Stmts>),
+}
+
+impl Drop for Stmts {
+    #[cycle(drops)]
+    fn drop(mut self) {
+        loop {
+            match self {
+                Stmts::End => return,
+                Stmts::More(_, rest) => self = Box::into_inner(rest),
+            }
+        }
+    }
 }
 
 /// A function, and the line of its `fn`.

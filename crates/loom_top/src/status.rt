@@ -15,6 +15,4 @@ pub enum Status {
     WriteFault,
     /// Memory ran out before the run began.
     NoMemory,
-    /// The file has more bytes than a program may have.
-    TooLong,
 }

@@ -68,11 +68,11 @@ fn refuses_what_is_no_program(rt: HostRuntime) -> Result<(), Fail> {
 }
 
 #[test]
-fn tells_a_long_file(rt: HostRuntime) -> Result<(), Fail> {
+fn refuses_a_long_file(rt: HostRuntime) -> Result<(), Fail> {
     let spaces = vec![in rt.alloc(); b' '; 65537]?;
     let (status, text) = run_of(rt.alloc(), &spaces)?;
-    assert_eq!(rt; status, 10);
-    assert_eq!(rt; text.bytes(), "too long: p.lm\n".as_bytes());
+    assert_eq!(rt; status, 2);
+    assert_eq!(rt; text.bytes(), "program refused\n".as_bytes());
     Ok(())
 }
 

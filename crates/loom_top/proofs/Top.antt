@@ -62,7 +62,11 @@ pub long_owes : (s : Seen) (words : List (List ℕ)) (name bytes : List ℕ) →
     → Owes s words status.Refused (codes "program refused\n")
 long_owes s words name bytes c r l =
     let f = long_file (s.told name) bytes r l in
-    (name, c, f.0, f.1, λ (p : Source) (runs : CanRun f.0 p). omega (arith, runs.small, f.2), refl)
+    (name, c, f.0, f.1, ((λ (p : Source) (runs : CanRun f.0 p). omega (arith, runs.small, f.2)), refl))
+
+pub long_answered : (s : Seen) (words : List (List ℕ)) (name bytes : List ℕ) (result : Status) → IsCommand words name → WasRead (s.told name) bytes → source_limit < length bytes
+    → Put s.taken_before s.taken_after s.sink_before s.sink_after (codes "program refused\n") status.Refused result → Answers s words result
+long_answered s words name bytes result c r l put = answered s words (codes "program refused\n") status.Refused result (long_owes s words name bytes c r l) put
 
 pub file_answered : (s : Seen) (words : List (List ℕ)) (name bytes : List ℕ) (result : Status) → IsCommand words name → WasRead (s.told name) bytes → length bytes ≤ source_limit
     → FileEnds bytes s.taken_before s.taken_after s.sink_before s.sink_after result → Answers s words result

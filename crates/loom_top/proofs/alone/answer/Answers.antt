@@ -1,7 +1,7 @@
 use Rattle.std.proofs.Common.{◌≤◌, ◌<◌, map, codes, length, refl, ap, arith}
 use Rattle.loom_top.specs.declared.status.Status.TheVariants as status
 use Rattle.loom_top.specs.Answers.{source_limit}
-use Rattle.loom_top.proofs.Top.{answered, file_answered, long_owes}
+use Rattle.loom_top.proofs.Top.{answered, file_answered, long_answered}
 use Rattle.loom_top.proofs.alone.answer.Goals as goal
 
 pub returns-in_default-clause-answers : goal.returns-in_default-clause-answers
@@ -19,9 +19,8 @@ returns-in-Err-Failed-clause-answers g c =
 pub returns-then-bytes-gt-SOURCE_LIMIT-clause-answers : goal.returns-then-bytes-gt-SOURCE_LIMIT-clause-answers
 returns-then-bytes-gt-SOURCE_LIMIT-clause-answers g c =
     let long : source_limit < length c.in-Ok.file = omega (arith, ap length c.bytes.ensures, c.if-bytes-gt-SOURCE_LIMIT.true) in
-    answered _ (map (λ w. w.now) c.args.words.now) (codes "program refused\n") status.Refused c.put_text-then-bytes-gt-SOURCE_LIMIT.result
-    (long_owes _ (map (λ w. w.now) c.args.words.now) c.in-Some.name.now c.in-Ok.file c.in-Some.ensures.found c.in-Ok.ensures.whole long)
-    c.put_text-then-bytes-gt-SOURCE_LIMIT.ensures.put
+    long_answered _ (map (λ w. w.now) c.args.words.now) c.in-Some.name.now c.in-Ok.file c.put_text-then-bytes-gt-SOURCE_LIMIT.result
+    c.in-Some.ensures.found c.in-Ok.ensures.whole long c.put_text-then-bytes-gt-SOURCE_LIMIT.ensures.put
 
 pub returns-clause-answers : goal.returns-clause-answers
 returns-clause-answers g c =

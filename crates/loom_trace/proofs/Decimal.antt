@@ -3,7 +3,7 @@ use Rattle.std.proofs.Common.{ℕ, zero, suc, ◌+◌, ◌/◌, ◌%◌, ◌^◌
 use Rattle.std.proofs.lemmas.Bool.{lt-ltb, le-ltb, cases_lt}
 use Rattle.std.proofs.lemmas.Fmt as fmt
 use Rattle.std.specs.Fmt as std
-use Rattle.loom_trace.specs.Text.{digits_within, decimal, signed_decimal}
+use Rattle.loom_tree.specs.Decimal.{digits_within, decimal, signed_decimal}
 
 digits_small : (k n : ℕ) → n < 10 → digits_within (suc k) n ≡ (48 + n) ∷ []
 digits_small k n h = rw (lt-ltb n 10 h) refl

@@ -1,7 +1,7 @@
 -- The number that digits write.
 use Rattle.std.proofs.Common.{ℕ, zero, suc, ◌+◌, ◌-◌, ◌*◌, ◌/◌, ◌%◌, ◌<◌, ◌≤◌, ◌≡◌, nat_eq, if◌then◌else◌, ℤ, pos, negsuc, neg_ℤ, List, [], ◌∷◌, ◌++◌, map, refl, ap, ◌∙◌, inl, inr, arith}
 use Rattle.std.proofs.lemmas.Bool.{lt-ltb, ne_eqb, cases_lt}
-use Rattle.loom_trace.specs.Text.{decimal, signed_decimal}
+use Rattle.loom_tree.specs.Decimal.{decimal, signed_decimal}
 use Rattle.loom_trace.proofs.Cut.{Each, above}
 use Rattle.loom_trace.proofs.Decimal.{decimal_digit, decimal_step}
 

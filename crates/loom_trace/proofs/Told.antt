@@ -8,7 +8,8 @@ use Rattle.loom_trace.specs.declared.entry.What.{What}
 use Rattle.loom_trace.specs.declared.entry.What.TheVariants as what
 use Rattle.loom_trace.specs.declared.entry.Entry.{Entry}
 use Rattle.loom_trace.specs.declared.entry.Entry.TheVariants as e
-use Rattle.loom_trace.specs.Text.{decimal, thread_at, what_fields, ending_word}
+use Rattle.loom_tree.specs.Decimal.{decimal}
+use Rattle.loom_trace.specs.Text.{thread_at, what_fields, ending_word}
 use Rattle.loom_trace.specs.Parts.{place_of, word_of, fields_of}
 use Rattle.loom_trace.proofs.Numbers.{number, signed_number, Digits, digits_told, number_told, signed_told, numbers_told, values_told}
 

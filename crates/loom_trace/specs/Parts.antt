@@ -2,7 +2,8 @@
 use Rattle.std.specs.Prelude.{ℕ, List, [], ◌∷◌, ◌++◌, map, codes, Option, Some, None}
 use Rattle.loom_trace.specs.declared.entry.Entry.{Entry}
 use Rattle.loom_trace.specs.declared.entry.Entry.TheVariants as e
-use Rattle.loom_trace.specs.Text.{decimal, signed_decimal, thread_at, what_fields, ending_word}
+use Rattle.loom_tree.specs.Decimal.{decimal, signed_decimal}
+use Rattle.loom_trace.specs.Text.{thread_at, what_fields, ending_word}
 
 -- where a thread does something, and a space
 abbrev pub thread_before : ℕ → ℕ → List ℕ

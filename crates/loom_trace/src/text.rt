@@ -1,6 +1,7 @@
 //! The text of an entry.
 ghost use Rattle.std.specs.Prelude.{◌≡◌, ◌+◌, ◌*◌, ◌<◌, ◌≤◌, [], ◌∷◌, ◌++◌, length, map};
-ghost use Rattle.loom_trace.specs.Text.{decimal, signed_decimal, spaced, what_fields, ending_word, entry_line};
+ghost use Rattle.loom_tree.specs.Decimal.{decimal, signed_decimal};
+ghost use Rattle.loom_trace.specs.Text.{spaced, what_fields, ending_word, entry_line};
 ghost use Rattle.loom_trace.specs.Parts.{thread_before, place_of, before, word_of, fields_of};
 
 use crate::entry::{Ending, Entry, What};

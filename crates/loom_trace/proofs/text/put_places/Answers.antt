@@ -1,5 +1,5 @@
 use Rattle.std.proofs.Common.{ℕ, ◌≡◌, ◌+◌, List, [], ◌∷◌, ◌++◌, length, length-append, get_or, ap, ◌∙◌, arith}
-use Rattle.loom_trace.specs.Text.{decimal}
+use Rattle.loom_tree.specs.Decimal.{decimal}
 use Rattle.loom_trace.proofs.Fields.{spaced_more}
 use Rattle.loom_trace.proofs.text.put_places.Goals as goal
 

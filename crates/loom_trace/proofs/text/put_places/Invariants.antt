@@ -1,5 +1,6 @@
 use Rattle.std.proofs.Common.{◌≡◌, ◌≤◌, ◌+◌, ◌*◌, ◌++◌, length, map, take}
-use Rattle.loom_trace.specs.Text.{decimal, spaced}
+use Rattle.loom_tree.specs.Decimal.{decimal}
+use Rattle.loom_trace.specs.Text.{spaced}
 use Rattle.loom_trace.proofs.text.put_places.Given as goal
 
 abbrev pub invariant-loop-place : goal.invariant-loop-place

@@ -1,5 +1,5 @@
 use Rattle.std.proofs.Common.{ℕ, ◌≡◌, ◌+◌, ℤ, List, [], ◌∷◌, ◌++◌, length, length-append, get_or, pos, w64, to_z, of_z, ap, ◌∙◌, arith, rules}
-use Rattle.loom_trace.specs.Text.{signed_decimal}
+use Rattle.loom_tree.specs.Decimal.{signed_decimal}
 use Rattle.std.proofs.lemmas.Int.{to_z-of_z}
 use Rattle.loom_trace.proofs.Fields.{spaced_more}
 use Rattle.loom_trace.proofs.text.put_values.Goals as goal

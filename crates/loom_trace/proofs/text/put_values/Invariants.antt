@@ -1,5 +1,6 @@
 use Rattle.std.proofs.Common.{◌≡◌, ◌≤◌, ◌+◌, ◌*◌, ◌++◌, length, map, take}
-use Rattle.loom_trace.specs.Text.{signed_decimal, spaced}
+use Rattle.loom_tree.specs.Decimal.{signed_decimal}
+use Rattle.loom_trace.specs.Text.{spaced}
 use Rattle.loom_trace.proofs.text.put_values.Given as goal
 
 abbrev pub invariant-loop-value : goal.invariant-loop-value

@@ -7,3 +7,5 @@ pub mod Trace
 pub mod Gathered
 pub mod Program
 pub mod Laws
+pub mod Refusal
+pub mod Canonical

@@ -41,6 +41,11 @@ abbrev pub takes : List Function → List ℕ → ℕ → Bool
 takes [] x n = false
 takes (f ∷ fs) x n = (pointwise ◌==◌ f.name x && length f.params == n) || takes fs x n
 
+-- a function has that name
+abbrev pub is_function : List Function → List ℕ → Bool
+is_function [] x = false
+is_function (f ∷ fs) x = pointwise ◌==◌ f.name x || is_function fs x
+
 -- what a function's statements name, each in its role; the locals are those of the function
 
 abbrev pub knows : Source → List (List ℕ) → Expression → Bool
@@ -55,9 +60,9 @@ abbrev pub knows_all : Source → List (List ℕ) → List Expression → Bool
 knows_all p locals [] = true
 knows_all p locals (e ∷ es) = knows p locals e && knows_all p locals es
 
--- a call or a spawn of a function, with as many arguments as it has parameters
+-- a call or a spawn of a function
 abbrev pub knows_call : Source → List (List ℕ) → List ℕ → List Expression → Bool
-knows_call p locals f es = takes p.funcs f (length es) && knows_all p locals es
+knows_call p locals f es = is_function p.funcs f && knows_all p locals es
 
 -- what is put into a name by `=`: a local takes anything, a word a value alone
 abbrev pub knows_right : Source → List (List ℕ) → List ℕ → Right Expression → Bool
@@ -88,6 +93,28 @@ knows_body p locals end = true
 knows_body p locals (simple l s rest) = knows_simple p locals s && knows_body p locals rest
 knows_body p locals (if_ l e a b rest) = knows p locals e && (knows_body p locals a && (knows_body p locals b && knows_body p locals rest))
 knows_body p locals (while_ l e a rest) = knows p locals e && (knows_body p locals a && knows_body p locals rest)
+
+-- A call or a spawn of a function that is there has as many arguments as it has parameters.
+
+abbrev pub counts_call : Source → List ℕ → List Expression → Bool
+counts_call p f es = not (is_function p.funcs f) || takes p.funcs f (length es)
+
+abbrev pub counts_right : Source → Right Expression → Bool
+counts_right p (Right.value e) = true
+counts_right p (Right.call f es) = counts_call p f es
+counts_right p (Right.spawn f es) = counts_call p f es
+
+abbrev pub counts_simple : Source → Simple Expression → Bool
+counts_simple p (let_ x r) = counts_right p r
+counts_simple p (set x r) = counts_right p r
+counts_simple p (Simple.call f es) = counts_call p f es
+counts_simple p _ = true
+
+abbrev pub counts_body : Source → Body → Bool
+counts_body p end = true
+counts_body p (simple l s rest) = counts_simple p s && counts_body p rest
+counts_body p (if_ l e a b rest) = counts_body p a && (counts_body p b && counts_body p rest)
+counts_body p (while_ l e a rest) = counts_body p a && counts_body p rest
 
 -- the names of the `let` statements, in the order of the text
 abbrev pub let_names : Simple Expression → List (List ℕ)
@@ -144,6 +171,8 @@ pub record IsLawfulFunction (p : Source) (f : Function) : Type 0 where
   pub apart : is_apart (locals_of f) (file_names p) ≡ true
   -- each name is known in its role
   pub known : knows_body p (locals_of f) f.body ≡ true
+  -- calls and spawns have the right number of arguments
+  pub counted : counts_body p f.body ≡ true
   pub params : length f.params ≤ 4
   pub locals : length (locals_of f) ≤ 32
 

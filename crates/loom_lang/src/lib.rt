@@ -9,6 +9,7 @@ mod limits;
 mod names;
 pub mod parse;
 pub mod program;
+pub mod refusal;
 mod rules;
 #[cfg(test)]
 mod tests;

@@ -7,7 +7,8 @@ use Rattle.loom_io.specs.Causes.{TookFront, Paged}
 use Rattle.loom_io.proofs.Pages.{paged_then, front_longer, front_behind}
 use Rattle.loom_trace.specs.declared.entry.Entry.{Entry}
 use Rattle.loom_trace.specs.declared.entry.Entry.TheVariants as e
-use Rattle.loom_trace.specs.Text.{entry_line, printed_line, printed_lines, ended, journal_text}
+use Rattle.loom_tree.specs.Lines.{ended}
+use Rattle.loom_trace.specs.Text.{entry_line, printed_line, printed_lines, journal_text}
 
 -- what an answer says, and what follows from it
 

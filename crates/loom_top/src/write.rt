@@ -2,7 +2,8 @@
 ghost use Rattle.std.specs.Prelude.{◌≤◌, [], ◌∷◌, ◌++◌, length, map, OnOk, OnErr};
 ghost use Rattle.std.specs.Io.KnownBytes.{Appends};
 ghost use Rattle.loom_io.specs.Causes.{Rose, TookFront, Paged};
-ghost use Rattle.loom_trace.specs.Text.{entry_line, printed_line, printed_lines, ended, journal_text};
+ghost use Rattle.loom_tree.specs.Lines.{ended};
+ghost use Rattle.loom_trace.specs.Text.{entry_line, printed_line, printed_lines, journal_text};
 
 use loom_io::page::{Page, put_page, put_paged};
 use loom_io::sink::{Sink, SinkFailed};

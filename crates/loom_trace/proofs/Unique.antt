@@ -9,7 +9,8 @@ use Rattle.loom_trace.specs.declared.entry.What.TheVariants as what
 use Rattle.loom_trace.specs.declared.entry.Entry.{Entry}
 use Rattle.loom_trace.specs.declared.entry.Entry.TheVariants as e
 use Rattle.loom_tree.specs.Decimal.{decimal, signed_decimal}
-use Rattle.loom_trace.specs.Text.{spaced, what_fields, ending_word, entry_line, printed_line, printed_lines, journal_lines, ended, journal_text}
+use Rattle.loom_tree.specs.Lines.{ended}
+use Rattle.loom_trace.specs.Text.{spaced, what_fields, ending_word, entry_line, printed_line, printed_lines, journal_lines, journal_text}
 use Rattle.loom_trace.specs.Parts.{place_of, word_of, fields_of}
 use Rattle.loom_trace.proofs.Cut.{Each, Stops, one_cut, same_rest, each_append, above, each_weaker}
 use Rattle.loom_trace.proofs.Numbers.{Digits, digits_told, each_decimal, each_signed}

@@ -1,6 +1,7 @@
 -- The text of a journal.
 use Rattle.std.specs.Prelude.{ℕ, List, [], ◌∷◌, ◌++◌, map, codes}
 use Rattle.loom_tree.specs.Decimal.{decimal, signed_decimal}
+use Rattle.loom_tree.specs.Lines.{ended}
 use Rattle.loom_trace.specs.declared.entry.Ending.{Ending}
 use Rattle.loom_trace.specs.declared.entry.Ending.TheVariants as ending
 use Rattle.loom_trace.specs.declared.entry.What.{What}
@@ -83,11 +84,6 @@ printed_lines (x ∷ es) = printed_line x ++ printed_lines es
 -- the lines of a journal: what is printed, `---`, and the entries
 abbrev pub journal_lines : List Entry → List (List ℕ)
 journal_lines es = printed_lines es ++ codes "---" ∷ map entry_line es
-
--- lines, each with what ends it
-abbrev pub ended : List (List ℕ) → List ℕ
-ended [] = []
-ended (line ∷ lines) = line ++ 10 ∷ ended lines
 
 abbrev pub journal_text : List Entry → List ℕ
 journal_text es = ended (journal_lines es)

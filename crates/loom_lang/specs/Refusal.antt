@@ -1,0 +1,146 @@
+-- Why bytes are no program, and at which line.
+use Rattle.std.specs.Prelude.{ℕ, ◌+◌, ◌<◌, ◌≤◌, ◌≡◌, ◌⊎◌, ◌==◌, nat_lt, Bool, not, ◌&&◌, cond, List, [], ◌∷◌, ◌++◌, length, map, flat_map, take, drop, slice_get, Option, Some, None, codes}
+use Rattle.std.specs.Cmp.Lexicographic.{pointwise}
+use Rattle.loom_tree.specs.Token.{Placed}
+use Rattle.loom_tree.specs.Tree.{Simple, let_, Body, end, simple, if_, while_, Function, Item, word, mutex, sema, func, Source}
+use Rattle.loom_lexer.specs.Tokens.{AreTokens, last_line}
+use Rattle.loom_syntax.specs.Written.{IsRefusedAt}
+use Rattle.loom_lang.specs.declared.refusal.Which.TheVariants as which
+use Rattle.loom_lang.specs.declared.refusal.Reason.{Reason}
+use Rattle.loom_lang.specs.declared.refusal.Reason.TheVariants as reason
+use Rattle.loom_lang.specs.Rules.{is_in, is_function, takes, knows, knows_simple, counts_simple, let_names, locals_of, lines_of, cells_of}
+use Rattle.loom_lang.specs.Gathered.{source_of_items}
+use Rattle.loom_lang.specs.Program.{IsText}
+
+-- The lines at which each reason stands. That of a statement is the one on which it begins.
+
+abbrev pub line_if : Bool → ℕ → List ℕ
+line_if b line = cond b (line ∷ []) []
+
+-- `SecondOnLine`: a statement doesn't begin behind the line of the one before it
+abbrev pub second_lines : ℕ → List ℕ → List ℕ
+second_lines before [] = []
+second_lines before (l ∷ ls) = line_if (not (nat_lt before l)) l ++ second_lines l ls
+
+-- `UnknownName`: a statement names what isn't known in that role. A condition belongs to the statement.
+abbrev pub unknown_lines : Source → List (List ℕ) → Body → List ℕ
+unknown_lines p locals end = []
+unknown_lines p locals (simple l s rest) = line_if (not (knows_simple p locals s)) l ++ unknown_lines p locals rest
+unknown_lines p locals (if_ l e a b rest) = line_if (not (knows p locals e)) l ++ (unknown_lines p locals a ++ (unknown_lines p locals b ++ unknown_lines p locals rest))
+unknown_lines p locals (while_ l e a rest) = line_if (not (knows p locals e)) l ++ (unknown_lines p locals a ++ unknown_lines p locals rest)
+
+-- `WrongCount`: a call or a spawn has another number of arguments than the function has parameters
+abbrev pub miscounted_lines : Source → Body → List ℕ
+miscounted_lines p end = []
+miscounted_lines p (simple l s rest) = line_if (not (counts_simple p s)) l ++ miscounted_lines p rest
+miscounted_lines p (if_ l e a b rest) = miscounted_lines p a ++ (miscounted_lines p b ++ miscounted_lines p rest)
+miscounted_lines p (while_ l e a rest) = miscounted_lines p a ++ miscounted_lines p rest
+
+-- and `main` has parameters
+abbrev pub main_lines : Source → List ℕ
+main_lines p = flat_map (λ (f : Function). line_if (pointwise ◌==◌ f.name (codes "main") && not (takes p.funcs (codes "main") 0)) f.line) p.funcs
+
+-- the names of the `let` statements, and their lines
+abbrev pub lets_at : Body → List (List ℕ × ℕ)
+lets_at end = []
+lets_at (simple l s rest) = map (λ x. (x, l)) (let_names s) ++ lets_at rest
+lets_at (if_ l e a b rest) = lets_at a ++ (lets_at b ++ lets_at rest)
+lets_at (while_ l e a rest) = lets_at a ++ lets_at rest
+
+-- the locals of a function, and their lines: a parameter stands at that of the `fn`
+abbrev pub locals_at : Function → List (List ℕ × ℕ)
+locals_at f = map (λ x. (x, f.line)) f.params ++ lets_at f.body
+
+-- the lines of those names that are among the ones before
+abbrev pub repeated : List (List ℕ) → List (List ℕ × ℕ) → List ℕ
+repeated before [] = []
+repeated before (d ∷ ds) = line_if (is_in d.0 before) d.1 ++ repeated (d.0 ∷ before) ds
+
+-- `NameTwice`: the second declaration in the order of the text. Of an item it is that of an item before it or of a local of
+-- one before it; of a local, that of an item before it, its function among them, or of a local of its function.
+abbrev pub twice_lines : List (List ℕ) → List (List ℕ) → List Item → List ℕ
+twice_lines names locals [] = []
+twice_lines names locals (word l w ∷ is) = line_if (is_in w.name (names ++ locals)) l ++ twice_lines (w.name ∷ names) locals is
+twice_lines names locals (mutex l x ∷ is) = line_if (is_in x (names ++ locals)) l ++ twice_lines (x ∷ names) locals is
+twice_lines names locals (sema l s ∷ is) = line_if (is_in s.name (names ++ locals)) l ++ twice_lines (s.name ∷ names) locals is
+twice_lines names locals (func f ∷ is) = line_if (is_in f.name (names ++ locals)) f.line ++ (repeated (f.name ∷ names) (locals_at f) ++ twice_lines (f.name ∷ names) (locals_of f ++ locals) is)
+
+-- `TooMany`: the first that is behind as many as there may be
+abbrev pub over : ℕ → List ℕ → List ℕ
+over most lines = take 1 (drop most lines)
+
+-- the lines of the words, arrays, mutexes and semaphores
+abbrev pub shared_lines : List Item → List ℕ
+shared_lines [] = []
+shared_lines (word l w ∷ is) = l ∷ shared_lines is
+shared_lines (mutex l x ∷ is) = l ∷ shared_lines is
+shared_lines (sema l s ∷ is) = l ∷ shared_lines is
+shared_lines (func f ∷ is) = shared_lines is
+
+-- the first word or array with which there are more cells than there may be, so many being before it
+abbrev pub cells_over : ℕ → List Item → List ℕ
+cells_over before [] = []
+cells_over before (word l w ∷ is) = cond (nat_lt 1024 (before + cells_of w)) (l ∷ []) (cells_over (before + cells_of w) is)
+cells_over before (_ ∷ is) = cells_over before is
+
+-- The lines at which a reason stands in the items of a file that ends on this line. Where the grammar is left is told by the tokens.
+abbrev pub lines_of_reason : List Item → ℕ → Reason → List ℕ
+lines_of_reason items last reason.Syntax = []
+lines_of_reason items last reason.SecondOnLine = second_lines 0 (lines_of (source_of_items items))
+lines_of_reason items last reason.UnknownName = flat_map (λ (f : Function). unknown_lines (source_of_items items) (locals_of f) f.body) (source_of_items items).funcs
+lines_of_reason items last reason.NameTwice = twice_lines [] [] items
+lines_of_reason items last reason.WrongCount = main_lines (source_of_items items) ++ flat_map (λ (f : Function). miscounted_lines (source_of_items items) f.body) (source_of_items items).funcs
+lines_of_reason items last reason.NoMain = line_if (not (is_function (source_of_items items).funcs (codes "main"))) last
+lines_of_reason items last (reason.TooMany which.Functions) = over 64 (map (λ (f : Function). f.line) (source_of_items items).funcs)
+lines_of_reason items last (reason.TooMany which.Params) = flat_map (λ (f : Function). line_if (nat_lt 4 (length f.params)) f.line) (source_of_items items).funcs
+lines_of_reason items last (reason.TooMany which.Locals) = flat_map (λ (f : Function). over 32 (map (λ (d : List ℕ × ℕ). d.1) (locals_at f))) (source_of_items items).funcs
+lines_of_reason items last (reason.TooMany which.Names) = over 64 (shared_lines items)
+lines_of_reason items last (reason.TooMany which.Cells) = cells_over 0 items
+lines_of_reason items last (reason.TooMany which.Statements) = over 4096 (lines_of (source_of_items items))
+
+-- the order of the reasons
+abbrev pub rank : Reason → ℕ
+rank reason.Syntax = 1
+rank reason.SecondOnLine = 2
+rank reason.UnknownName = 3
+rank reason.NameTwice = 4
+rank reason.WrongCount = 5
+rank reason.NoMain = 6
+rank (reason.TooMany which.Functions) = 7
+rank (reason.TooMany which.Params) = 8
+rank (reason.TooMany which.Locals) = 9
+rank (reason.TooMany which.Names) = 10
+rank (reason.TooMany which.Cells) = 11
+rank (reason.TooMany which.Statements) = 12
+
+abbrev pub IsAmong : ℕ → List ℕ → Type 0
+IsAmong l [] = ⊥
+IsAmong l (k ∷ ks) = (l ≡ k) ⊎ IsAmong l ks
+
+-- The rules are broken at this line for this reason, and nowhere before: the least line counts, then the least reason.
+pub record IsFirstFault (items : List Item) (last : ℕ) (line : ℕ) (why : Reason) : Type 0 where
+  pub stands : IsAmong line (lines_of_reason items last why)
+  pub first : (l : ℕ) (r : Reason) → IsAmong l (lines_of_reason items last r) → (line < l) ⊎ ((line ≡ l) × (rank why ≤ rank r))
+
+-- The bytes leave the grammar at this line: that of the first token behind which no file can follow, or the last one.
+abbrev pub line_at : ℕ → Option Placed → ℕ
+line_at last None = last
+line_at last (Some t) = t.line
+
+pub record IsNoFile (bytes : List ℕ) (line : ℕ) : Type 0 where
+  pub tokens : List Placed
+  pub lexed : AreTokens bytes tokens
+  pub token : ℕ
+  pub refused : IsRefusedAt tokens token
+  pub stands : line ≡ line_at (last_line bytes) (slice_get tokens token)
+
+-- The bytes are in the grammar, and the rules are broken.
+pub record IsFaulty (bytes : List ℕ) (line : ℕ) (why : Reason) : Type 0 where
+  pub items : List Item
+  pub text : IsText bytes items
+  pub fault : IsFirstFault items (last_line bytes) line why
+
+-- The bytes are no program, for this reason at this line.
+abbrev pub IsRefusedProgram : List ℕ → ℕ → Reason → Type 0
+IsRefusedProgram bytes line reason.Syntax = IsNoFile bytes line
+IsRefusedProgram bytes line why = IsFaulty bytes line why

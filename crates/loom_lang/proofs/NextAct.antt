@@ -11,14 +11,14 @@ use Rattle.loom_lang.specs.Acts.{Deed, acts, AnswerTheSame, IsAlike}
 use Rattle.loom_lang.specs.Laws.{HasOneNextAct, HasOneEnd}
 
 -- The acts of two lists are alike where those before them are the same, and a list that ends earlier is broken off.
-abbrev pub Agree : List Deed → Outcome → List Deed → Outcome → Type 0
+abbrev Agree : List Deed → Outcome → List Deed → Outcome → Type 0
 Agree [] r [] s = Unit {0}
 Agree [] r (y ∷ ys) s = r ≡ Open
 Agree (x ∷ xs) r [] s = s ≡ Open
 Agree (x ∷ xs) r (y ∷ ys) s = IsAlike x y × (x ≡ y → Agree xs r ys s)
 
 -- each list of the one agrees with each of the other
-abbrev pub Match : Lists → Lists → Type 0
+abbrev Match : Lists → Lists → Type 0
 Match P Q = (is js : List Item) (r s : Outcome) → P is r → Q js s → Agree (acts is) r (acts js) s
 
 open_left : (ds : List Deed) (s : Outcome) → Agree [] Open ds s
@@ -103,9 +103,9 @@ either_matches t l c a P Q x y no_same st m is js r s (inr h) (inr k) = made_mat
 reading_matches : (l w : ℕ) (more more' : ℤ → Lists) → ((v : ℤ) → Match (more v) (more' v)) → Match (reading l w more) (reading l w more')
 reading_matches l w more more' m is js r s h k =
     let behind : read w h.0 ≡ read w k.0 → Match (more h.0) (more' k.0) = λ e.
-        let same : h.0 ≡ k.0 = cc in
-        let P : ℤ → Type 0 = λ z. Match (more h.0) (more' z) in
-        subst P same (m h.0) in
+    let same : h.0 ≡ k.0 = cc in
+    let P : ℤ → Type 0 = λ z. Match (more h.0) (more' z) in
+    subst P same (m h.0) in
     differ l (read w h.0) (read w k.0) (more h.0) (more' k.0) refl behind is js r s h.1 k.1
 
 reading_word_matches : (l : ℕ) (c : Option Cells) (more more' : ℤ → Lists) → ((v : ℤ) → Match (more v) (more' v)) → Match (reading_word l c more) (reading_word l c more')
@@ -151,10 +151,10 @@ arguments_match t l env (e ∷ es) more more' st m = expression_matches t l env 
 -- Statements
 
 -- calls of the one match those of the other, whatever comes behind them
-abbrev pub CallsMatch : Calls → Calls → Type 1
+abbrev CallsMatch : Calls → Calls → Type 1
 CallsMatch calls calls' = (l f : ℕ) (vs : List ℤ) (more more' : ℤ → Lists) → ((v : ℤ) → Match (more v) (more' v)) → Match (calls l f vs more) (calls' l f vs more')
 
-abbrev pub spawning : Thread → ℕ → ℕ → List ℤ → (ℤ → Lists) → Lists
+abbrev spawning : Thread → ℕ → ℕ → List ℤ → (ℤ → Lists) → Lists
 spawning t l n vs more = either (trapped t l threads) (any (λ c. emit (made l (spawn c n vs)) (more (pos c))))
 
 spawning_matches : (t : Thread) (l n : ℕ) (vs : List ℤ) (more more' : ℤ → Lists) → Match t.stopped t.stopped → ((v : ℤ) → Match (more v) (more' v))
@@ -164,9 +164,9 @@ spawning_matches t l n vs more more' st m is js r s (inl h) (inr k) = differ l (
 spawning_matches t l n vs more more' st m is js r s (inr h) (inl k) = differ l (spawn h.0 n vs) (trap threads) (more (pos h.0)) t.stopped tt (λ e. cc) is js r s h.1 k
 spawning_matches t l n vs more more' st m is js r s (inr h) (inr k) =
     let behind : spawn h.0 n vs ≡ spawn k.0 n vs → Match (more (pos h.0)) (more' (pos k.0)) = λ e.
-        let same : h.0 ≡ k.0 = cc in
-        let P : ℕ → Type 0 = λ z. Match (more (pos h.0)) (more' (pos z)) in
-        subst P same (m (pos h.0)) in
+    let same : h.0 ≡ k.0 = cc in
+    let P : ℕ → Type 0 = λ z. Match (more (pos h.0)) (more' (pos z)) in
+    subst P same (m (pos h.0)) in
     differ l (spawn h.0 n vs) (spawn k.0 n vs) (more (pos h.0)) (more' (pos k.0)) (refl, refl) behind is js r s h.1 k.1
 
 right_matches : (t : Thread) (calls calls' : Calls) (l : ℕ) (env : Locals) (e : Right Expression) (more more' : ℤ → Lists) → Match t.stopped t.stopped → CallsMatch calls calls'
@@ -212,13 +212,13 @@ effect_matches t calls calls' l env (tree.join e) ret ret' more more' st c b m =
 effect_matches t calls calls' l env (tree.print e) ret ret' more more' st c b m = expression_matches t l env e _ _ st (λ v. made_matches l (print v) _ _ (m env))
 effect_matches t calls calls' l env tree.skip ret ret' more more' st c b m = m env
 
-abbrev pub Turn : Type 1
+abbrev Turn : Type 1
 Turn = Locals → (Locals → Lists) → (Locals → Lists) → Lists
 
 -- two loops, each with its own number of turns
 turns_match : (turn turn' : Turn)
     → ((env : Locals) (again again' leave leave' : Locals → Lists) → ((env' : Locals) → Match (again env') (again' env')) → ((env' : Locals) → Match (leave env') (leave' env'))
-        → Match (turn env again leave) (turn' env again' leave'))
+    → Match (turn env again leave) (turn' env again' leave'))
     → (more more' : Locals → Lists) → ((env : Locals) → Match (more env) (more' env)) → (n k : ℕ) (env : Locals) → Match (turns n turn more env) (turns k turn' more' env)
 turns_match turn turn' one more more' m zero k env = broken_left _
 turns_match turn turn' one more more' m (suc n) zero env = broken_right _
@@ -239,8 +239,8 @@ body_matches t calls calls' n k env (if_ l e x y rest) ret ret' more more' st c 
 body_matches t calls calls' n k env (while_ l e x rest) ret ret' more more' st c b m =
     emit_matches (begins l env) (begins l env) _ _ (turns_match _ _
     (λ env' again again' leave leave' again_matches leave_matches. expression_matches t l env' e _ _ st (λ v.
-        choice_matches (is_zero v) _ _ _ _ (leave_matches env')
-        (body_matches t calls calls' n k env' x ret ret' _ _ st c b (λ env''. emit_matches (edge l) (edge l) _ _ (again_matches env'')))))
+    choice_matches (is_zero v) _ _ _ _ (leave_matches env')
+    (body_matches t calls calls' n k env' x ret ret' _ _ st c b (λ env''. emit_matches (edge l) (edge l) _ _ (again_matches env'')))))
     _ _ (λ env'. emit_matches (done l) (done l) _ _ (body_matches t calls calls' n k env' rest ret ret' more more' st c b m))
     n k env)
 

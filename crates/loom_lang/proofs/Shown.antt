@@ -1,8 +1,10 @@
--- The places of a worked program.
+-- A worked program keeps the rules, and its places.
 use Rattle.std.proofs.Common.{ℕ, ◌≡◌, pos, List, [], ◌∷◌, map, None, refl, codes}
 use Rattle.loom_tree.specs.declared.expression.Op.TheVariants as o
 use Rattle.loom_tree.specs.Tree.{num, var, bin, Right, Simple, let_, set, print, end, simple, while_, Source}
+use Rattle.loom_lang.specs.Rules.{IsLawful}
 use Rattle.loom_lang.specs.Places.{nowhere, entry, inside, back_edge, out, places, line_of_place}
+use Rattle.loom_lang.proofs.Lawful.{rules_kept}
 
 -- 1  shared x;
 -- 2  fn step() {
@@ -33,16 +35,19 @@ calls = record {
     params = [];
     body = simple 6 (let_ (codes "i") (Right.value (num (pos 0))))
         (while_ 7 (bin o.Lt (var (codes "i")) (num (pos 3)))
-            (simple 8 (Simple.call (codes "step") [])
-            (simple 9 (set (codes "x") (Right.value (bin o.Mul (var (codes "x")) (num (pos 2)))))
-            (simple 10 (set (codes "i") (Right.value (bin o.Add (var (codes "i")) (num (pos 1))))) end)))
+        (simple 8 (Simple.call (codes "step") [])
+        (simple 9 (set (codes "x") (Right.value (bin o.Mul (var (codes "x")) (num (pos 2)))))
+        (simple 10 (set (codes "i") (Right.value (bin o.Add (var (codes "i")) (num (pos 1))))) end)))
         (simple 12 (print (var (codes "x"))) end));
   } ∷ [];
 }
 
-calls_places : places calls
+pub calls_lawful : IsLawful calls
+calls_lawful = rules_kept calls refl
+
+pub calls_places : places calls
     ≡ nowhere ∷ entry 0 ∷ inside 3 ∷ out 0 ∷ entry 1 ∷ inside 6 ∷ inside 7 ∷ back_edge 7 ∷ inside 8 ∷ inside 9 ∷ inside 10 ∷ inside 12 ∷ out 1 ∷ []
 calls_places = refl
 
-calls_lines : map (line_of_place calls) (places calls) ≡ 0 ∷ 2 ∷ 3 ∷ 2 ∷ 5 ∷ 6 ∷ 7 ∷ 7 ∷ 8 ∷ 9 ∷ 10 ∷ 12 ∷ 5 ∷ []
+pub calls_lines : map (line_of_place calls) (places calls) ≡ 0 ∷ 2 ∷ 3 ∷ 2 ∷ 5 ∷ 6 ∷ 7 ∷ 7 ∷ 8 ∷ 9 ∷ 10 ∷ 12 ∷ 5 ∷ []
 calls_lines = refl

@@ -1,5 +1,5 @@
 -- A worked program keeps the rules, and its places.
-use Rattle.std.proofs.Common.{ℕ, ◌≡◌, pos, List, [], ◌∷◌, map, None, refl, codes}
+use Rattle.std.proofs.Common.{◌≡◌, pos, [], ◌∷◌, map, None, refl, codes}
 use Rattle.loom_tree.specs.declared.expression.Op.TheVariants as o
 use Rattle.loom_tree.specs.Tree.{num, var, bin, Right, Simple, let_, set, print, end, simple, while_, Source}
 use Rattle.loom_lang.specs.Rules.{IsLawful}

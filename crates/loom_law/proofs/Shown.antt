@@ -1,17 +1,17 @@
 -- Worked programs, their runs, and lists that are no run.
-use Rattle.std.proofs.Common.{ℕ, suc, ◌+◌, ◌≤◌, ◌≡◌, inl, inr, pos, List, [], ◌∷◌, ◌++◌, map, Some, None, refl, ap, subst, codes, arith}
+use Rattle.std.proofs.Common.{ℕ, ◌≡◌, inl, inr, pos, List, [], ◌∷◌, ◌++◌, map, Some, None, refl, ap, subst, codes, arith}
 use Rattle.loom_trace.specs.declared.entry.Entry.{Entry}
 use Rattle.loom_trace.specs.declared.entry.Entry.TheVariants as e
 use Rattle.loom_tree.specs.declared.expression.Op.TheVariants as o
 use Rattle.loom_tree.specs.Tree.{num, var, bin, Right, Simple, let_, set, simple, while_, Source}
 use Rattle.loom_tree.specs.Tree as tree
 use Rattle.loom_lang.specs.Rules.{IsLawful}
-use Rattle.loom_lang.specs.Trace.{Act, begin, end, trap, threads, overflow, read, write, lock, up, spawn, join, print, Finished, Open}
+use Rattle.loom_lang.specs.Trace.{Act, begin, end, trap, threads, overflow, read, write, lock, spawn, join, print, Finished, Open}
 use Rattle.loom_lang.specs.Acts.{Deed, IsAlike}
 use Rattle.loom_lang.proofs.Lawful.{rules_kept}
 use Rattle.loom_lang.proofs.NextAct.{one_next_act}
 use Rattle.loom_lang.proofs.Shown.{calls}
-use Rattle.loom_law.specs.Event.{Event, entry_of}
+use Rattle.loom_law.specs.Event.{Event}
 use Rattle.loom_law.specs.Replay.{start, thread_at, replay, AreAllowed}
 use Rattle.loom_law.specs.Run.{IsTraced, IsThreadTraced, IsRun}
 use Rattle.loom_law.proofs.Runs.{next, given, threads_traced, begins, does, allowed_behind, event_of, events_told}

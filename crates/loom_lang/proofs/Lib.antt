@@ -1,6 +1,7 @@
 pub mod FileNames
 pub mod Gathered
 pub mod Lawful
-mod ShownText
+pub mod NextAct
+pub mod Shown
 pub mod Statements
 pub mod Texts

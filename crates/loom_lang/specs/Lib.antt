@@ -4,6 +4,7 @@ pub mod Numbers
 pub mod Places
 pub mod Values
 pub mod Trace
+pub mod Acts
 pub mod Gathered
 pub mod Program
 pub mod Laws

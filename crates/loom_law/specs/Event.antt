@@ -3,6 +3,7 @@ use Rattle.std.specs.Prelude.{ℕ, ◌==◌, Bool, true, false, List, [], ◌∷
 use Rattle.loom_trace.specs.declared.entry.Entry.{Entry}
 use Rattle.loom_trace.specs.declared.entry.Entry.TheVariants as e
 use Rattle.loom_lang.specs.Trace.{Act, begin, end, trap, read, write, lock, unlock, down, up, spawn, join, print, reason}
+use Rattle.loom_lang.specs.Acts.{Deed}
 
 -- an act of a thread at a line
 pub record Event : Type 0 where
@@ -49,10 +50,6 @@ targets [] = []
 targets (x ∷ xs) = if is_target x then x ∷ targets xs else targets xs
 
 -- what one thread did, in its order
-pub record Deed : Type 0 where
-  pub line : ℕ
-  pub act : Act
-
 abbrev pub deeds : ℕ → List Event → List Deed
 deeds t [] = []
 deeds t (x ∷ xs) = if x.thread == t then record { line = x.line; act = x.act } ∷ deeds t xs else deeds t xs

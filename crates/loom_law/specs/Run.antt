@@ -1,20 +1,11 @@
 -- Runs of a program.
-use Rattle.std.specs.Prelude.{ℕ, ◌≡◌, ℤ, List, [], ◌∷◌, map, Option, Some, None}
+use Rattle.std.specs.Prelude.{ℕ, ◌≡◌, ℤ, List, [], map, Option, Some, None}
 use Rattle.loom_tree.specs.Tree.{Source}
 use Rattle.loom_trace.specs.declared.entry.Entry.{Entry}
-use Rattle.loom_lang.specs.Trace.{Item, made, begins, done, edge, enter, out, Outcome, IsTrace}
-use Rattle.loom_law.specs.Event.{Event, entry_of, Deed, deeds}
+use Rattle.loom_lang.specs.Trace.{Item, Outcome, IsTrace}
+use Rattle.loom_lang.specs.Acts.{Deed, acts}
+use Rattle.loom_law.specs.Event.{Event, entry_of, deeds}
 use Rattle.loom_law.specs.Replay.{Spawned, start, thread_at, replay, AreAllowed}
-
--- the acts of a trace, without its marks
-abbrev pub acts : List Item → List Deed
-acts [] = []
-acts (made l a ∷ is) = record { line = l; act = a } ∷ acts is
-acts (begins l env ∷ is) = acts is
-acts (done l ∷ is) = acts is
-acts (edge l ∷ is) = acts is
-acts (enter f ∷ is) = acts is
-acts (out f ∷ is) = acts is
 
 -- these are the acts of a trace of a thread of this function with these arguments
 pub record IsTraced (p : Source) (f : ℕ) (vs : List ℤ) (ds : List Deed) : Type 0 where

@@ -11,7 +11,8 @@ use Rattle.loom_tree.specs.Tree as tree
 use Rattle.loom_lang.specs.Rules.{is_word, knows, knows_simple, knows_body}
 use Rattle.loom_lang.specs.Numbers.{function_number}
 use Rattle.loom_lang.specs.Trace as trace
-use Rattle.loom_law.specs.Event.{Event, Deed, deeds}
+use Rattle.loom_lang.specs.Acts.{Deed}
+use Rattle.loom_law.specs.Event.{Event, deeds}
 use Rattle.loom_law.specs.Run.{IsTraced, IsThreadTraced, AreRun}
 use Rattle.loom_law.specs.Replay.{Spawned, Store, start, nobody, main_thread, new_thread, replay, thread_at, IsRunning, AreAllowed}
 use Rattle.loom_law.specs.Replay as law

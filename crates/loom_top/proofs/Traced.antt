@@ -8,8 +8,8 @@ use Rattle.loom_lang.specs.Rules.{is_word, knows, knows_simple, knows_body, lets
 use Rattle.loom_lang.specs.Numbers.{Cells, cells_from, cells_named}
 use Rattle.loom_lang.specs.Trace.{Act, begin, write, print, Item, made, begins, done, enter, out, Outcome, Finished, Lists, finished, emit, Thread, Locals, reading, reading_word, writing_word, stored, expression, right, effect, body, Calls, calls_to, frame_locals, bound, framed, ended, thread, IsTrace}
 use Rattle.loom_lang.specs.Trace as trace
-use Rattle.loom_law.specs.Event.{Deed}
-use Rattle.loom_law.specs.Run.{acts, IsTraced}
+use Rattle.loom_lang.specs.Acts.{Deed, acts}
+use Rattle.loom_law.specs.Run.{IsTraced}
 use Rattle.loom_top.specs.Built.{builds_words, builds_expression, builds_simple, builds_body}
 use Rattle.loom_top.specs.Plain.{deed, word_index, value, reads, simple_deeds, simple_values, body_deeds, first_values}
 use Rattle.loom_top.proofs.Facts.{both, plain, cells_plain}

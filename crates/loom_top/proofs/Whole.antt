@@ -15,7 +15,8 @@ use Rattle.loom_lang.specs.Rules.{takes, knows_body, lets, locals_of, AreLawfulF
 use Rattle.loom_lang.specs.Rules as rules
 use Rattle.loom_lang.specs.Numbers.{position, function_number}
 use Rattle.loom_lang.specs.Trace as trace
-use Rattle.loom_law.specs.Event.{Event, Deed, entry_by, entry_of, is_target, targets}
+use Rattle.loom_lang.specs.Acts.{Deed}
+use Rattle.loom_law.specs.Event.{Event, entry_by, entry_of, is_target, targets}
 use Rattle.loom_law.specs.Replay.{Spawned, Store, start, replay}
 use Rattle.loom_law.specs.Run.{AreRun}
 use Rattle.loom_law.specs.Lawful.{thread_of, is_some_thread, thread_entries, last_thread_entry, stops_at, is_over, AllEnded, Ends, Stands, IsFinished, IsLawful}

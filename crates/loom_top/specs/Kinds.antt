@@ -6,7 +6,7 @@ use Rattle.loom_tree.specs.declared.statement.Right.TheVariants as r
 use Rattle.loom_tree.specs.declared.statement.Kind.{Kind}
 use Rattle.loom_tree.specs.declared.statement.Kind.TheVariants as k
 use Rattle.loom_tree.specs.Tree.{Right, set, print, expression_of}
-use Rattle.loom_law.specs.Event.{Deed}
+use Rattle.loom_lang.specs.Acts.{Deed}
 use Rattle.loom_top.specs.Built.{builds_expression}
 use Rattle.loom_top.specs.Plain.{simple_deeds, simple_values}
 

@@ -10,7 +10,8 @@ use Rattle.loom_trace.specs.declared.entry.Entry.TheVariants as e
 use Rattle.loom_trace.specs.declared.entry.Ending.TheVariants as k
 use Rattle.loom_lang.specs.Values.{applied}
 use Rattle.loom_lang.specs.Trace.{Act, read, write, print}
-use Rattle.loom_law.specs.Event.{Deed, entry_by}
+use Rattle.loom_lang.specs.Acts.{Deed}
+use Rattle.loom_law.specs.Event.{entry_by}
 
 abbrev pub deed : ℕ → Act → Deed
 deed l a = record { line = l; act = a }

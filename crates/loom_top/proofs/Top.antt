@@ -35,15 +35,17 @@ answered s words text owed result o (inl h) =
     whole status.ReadFault k = (text, k, h.1)
     whole status.WriteFault k = absurd k
     whole status.NoMemory k = (text, k, h.1)
+    whole status.TooLong k = (text, k, h.1)
 
-pub owes_file : (s : Seen) (words : List (List ℕ)) (name file text : List ℕ) (owed : Status) → IsCommand words name → IsFileOf s name file
+pub owes_file : (s : Seen) (words : List (List ℕ)) (name file text : List ℕ) (owed : Status) → IsCommand words name → IsFileOf s name file → length file ≤ source_limit
     → FileOwes file owed text → Owes s words owed text
-owes_file s words name file text status.Done c t o = (name, c, file, t, o)
-owes_file s words name file text status.Refused c t o = (name, c, file, t, o)
-owes_file s words name file text status.NoMemory c t o = (name, c, o)
-owes_file s words name file text status.Usage c t o = absurd o
-owes_file s words name file text status.ReadFault c t o = absurd o
-owes_file s words name file text status.WriteFault c t o = absurd o
+owes_file s words name file text status.Done c t l o = (name, c, file, t, l, o)
+owes_file s words name file text status.Refused c t l o = (name, c, file, t, l, o)
+owes_file s words name file text status.NoMemory c t l o = (name, c, o)
+owes_file s words name file text status.Usage c t l o = absurd o
+owes_file s words name file text status.ReadFault c t l o = absurd o
+owes_file s words name file text status.WriteFault c t l o = absurd o
+owes_file s words name file text status.TooLong c t l o = absurd o
 
 -- what a shelf answered of a file
 abbrev pub WasRead : Option (List ℕ) → List ℕ → Type 0
@@ -59,19 +61,19 @@ long_file None bytes h l = (bytes, tt, l)
 long_file (Some file) bytes h l = (file, refl, omega (arith, ap length h, l, length-take 65537 file))
 
 pub long_owes : (s : Seen) (words : List (List ℕ)) (name bytes : List ℕ) → IsCommand words name → WasRead (s.told name) bytes → source_limit < length bytes
-    → Owes s words status.Refused (codes "program refused\n")
+    → Owes s words status.TooLong (codes "too long: " ++ (name ++ codes "\n"))
 long_owes s words name bytes c r l =
     let f = long_file (s.told name) bytes r l in
-    (name, c, f.0, f.1, ((λ (p : Source) (runs : CanRun f.0 p). omega (arith, runs.small, f.2)), refl))
+    (name, c, f.0, f.1, f.2, refl)
 
 pub long_answered : (s : Seen) (words : List (List ℕ)) (name bytes : List ℕ) (result : Status) → IsCommand words name → WasRead (s.told name) bytes → source_limit < length bytes
-    → Put s.taken_before s.taken_after s.sink_before s.sink_after (codes "program refused\n") status.Refused result → Answers s words result
-long_answered s words name bytes result c r l put = answered s words (codes "program refused\n") status.Refused result (long_owes s words name bytes c r l) put
+    → Put s.taken_before s.taken_after s.sink_before s.sink_after (codes "too long: " ++ (name ++ codes "\n")) status.TooLong result → Answers s words result
+long_answered s words name bytes result c r l put = answered s words (codes "too long: " ++ (name ++ codes "\n")) status.TooLong result (long_owes s words name bytes c r l) put
 
 pub file_answered : (s : Seen) (words : List (List ℕ)) (name bytes : List ℕ) (result : Status) → IsCommand words name → WasRead (s.told name) bytes → length bytes ≤ source_limit
     → FileEnds bytes s.taken_before s.taken_after s.sink_before s.sink_after result → Answers s words result
 file_answered s words name bytes result c r l e =
-    answered s words e.1 e.0 result (owes_file s words name bytes e.1 e.0 c (whole_file (s.told name) bytes r l) e.2) e.3
+    answered s words e.1 e.0 result (owes_file s words name bytes e.1 e.0 c (whole_file (s.told name) bytes r l) l e.2) e.3
 
 -- Completeness
 
@@ -91,11 +93,15 @@ complete s words status.ReadFault h v =
     let o = h.1 in
     let P : List ℕ → Type 0 = λ z. Rose (s.faults_before z) (s.faults_after z) in
     absurd (v.read (subst P (one_name words o.0 v.name o.1 v.command) o.2))
+complete s words status.TooLong h v =
+    let o = h.1 in
+    let same = told_one s o.0 v.name v.file (λ z. z ≡ o.2) (one_name words o.0 v.name o.1 v.command) v.told o.3 in
+    absurd (omega (arith, ap length same, o.4, v.small))
 complete s words status.Refused h v =
     let o = h.1 in
     let same = told_one s o.0 v.name v.file (λ z. z ≡ o.2) (one_name words o.0 v.name o.1 v.command) v.told o.3 in
     let P : List ℕ → Type 0 = λ z. CanRun z v.program in
-    absurd (o.4.0 v.program (subst P same v.runs))
+    absurd (o.5.0 v.program (subst P same v.runs))
 complete s words status.WriteFault h v = absurd (v.written h.0)
 
 -- a program that the bytes are is the only one

@@ -26,7 +26,6 @@ entry_limit = 100000
 
 -- The bytes are a program, of the forms that can be run so far.
 pub record CanRun (file : List ℕ) (p : Source) : Type 0 where
-  pub small : length file ≤ source_limit
   pub program : IsProgram file p
   pub built : is_built p ≡ true
 
@@ -58,13 +57,14 @@ FileOwes file _ text = ⊥
 abbrev pub IsFileOf : Seen → List ℕ → List ℕ → Type 0
 IsFileOf s name file = IfSome (s.told name) (λ told. told ≡ file)
 
--- What the call is to write, and with which status. It tests the words, the read and the program, in this order.
+-- What the call is to write, and with which status. It tests the words, the read, the length and the program, in this order.
 abbrev pub Owes : Seen → List (List ℕ) → Status → List ℕ → Type 0
 Owes s words status.Usage text = ((name : List ℕ) → IsCommand words name → ⊥) × (text ≡ codes "usage\n")
 Owes s words status.ReadFault text = (name : List ℕ) × IsCommand words name × Rose (s.faults_before name) (s.faults_after name) × (text ≡ codes "read fault: " ++ (name ++ codes "\n"))
-Owes s words status.Refused text = (name : List ℕ) × IsCommand words name × (file : List ℕ) × IsFileOf s name file × FileOwes file status.Refused text
+Owes s words status.TooLong text = (name : List ℕ) × IsCommand words name × (file : List ℕ) × IsFileOf s name file × (source_limit < length file) × (text ≡ codes "too long: " ++ (name ++ codes "\n"))
+Owes s words status.Refused text = (name : List ℕ) × IsCommand words name × (file : List ℕ) × IsFileOf s name file × (length file ≤ source_limit) × FileOwes file status.Refused text
 Owes s words status.NoMemory text = (name : List ℕ) × IsCommand words name × (text ≡ codes "no memory\n")
-Owes s words status.Done text = (name : List ℕ) × IsCommand words name × (file : List ℕ) × IsFileOf s name file × FileOwes file status.Done text
+Owes s words status.Done text = (name : List ℕ) × IsCommand words name × (file : List ℕ) × IsFileOf s name file × (length file ≤ source_limit) × FileOwes file status.Done text
 Owes s words status.WriteFault text = ⊥
 
 -- What a call did: it wrote all that it was to write, or the sink failed behind a front of that.
@@ -78,6 +78,7 @@ pub record IsValid (s : Seen) (words : List (List ℕ)) : Type 0 where
   pub command : IsCommand words name
   pub file : List ℕ
   pub told : s.told name ≡ Some file
+  pub small : length file ≤ source_limit
   pub program : Source
   pub runs : CanRun file program
   pub read : Rose (s.faults_before name) (s.faults_after name) → ⊥

@@ -10,3 +10,4 @@ code status.Refused = 2
 code status.ReadFault = 4
 code status.WriteFault = 5
 code status.NoMemory = 6
+code status.TooLong = 10

@@ -120,7 +120,7 @@ fn answer<F: Shelf, K: Sink>(alloc: Global, words: &[&str], shelf: &mut F, sink:
         Err(ShelfError::Failed) => put_named(sink, b"read fault: ", name, Status::ReadFault),
         Ok(file) => {
             if file.bytes().len() > SOURCE_LIMIT {
-                put_text(sink, b"program refused\n", Status::Refused)
+                put_named(sink, b"too long: ", name, Status::TooLong)
             } else {
                 run_file(alloc, file.bytes(), sink)
             }
@@ -132,8 +132,8 @@ fn answer<F: Shelf, K: Sink>(alloc: Global, words: &[&str], shelf: &mut F, sink:
 /// writes the text of its journal. What it answers is the status with which the program ends:
 ///
 /// 0 the run is done and its text was written; 1 the words are no command; 2 the file is no program that
-/// can be run, of at most 65,536 bytes; 4 the shelf could not read the file; 5 the sink could not take the
-/// text; 6 memory ran out before the run began.
+/// can be run; 4 the shelf could not read the file; 5 the sink could not take the text; 6 memory ran out
+/// before the run began; 10 the file has more than 65,536 bytes.
 pub fn loom_alone<F: Shelf, K: Sink>(
     alloc: Global,
     words: &[&str],

@@ -15,5 +15,6 @@ pub fn code_of(status: Status) -> u8
         Status::ReadFault => 4,
         Status::WriteFault => 5,
         Status::NoMemory => 6,
+        Status::TooLong => 10,
     }
 }

@@ -15,4 +15,6 @@ pub enum Status {
     WriteFault,
     /// Memory ran out before the run began.
     NoMemory,
+    /// The file has more bytes than a program may have.
+    TooLong,
 }

@@ -68,11 +68,11 @@ fn refuses_what_is_no_program(rt: HostRuntime) -> Result<(), Fail> {
 }
 
 #[test]
-fn refuses_a_long_file(rt: HostRuntime) -> Result<(), Fail> {
+fn tells_a_long_file(rt: HostRuntime) -> Result<(), Fail> {
     let spaces = vec![in rt.alloc(); b' '; 65537]?;
     let (status, text) = run_of(rt.alloc(), &spaces)?;
-    assert_eq!(rt; status, 2);
-    assert_eq!(rt; text.bytes(), "program refused\n".as_bytes());
+    assert_eq!(rt; status, 10);
+    assert_eq!(rt; text.bytes(), "too long: p.lm\n".as_bytes());
     Ok(())
 }
 
@@ -116,15 +116,24 @@ fn tells_a_read_fault(rt: HostRuntime) -> Result<(), Fail> {
 
 #[test]
 fn tells_a_write_fault(rt: HostRuntime) -> Result<(), Fail> {
-    for (call, front) in [(1, 0), (2, 4), (3, 8), (4, 12)] {
-        let mut shelf = shelf_of(rt.alloc(), b"p.lm", SUM)?;
+    let spaces = vec![in rt.alloc(); b' '; 65537]?;
+    let cases: [(&[u8], u64, &[u8]); 6] = [
+        (SUM, 1, b""),
+        (SUM, 2, b"5\n--"),
+        (SUM, 3, b"5\n---\n1:"),
+        (SUM, 4, b"5\n---\n1:1 be"),
+        (&spaces, 3, b"too long"),
+        (&spaces, 5, b"too long: p.lm"),
+    ];
+    for (bytes, call, front) in cases {
+        let mut shelf = shelf_of(rt.alloc(), b"p.lm", bytes)?;
         let mut sink = MemSink::make(rt.alloc(), 100, 4)?;
         sink.failing.0.push(call)?;
         assert_eq!(rt;
             loom_alone(rt.alloc(), &["run", "p.lm"], &mut shelf, &mut sink),
             5
         );
-        assert_eq!(rt; sink.taken.bytes(), &SUM_TEXT[..front], "at call {call}");
+        assert_eq!(rt; sink.taken.bytes(), front, "at call {call}");
     }
     Ok(())
 }

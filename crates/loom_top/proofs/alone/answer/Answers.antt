@@ -19,8 +19,8 @@ returns-in-Err-Failed-clause-answers g c =
 pub returns-then-bytes-gt-SOURCE_LIMIT-clause-answers : goal.returns-then-bytes-gt-SOURCE_LIMIT-clause-answers
 returns-then-bytes-gt-SOURCE_LIMIT-clause-answers g c =
     let long : source_limit < length c.in-Ok.file = omega (arith, ap length c.bytes.ensures, c.if-bytes-gt-SOURCE_LIMIT.true) in
-    long_answered _ (map (λ w. w.now) c.args.words.now) c.in-Some.name.now c.in-Ok.file c.put_text-then-bytes-gt-SOURCE_LIMIT.result
-    c.in-Some.ensures.found c.in-Ok.ensures.whole long c.put_text-then-bytes-gt-SOURCE_LIMIT.ensures.put
+    long_answered _ (map (λ w. w.now) c.args.words.now) c.in-Some.name.now c.in-Ok.file c.put_named-then-bytes-gt-SOURCE_LIMIT.result
+    c.in-Some.ensures.found c.in-Ok.ensures.whole long c.put_named-then-bytes-gt-SOURCE_LIMIT.ensures.put
 
 pub returns-clause-answers : goal.returns-clause-answers
 returns-clause-answers g c =

@@ -1,4 +1,4 @@
--- What a thread does without its marks, and when two threads ask for the same.
+-- What a thread does without its marks, and when two acts answer the same request.
 use Rattle.std.specs.Prelude.{ℕ, ◌≡◌, pos, List, [], ◌∷◌}
 use Rattle.loom_lang.specs.Trace.{not_held, not_spawned, threads, overflow, Act, trap, read, unlock, up, spawn, join, Item, made, begins, done, edge, enter, out}
 

@@ -1,6 +1,12 @@
-pub mod FileNames
+pub mod Behind
+pub mod Declared
+pub mod Distinct
+pub mod Empty
 pub mod Gathered
-pub mod Lawful
+pub mod Kept
+pub mod Least
+pub mod Noted
+pub mod Passed
+pub mod Repeated
 mod ShownText
-pub mod Statements
 pub mod Texts

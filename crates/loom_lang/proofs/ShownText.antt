@@ -14,4 +14,5 @@ product = record {
 }
 
 canonical_product : canonical_text product ≡ codes "fn main() {\n  print (2 + 3) * 4;\n}\n"
-canonical_product = unfolding decimal in refl
+unfolding decimal product
+canonical_product = refl

@@ -2,8 +2,7 @@
 use Rattle.std.proofs.Common.{ℕ, ◌+◌, suc, ◌<◌, ◌≤◌, ◌≡◌, Bool, true, false, not, ◌&&◌, ◌||◌, cond, nat_lt, ◌⊎◌, inl, inr, List, [], ◌∷◌, ◌++◌, length, take, drop, map, refl, ap, sym, ◌∙◌, arith, length-append, length-drop}
 use Rattle.std.specs.Prelude.{◌==◌, flat_map}
 use Rattle.std.specs.Cmp.Lexicographic.{pointwise}
-use Rattle.std.proofs.lemmas.Bool.{lt-ltb}
-use Rattle.std.proofs.lemmas.Bool.Decides.{leb_tells, nat_tests}
+use Rattle.std.proofs.lemmas.Bool.{le-ltb, ltb-false}
 use Rattle.std.proofs.lemmas.List.{length-map, nil_from_length}
 use Rattle.loom_tree.specs.declared.item.Word.{Word}
 use Rattle.loom_tree.specs.declared.item.Sema.{Sema}
@@ -84,7 +83,7 @@ pub kept_over : (most : ℕ) (ls : List ℕ) → length ls ≤ most → is_empty
 kept_over most ls h = ap (λ (z : List ℕ). is_empty (take 1 z)) (nil_from_length (drop most ls) (omega (arith, length-drop most ls)))
 
 pub local_count : (f : Function) → length (map (λ (d : Local). d.line) (locals_at f)) ≡ length (locals_of f)
-local_count f = length-map (λ (d : Local). d.line) (locals_at f) ∙ sym (length-map (λ (d : Local). d.name) (locals_at f)) ∙ ap length (locals_names f)
+local_count f = simp length-map (simp length-map at (ap length (locals_names f)))
 
 pub shared_count : (items : List Item) → length (shared_lines items) ≡ length (shared_names (source_of_items items))
 shared_count [] = refl
@@ -103,17 +102,19 @@ shared_count (func f ∷ is) = shared_count is
 
 pub cells_kept : (before : ℕ) (items : List Item) → before ≤ 1024 → is_empty (cells_over before items) ≡ true → before + cell_count (source_of_items items).words ≤ 1024
 cells_kept before [] b h = omega arith
-cells_kept before (word l w ∷ is) b h = go (leb_tells 1025 (before + cells_of w)) h
+cells_kept before (word l w ∷ is) b h = go (nat_lt 1024 (before + cells_of w)) refl h (cells_kept (before + cells_of w) is)
   where
-    go : ((nat_lt 1024 (before + cells_of w) ≡ true) × (1024 < before + cells_of w)) ⊎ ((nat_lt 1024 (before + cells_of w) ≡ false) × (before + cells_of w < 1025)) → is_empty (cond (nat_lt 1024 (before + cells_of w)) (l ∷ []) (cells_over (before + cells_of w) is)) ≡ true → before + (cells_of w + cell_count (source_of_items is).words) ≤ 1024
-    go x k = ?
+    go : (t : Bool) → nat_lt 1024 (before + cells_of w) ≡ t → is_empty (cond t (l ∷ []) (cells_over (before + cells_of w) is)) ≡ true → (before + cells_of w ≤ 1024 → is_empty (cells_over (before + cells_of w) is) ≡ true → before + cells_of w + cell_count (source_of_items is).words ≤ 1024) → before + (cells_of w + cell_count (source_of_items is).words) ≤ 1024
+    go true e k g = cc
+    go false e k g = let r : before + cells_of w + cell_count (source_of_items is).words ≤ 1024 = g (ltb-false 1024 (before + cells_of w) e) k in omega arith
 cells_kept before (mutex l x ∷ is) b h = cells_kept before is b h
 cells_kept before (sema l s ∷ is) b h = cells_kept before is b h
 cells_kept before (func f ∷ is) b h = cells_kept before is b h
 
 pub kept_cells : (before : ℕ) (items : List Item) → before + cell_count (source_of_items items).words ≤ 1024 → is_empty (cells_over before items) ≡ true
 kept_cells before [] h = refl
-kept_cells before (word l w ∷ is) h = ?
+kept_cells before (word l w ∷ is) h =
+    ap (λ t. is_empty (cond t (l ∷ []) (cells_over (before + cells_of w) is))) (le-ltb 1024 (before + cells_of w) (omega arith)) ∙ kept_cells (before + cells_of w) is (omega arith)
 kept_cells before (mutex l x ∷ is) h = kept_cells before is h
 kept_cells before (sema l s ∷ is) h = kept_cells before is h
 kept_cells before (func f ∷ is) h = kept_cells before is h

@@ -4,6 +4,7 @@ pub mod Distinct
 pub mod Empty
 pub mod Gathered
 pub mod Kept
+pub mod Lawful
 pub mod Least
 pub mod Noted
 pub mod Passed

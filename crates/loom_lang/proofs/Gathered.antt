@@ -1,5 +1,5 @@
 -- Items that are gathered one after another are gathered by their kinds.
-use Rattle.std.proofs.Common.{ℕ, ℤ, ◌+◌, ◌<◌, ◌≡◌, List, [], ◌∷◌, ◌++◌, Option, Some, None, MatchOption, ap, sym, ◌∙◌, arith, append_assoc}
+use Rattle.std.proofs.Common.{ℕ, ◌+◌, ◌≤◌, ◌≡◌, List, [], ◌∷◌, ◌++◌, ap, sym, ◌∙◌, arith, append_assoc}
 use Rattle.std.specs.Prelude.{flat_map}
 use Rattle.std.proofs.lemmas.List.{append-nil}
 use Rattle.loom_tree.specs.declared.item.Word.{Word}
@@ -33,13 +33,9 @@ cell_count-append : (xs ys : List Word) → cell_count (xs ++ ys) ≡ cell_count
 cell_count-append [] ys = omega arith
 cell_count-append (x ∷ xs) ys = omega (arith, cell_count-append xs ys)
 
--- where one item has too many cells, all have
-pub too_many_cells : (p : Source) (i : Item) (is all : List Item) → gathered p (i ∷ is) ≡ gathered nothing all → 1024 < cell_count (words_in i) → 1024 < cell_count (source_of_items all).words
-too_many_cells p i is all e h =
+-- where all have few cells, one item has
+pub few_cells : (p : Source) (i : Item) (is all : List Item) → gathered p (i ∷ is) ≡ gathered nothing all → cell_count (source_of_items all).words ≤ 1024 → cell_count (words_in i) ≤ 1024
+few_cells p i is all e h =
     let a : cell_count (p.words ++ (words_in i ++ flat_map words_in is)) ≡ cell_count p.words + (cell_count (words_in i) + cell_count (flat_map words_in is)) = cell_count-append p.words (words_in i ++ flat_map words_in is) ∙ ap (λ z. cell_count p.words + z) (cell_count-append (words_in i) (flat_map words_in is)) in
     let b : cell_count (p.words ++ (words_in i ++ flat_map words_in is)) ≡ cell_count (source_of_items all).words = ap (λ (z : Source). cell_count z.words) (sym (gathered-joined p (i ∷ is)) ∙ e ∙ gathered-all all) in
     omega arith
-
-pub many_cells : (l : ℕ) (name : List ℕ) (cells : Option ℕ) (first : ℤ) → MatchOption cells ⊥ (λ n. 1024 < n) → 1024 < cell_count (words_in (word l (record { name = name; cells = cells; first = first })))
-many_cells l name None first h = absurd h
-many_cells l name (Some n) first h = omega arith

@@ -1,15 +1,21 @@
--- The tests decide the rules.
-use Rattle.std.proofs.Common.{ℕ, ◌≤◌, ◌≡◌, Bool, true, false, not, ◌&&◌, cond, nat_lt, List, [], ◌∷◌, length, None, Result, Ok, Err, IfOk, IsTrue, ◌↔◌, refl, ap, sym, ◌∙◌}
-use Rattle.std.specs.Prelude.{is_some, codes}
+-- Items are without a fault exactly where they keep the rules.
+use Rattle.std.proofs.Common.{ℕ, ◌+◌, ◌≤◌, ◌≡◌, Bool, true, false, not, ◌&&◌, ◌||◌, nat_lt, List, [], ◌∷◌, ◌++◌, length, map, zero-le, refl, ap, sym, ◌∙◌, arith}
+use Rattle.std.specs.Prelude.{◌==◌, flat_map, codes}
+use Rattle.std.specs.Cmp.Lexicographic.{pointwise}
 use Rattle.std.proofs.lemmas.Bool.{le-ltb, ltb-false}
-use Rattle.std.proofs.Math.Dec.{ltb}
-use Rattle.loom_tree.specs.Tree.{Function, Source}
-use Rattle.loom_lang.specs.Rules.{IsLawful, IsLawfulFunction, AreLawfulFunctions, is_ascending, is_distinct, is_apart, knows_body, locals_of, file_names, lines_of, shared_names, cell_count, takes}
-use Rattle.loom_lang.specs.Decided.{climb, keeps_function, keeps_functions, keeps_limits, keeps_rules}
-
-pub climb_tells : (b : ℕ) (ls : List ℕ) → is_some (climb b ls) ≡ is_ascending b ls
-climb_tells b [] = refl
-climb_tells b (l ∷ ls) = elim (nat_lt b l) as (λ t. is_some (cond t (climb l ls) None) ≡ (t && is_ascending l ls)) [ true ↦ climb_tells l ls | false ↦ refl ]
+use Rattle.std.proofs.lemmas.List.{length-map}
+use Rattle.loom_tree.specs.Tree.{Function, Item, Source}
+use Rattle.loom_lang.specs.declared.local.Local.{Local}
+use Rattle.loom_lang.specs.declared.refusal.Which.TheVariants as which
+use Rattle.loom_lang.specs.declared.refusal.Reason.{Reason}
+use Rattle.loom_lang.specs.declared.refusal.Reason.TheVariants as reason
+use Rattle.loom_lang.specs.Rules.{is_function, takes, is_distinct, is_apart, locals_of, lines_of, cell_count, file_names, IsLawful, IsLawfulFunction, AreLawfulFunctions}
+use Rattle.loom_lang.specs.Gathered.{source_of_items}
+use Rattle.loom_lang.specs.Refusal.{line_if, unknown_lines, miscounted_lines, main_lines, locals_at, over, twice_lines, shared_lines, lines_of_reason, IsAmong, IsFaultless}
+use Rattle.loom_lang.proofs.Empty.{is_empty, empty_append, empty_line_if, none_among, among_none}
+use Rattle.loom_lang.proofs.Distinct.{apart_nil}
+use Rattle.loom_lang.proofs.Declared.{names_in, have_own, twice_empty}
+use Rattle.loom_lang.proofs.Kept.{empty_more, empty_functions, second_empty, unknown_empty, miscounted_empty, main_empty, takes_function, over_kept, kept_over, local_count, shared_count, cells_kept, kept_cells}
 
 both : (a b : Bool) → (a && b) ≡ true → (a ≡ true) × (b ≡ true)
 both true b h = (refl, h)
@@ -19,61 +25,110 @@ and_of : (a b : Bool) → a ≡ true → b ≡ true → (a && b) ≡ true
 and_of true b h g = g
 and_of false b h g = cc
 
-under : (n m : ℕ) → not (nat_lt n m) ≡ true → m ≤ n
-under n m h = ltb-false n m (elim (nat_lt n m) as (λ t. not t ≡ true → t ≡ false) [ true ↦ λ e. sym e | false ↦ λ e. refl ] h)
+-- what is looked for in each function
 
-is_under : (n m : ℕ) → m ≤ n → not (nat_lt n m) ≡ true
-is_under n m h = ap not (le-ltb n m h)
+abbrev unknown_in : Source → Function → List ℕ
+unknown_in p f = unknown_lines p (locals_of f) f.body
 
-function_kept : (p : Source) (f : Function) → keeps_function p f ≡ true → IsLawfulFunction p f
-function_kept p f h =
-    let h1 : (not (nat_lt 4 (length f.params)) ≡ true) × ((not (nat_lt 32 (length (locals_of f))) && (is_distinct (locals_of f) && (is_apart (locals_of f) (file_names p) && knows_body p (locals_of f) f.body))) ≡ true) = both _ _ h in
-    let h2 : (not (nat_lt 32 (length (locals_of f))) ≡ true) × ((is_distinct (locals_of f) && (is_apart (locals_of f) (file_names p) && knows_body p (locals_of f) f.body)) ≡ true) = both _ _ h1.1 in
-    let h3 : (is_distinct (locals_of f) ≡ true) × ((is_apart (locals_of f) (file_names p) && knows_body p (locals_of f) f.body) ≡ true) = both _ _ h2.1 in
-    let h4 : (is_apart (locals_of f) (file_names p) ≡ true) × (knows_body p (locals_of f) f.body ≡ true) = both _ _ h3.1 in
-    record { once = h3.0; apart = h4.0; known = h4.1; params = under 4 _ h1.0; locals = under 32 _ h2.0 }
+abbrev miscounted_in : Source → Function → List ℕ
+miscounted_in p f = miscounted_lines p f.body
 
-keeps_lawful : (p : Source) (f : Function) → IsLawfulFunction p f → keeps_function p f ≡ true
-keeps_lawful p f h = and_of _ _ (is_under 4 _ h.params) (and_of _ _ (is_under 32 _ h.locals) (and_of _ _ h.once (and_of _ _ h.apart h.known)))
+abbrev params_in : Function → List ℕ
+params_in f = line_if (nat_lt 4 (length f.params)) f.line
 
-functions_kept : (p : Source) (fs : List Function) → keeps_functions p fs ≡ true → AreLawfulFunctions p fs
-functions_kept p [] h = tt
-functions_kept p (f ∷ fs) h = let g : (keeps_function p f ≡ true) × (keeps_functions p fs ≡ true) = both _ _ h in (function_kept p f g.0, functions_kept p fs g.1)
+abbrev over_in : Function → List ℕ
+over_in f = over 32 (map (λ (d : Local). d.line) (locals_at f))
 
-keeps_lawful_all : (p : Source) (fs : List Function) → AreLawfulFunctions p fs → keeps_functions p fs ≡ true
-keeps_lawful_all p [] h = refl
-keeps_lawful_all p (f ∷ fs) h = and_of _ _ (keeps_lawful p f h.0) (keeps_lawful_all p fs h.1)
+params_kept : (f : Function) → is_empty (params_in f) ≡ true → length f.params ≤ 4
+params_kept f h = ltb-false 4 (length f.params) (go (nat_lt 4 (length f.params)) h)
+  where
+    go : (b : Bool) → is_empty (line_if b f.line) ≡ true → b ≡ false
+    go true k = cc
+    go false k = refl
 
--- what the tests accept keeps the rules
-pub rules_kept : (p : Source) → keeps_rules p ≡ true → IsLawful p
-rules_kept p h =
-    let h1 : (keeps_limits p ≡ true) × ((is_some (climb 0 (lines_of p)) && (is_distinct (file_names p) && (takes p.funcs (codes "main") 0 && keeps_functions p p.funcs))) ≡ true) = both _ _ h in
-    let h2 : (is_some (climb 0 (lines_of p)) ≡ true) × ((is_distinct (file_names p) && (takes p.funcs (codes "main") 0 && keeps_functions p p.funcs)) ≡ true) = both _ _ h1.1 in
-    let h3 : (is_distinct (file_names p) ≡ true) × ((takes p.funcs (codes "main") 0 && keeps_functions p p.funcs) ≡ true) = both _ _ h2.1 in
-    let h4 : (takes p.funcs (codes "main") 0 ≡ true) × (keeps_functions p p.funcs ≡ true) = both _ _ h3.1 in
-    let l1 : (not (nat_lt 64 (length p.funcs)) ≡ true) × ((not (nat_lt 64 (length (shared_names p))) && (not (nat_lt 1024 (cell_count p.words)) && not (nat_lt 4096 (length (lines_of p))))) ≡ true) = both _ _ h1.0 in
-    let l2 : (not (nat_lt 64 (length (shared_names p))) ≡ true) × ((not (nat_lt 1024 (cell_count p.words)) && not (nat_lt 4096 (length (lines_of p)))) ≡ true) = both _ _ l1.1 in
-    let l3 : (not (nat_lt 1024 (cell_count p.words)) ≡ true) × (not (nat_lt 4096 (length (lines_of p))) ≡ true) = both _ _ l2.1 in
+kept_params : (f : Function) → length f.params ≤ 4 → is_empty (params_in f) ≡ true
+kept_params f h = ap (λ b. is_empty (line_if b f.line)) (le-ltb 4 (length f.params) h)
+
+functions_kept : (p : Source) (fs : List Function) → is_empty (flat_map (unknown_in p) fs) ≡ true → is_empty (flat_map (miscounted_in p) fs) ≡ true → is_empty (flat_map params_in fs) ≡ true → is_empty (flat_map over_in fs) ≡ true → have_own (file_names p) fs ≡ true → AreLawfulFunctions p fs
+functions_kept p [] u m a l o = tt
+functions_kept p (f ∷ fs) u m a l o =
+    let u' : (is_empty (unknown_in p f) ≡ true) × (is_empty (flat_map (unknown_in p) fs) ≡ true) = both _ _ (sym (empty_functions (unknown_in p) f fs) ∙ u) in
+    let m' : (is_empty (miscounted_in p f) ≡ true) × (is_empty (flat_map (miscounted_in p) fs) ≡ true) = both _ _ (sym (empty_functions (miscounted_in p) f fs) ∙ m) in
+    let a' : (is_empty (params_in f) ≡ true) × (is_empty (flat_map params_in fs) ≡ true) = both _ _ (sym (empty_functions params_in f fs) ∙ a) in
+    let l' : (is_empty (over_in f) ≡ true) × (is_empty (flat_map over_in fs) ≡ true) = both _ _ (sym (empty_functions over_in f fs) ∙ l) in
+    let o' : ((is_distinct (locals_of f) && is_apart (locals_of f) (file_names p)) ≡ true) × (have_own (file_names p) fs ≡ true) = both _ _ o in
+    let own : (is_distinct (locals_of f) ≡ true) × (is_apart (locals_of f) (file_names p) ≡ true) = both _ _ o'.0 in
+    let lawful : IsLawfulFunction p f = record {
+      once = own.0;
+      apart = own.1;
+      known = sym (unknown_empty p (locals_of f) f.body) ∙ u'.0;
+      counted = sym (miscounted_empty p f.body) ∙ m'.0;
+      params = params_kept f a'.0;
+      locals = rw (← local_count f) (over_kept 32 _ l'.0);
+    } in
+    (lawful, functions_kept p fs u'.1 m'.1 a'.1 l'.1 o'.1)
+
+-- and the other way
+
+kept_each : (g : Function → List ℕ) (p : Source) → ((f : Function) → IsLawfulFunction p f → is_empty (g f) ≡ true) → (fs : List Function) → AreLawfulFunctions p fs → is_empty (flat_map g fs) ≡ true
+kept_each g p h [] k = refl
+kept_each g p h (f ∷ fs) k = empty_functions g f fs ∙ and_of _ _ (h f k.0) (kept_each g p h fs k.1)
+
+kept_own : (p : Source) (fs : List Function) → AreLawfulFunctions p fs → have_own (file_names p) fs ≡ true
+kept_own p [] k = refl
+kept_own p (f ∷ fs) k = and_of _ _ (and_of _ _ k.0.once k.0.apart) (kept_own p fs k.1)
+
+main_kept : (p : Source) → is_empty (main_lines p) ≡ true → is_function p.funcs (codes "main") ≡ true → takes p.funcs (codes "main") 0 ≡ true
+main_kept p h i = go (takes p.funcs (codes "main") 0) (is_function p.funcs (codes "main")) (sym (main_empty (codes "main") (takes p.funcs (codes "main") 0) p.funcs) ∙ h) i
+  where
+    go : (t f : Bool) → (t || not f) ≡ true → f ≡ true → t ≡ true
+    go true f k e = refl
+    go false true k e = cc
+    go false false k e = cc
+
+no_main_kept : (b : Bool) (l : ℕ) → is_empty (line_if (not b) l) ≡ true → b ≡ true
+no_main_kept true l h = refl
+no_main_kept false l h = cc
+
+-- Items without a fault keep the rules.
+pub faultless_lawful : (items : List Item) (last : ℕ) → IsFaultless items last → IsLawful (source_of_items items)
+faultless_lawful items last h =
+    let p : Source = source_of_items items in
+    let none : (why : Reason) → is_empty (lines_of_reason items last why) ≡ true = λ why. none_among (lines_of_reason items last why) (λ l a. h l why a) in
+    let counts : (is_empty (main_lines p) ≡ true) × (is_empty (flat_map (miscounted_in p) p.funcs) ≡ true) = both _ _ (sym (empty_append (main_lines p) (flat_map (miscounted_in p) p.funcs)) ∙ none reason.WrongCount) in
+    let names : (is_distinct (names_in items) ≡ true) × ((is_apart (names_in items) [] && have_own (names_in items) p.funcs) ≡ true) = both _ _ (sym (twice_empty [] [] items) ∙ none reason.NameTwice) in
+    let own : (is_apart (names_in items) [] ≡ true) × (have_own (names_in items) p.funcs ≡ true) = both _ _ names.1 in
+    let functions : length (map (λ (f : Function). f.line) p.funcs) ≤ 64 = over_kept 64 _ (none (reason.TooMany which.Functions)) in
+    let shared : length (shared_lines items) ≤ 64 = over_kept 64 _ (none (reason.TooMany which.Names)) in
+    let cells : 0 + cell_count p.words ≤ 1024 = cells_kept 0 items zero-le (none (reason.TooMany which.Cells)) in
     record {
-      once = h3.0;
-      functions = functions_kept p p.funcs h4.1;
-      main = h4.0;
-      lines = sym (climb_tells 0 (lines_of p)) ∙ h2.0;
-      function_count = under 64 _ l1.0;
-      name_count = under 64 _ l2.0;
-      cells = under 1024 _ l3.0;
-      statements = under 4096 _ l3.1;
+      once = names.0;
+      functions = functions_kept p p.funcs (none reason.UnknownName) counts.1 (none (reason.TooMany which.Params)) (none (reason.TooMany which.Locals)) own.1;
+      main = main_kept p counts.0 (no_main_kept _ last (none reason.NoMain));
+      lines = sym (second_empty 0 (lines_of p)) ∙ none reason.SecondOnLine;
+      function_count = simp length-map at functions;
+      name_count = rw (← shared_count items) shared;
+      cells = omega arith;
+      statements = over_kept 4096 _ (none (reason.TooMany which.Statements));
     }
 
--- and they accept all that keeps them
-pub keeps_the_rules : (p : Source) → IsLawful p → keeps_rules p ≡ true
-keeps_the_rules p h =
-    and_of _ _ (and_of _ _ (is_under 64 _ h.function_count) (and_of _ _ (is_under 64 _ h.name_count) (and_of _ _ (is_under 1024 _ h.cells) (is_under 4096 _ h.statements))))
-    (and_of _ _ (climb_tells 0 (lines_of p) ∙ h.lines) (and_of _ _ h.once (and_of _ _ h.main (keeps_lawful_all p p.funcs h.functions))))
+kept : (items : List Item) (last : ℕ) → IsLawful (source_of_items items) → (why : Reason) → is_empty (lines_of_reason items last why) ≡ true
+kept items last h reason.Syntax = refl
+kept items last h reason.SecondOnLine = second_empty 0 (lines_of (source_of_items items)) ∙ h.lines
+kept items last h reason.UnknownName = kept_each (unknown_in (source_of_items items)) (source_of_items items) (λ f k. unknown_empty (source_of_items items) (locals_of f) f.body ∙ k.known) (source_of_items items).funcs h.functions
+kept items last h reason.NameTwice = twice_empty [] [] items ∙ and_of _ _ h.once (and_of _ _ (apart_nil (names_in items)) (kept_own (source_of_items items) (source_of_items items).funcs h.functions))
+kept items last h reason.WrongCount =
+    let p : Source = source_of_items items in
+    empty_append (main_lines p) (flat_map (miscounted_in p) p.funcs)
+    ∙ and_of _ _ (main_empty (codes "main") (takes p.funcs (codes "main") 0) p.funcs ∙ ap (λ t. t || not (is_function p.funcs (codes "main"))) h.main) (kept_each (miscounted_in p) p (λ f k. miscounted_empty p f.body ∙ k.counted) p.funcs h.functions)
+kept items last h reason.NoMain = ap (λ b. is_empty (line_if (not b) last)) (takes_function (source_of_items items).funcs (codes "main") 0 h.main)
+kept items last h (reason.TooMany which.Functions) = kept_over 64 (map (λ (f : Function). f.line) (source_of_items items).funcs) (simp length-map h.function_count)
+kept items last h (reason.TooMany which.Params) = kept_each params_in (source_of_items items) (λ f k. kept_params f k.params) (source_of_items items).funcs h.functions
+kept items last h (reason.TooMany which.Locals) = kept_each over_in (source_of_items items) (λ f k. kept_over 32 (map (λ (d : Local). d.line) (locals_at f)) (rw (local_count f) k.locals)) (source_of_items items).funcs h.functions
+kept items last h (reason.TooMany which.Names) = kept_over 64 (shared_lines items) (rw (shared_count items) h.name_count)
+kept items last h (reason.TooMany which.Cells) = let cells : cell_count (source_of_items items).words ≤ 1024 = h.cells in kept_cells 0 items (omega arith)
+kept items last h (reason.TooMany which.Statements) = kept_over 4096 _ h.statements
 
-pub rules_decided : (p : Source) (b : Bool) → b ≡ keeps_rules p → IsTrue b ↔ IsLawful p
-rules_decided p b h = (λ t. rules_kept p (sym h ∙ t), λ l. h ∙ keeps_the_rules p l)
-
-pub told_rules : {E : Type 0} (p : Source) (r : Result Bool E) → IfOk r (λ b. b ≡ keeps_rules p) → IfOk r (λ b. IsTrue b ↔ IsLawful p)
-told_rules p (Ok b) h = rules_decided p b h
-told_rules p (Err e) h = h
+-- Items that keep the rules have no fault.
+pub lawful_faultless : (items : List Item) (last : ℕ) → IsLawful (source_of_items items) → IsFaultless items last
+lawful_faultless items last h line why a = among_none (lines_of_reason items last why) line (kept items last h why) a

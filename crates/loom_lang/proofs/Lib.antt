@@ -1,7 +1,14 @@
-pub mod FileNames
+pub mod Behind
+pub mod Declared
+pub mod Distinct
+pub mod Empty
 pub mod Gathered
+pub mod Kept
 pub mod Lawful
+pub mod Least
 pub mod NextAct
+pub mod Noted
+pub mod Passed
+pub mod Repeated
 pub mod Shown
-pub mod Statements
 pub mod Texts

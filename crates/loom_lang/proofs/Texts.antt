@@ -6,10 +6,15 @@ use Rattle.loom_lexer.specs.Tokens.{AreTokens}
 use Rattle.loom_lexer.proofs.Told.{one_list_of_tokens}
 use Rattle.loom_syntax.specs.Written.{IsFile, IsRefusedAt}
 use Rattle.loom_syntax.proofs.Viable.{one_file}
+use Rattle.loom_lexer.specs.Tokens.{last_line}
+use Rattle.loom_lang.specs.declared.refusal.Reason.{Reason}
+use Rattle.loom_lang.specs.declared.refusal.Reason.TheVariants as reason
 use Rattle.loom_lang.specs.Gathered.{source_of_items}
 use Rattle.loom_lang.specs.Rules.{IsLawful}
 use Rattle.loom_lang.specs.Program.{IsText, IsProgram}
+use Rattle.loom_lang.specs.Refusal.{IsFaulty, IsRefusedProgram}
 use Rattle.loom_lang.specs.Laws.{HasOneProgram}
+use Rattle.loom_lang.proofs.Lawful.{lawful_faultless}
 
 -- all texts of the bytes are of these tokens
 pub text_tokens : (bytes : List ℕ) (ps : List Placed) (items : List Item) → AreTokens bytes ps → IsText bytes items → IsFile ps items
@@ -24,12 +29,6 @@ program_of_text bytes items q t h = ap source_of_items (one_text bytes items h.i
 pub one_program : HasOneProgram
 one_program bytes p q h g = sym (program_of_text bytes g.items p g.text h) ∙ program_of_text bytes g.items q g.text g
 
--- bytes whose tokens are a file are no program where its items don't keep the rules
-pub no_program_of_items : (bytes : List ℕ) (ps : List Placed) (items : List Item) → AreTokens bytes ps → IsFile ps items → (IsLawful (source_of_items items) → ⊥) → (q : Source) → IsProgram bytes q → ⊥
-no_program_of_items bytes ps items l f not q h =
-    let t : IsText bytes items = record { tokens = ps; lexed = l; file = f } in
-    not (subst IsLawful (sym (program_of_text bytes items q t h)) h.lawful)
-
 no_file : (ps : List Placed) (n : ℕ) (items : List Item) → IsRefusedAt ps n → IsFile ps items → ⊥
 no_file ps n items r f =
     let P : List Placed → Type 0 = λ z. IsFile z items in
@@ -41,3 +40,12 @@ no_file ps n items r f =
 -- nor where reading their tokens is refused
 pub no_program_of_tokens : (bytes : List ℕ) (ps : List Placed) (n : ℕ) → AreTokens bytes ps → IsRefusedAt ps n → (q : Source) → IsProgram bytes q → ⊥
 no_program_of_tokens bytes ps n l r q h = no_file ps n h.items r (text_tokens bytes ps h.items l h.text)
+
+-- bytes that are in the grammar and break the rules are no program
+faulty_no_program : (bytes : List ℕ) (line : ℕ) (why : Reason) → IsFaulty bytes line why → (q : Source) → IsProgram bytes q → ⊥
+faulty_no_program bytes line why f q h =
+    lawful_faultless f.items (last_line bytes) (subst IsLawful (sym (program_of_text bytes f.items q f.text h)) h.lawful) line why f.fault.stands
+
+pub refused_no_program : (bytes : List ℕ) (line : ℕ) (why : Reason) → IsRefusedProgram bytes line why → (q : Source) → IsProgram bytes q → ⊥
+refused_no_program bytes line reason.Syntax r q h = no_program_of_tokens bytes r.tokens r.token r.lexed r.refused q h
+refused_no_program bytes line why r q h = faulty_no_program bytes line why r q h

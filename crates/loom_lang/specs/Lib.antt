@@ -1,5 +1,4 @@
 pub mod Rules
-pub mod Decided
 pub mod Numbers
 pub mod Places
 pub mod Values
@@ -9,4 +8,6 @@ pub mod Gathered
 pub mod Program
 pub mod Laws
 pub mod Refusal
+pub mod Noted
+pub mod Reading
 pub mod Canonical

@@ -5,6 +5,7 @@ use Rattle.loom_tree.specs.Token.{Placed}
 use Rattle.loom_tree.specs.Tree.{Simple, let_, Body, end, simple, if_, while_, Function, Item, word, mutex, sema, func, Source}
 use Rattle.loom_lexer.specs.Tokens.{AreTokens, last_line}
 use Rattle.loom_syntax.specs.Written.{IsRefusedAt}
+use Rattle.loom_lang.specs.declared.local.Local.{Local}
 use Rattle.loom_lang.specs.declared.refusal.Which.TheVariants as which
 use Rattle.loom_lang.specs.declared.refusal.Reason.{Reason}
 use Rattle.loom_lang.specs.declared.refusal.Reason.TheVariants as reason
@@ -40,21 +41,25 @@ miscounted_lines p (while_ l e a rest) = miscounted_lines p a ++ miscounted_line
 abbrev pub main_lines : Source → List ℕ
 main_lines p = flat_map (λ (f : Function). line_if (pointwise ◌==◌ f.name (codes "main") && not (takes p.funcs (codes "main") 0)) f.line) p.funcs
 
+-- names that are declared at this line
+abbrev pub at_line : ℕ → List (List ℕ) → List Local
+at_line l names = map (λ (x : List ℕ). record { name = x; line = l }) names
+
 -- the names of the `let` statements, and their lines
-abbrev pub lets_at : Body → List (List ℕ × ℕ)
+abbrev pub lets_at : Body → List Local
 lets_at end = []
-lets_at (simple l s rest) = map (λ x. (x, l)) (let_names s) ++ lets_at rest
+lets_at (simple l s rest) = at_line l (let_names s) ++ lets_at rest
 lets_at (if_ l e a b rest) = lets_at a ++ (lets_at b ++ lets_at rest)
 lets_at (while_ l e a rest) = lets_at a ++ lets_at rest
 
 -- the locals of a function, and their lines: a parameter stands at that of the `fn`
-abbrev pub locals_at : Function → List (List ℕ × ℕ)
-locals_at f = map (λ x. (x, f.line)) f.params ++ lets_at f.body
+abbrev pub locals_at : Function → List Local
+locals_at f = at_line f.line f.params ++ lets_at f.body
 
 -- the lines of those names that are among the ones before
-abbrev pub repeated : List (List ℕ) → List (List ℕ × ℕ) → List ℕ
+abbrev pub repeated : List (List ℕ) → List Local → List ℕ
 repeated before [] = []
-repeated before (d ∷ ds) = line_if (is_in d.0 before) d.1 ++ repeated (d.0 ∷ before) ds
+repeated before (d ∷ ds) = line_if (is_in d.name before) d.line ++ repeated (d.name ∷ before) ds
 
 -- `NameTwice`: the second declaration in the order of the text. Of an item it is that of an item before it or of a local of
 -- one before it; of a local, that of an item before it, its function among them, or of a local of its function.
@@ -93,7 +98,7 @@ lines_of_reason items last reason.WrongCount = main_lines (source_of_items items
 lines_of_reason items last reason.NoMain = line_if (not (is_function (source_of_items items).funcs (codes "main"))) last
 lines_of_reason items last (reason.TooMany which.Functions) = over 64 (map (λ (f : Function). f.line) (source_of_items items).funcs)
 lines_of_reason items last (reason.TooMany which.Params) = flat_map (λ (f : Function). line_if (nat_lt 4 (length f.params)) f.line) (source_of_items items).funcs
-lines_of_reason items last (reason.TooMany which.Locals) = flat_map (λ (f : Function). over 32 (map (λ (d : List ℕ × ℕ). d.1) (locals_at f))) (source_of_items items).funcs
+lines_of_reason items last (reason.TooMany which.Locals) = flat_map (λ (f : Function). over 32 (map (λ (d : Local). d.line) (locals_at f))) (source_of_items items).funcs
 lines_of_reason items last (reason.TooMany which.Names) = over 64 (shared_lines items)
 lines_of_reason items last (reason.TooMany which.Cells) = cells_over 0 items
 lines_of_reason items last (reason.TooMany which.Statements) = over 4096 (lines_of (source_of_items items))
@@ -116,6 +121,10 @@ rank (reason.TooMany which.Statements) = 12
 abbrev pub IsAmong : ℕ → List ℕ → Type 0
 IsAmong l [] = ⊥
 IsAmong l (k ∷ ks) = (l ≡ k) ⊎ IsAmong l ks
+
+-- The rules are broken nowhere.
+abbrev pub IsFaultless : List Item → ℕ → Type 0
+IsFaultless items last = (line : ℕ) (why : Reason) → IsAmong line (lines_of_reason items last why) → ⊥
 
 -- The rules are broken at this line for this reason, and nowhere before: the least line counts, then the least reason.
 pub record IsFirstFault (items : List Item) (last : ℕ) (line : ℕ) (why : Reason) : Type 0 where

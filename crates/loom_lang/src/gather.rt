@@ -1,6 +1,5 @@
 //! From the items of a file to what it declares.
-ghost use Rattle.std.specs.Prelude.{◌≡◌, ◌<◌, IfOk, MatchOption};
-ghost use Rattle.std.specs.Bool.{MatchBool};
+ghost use Rattle.std.specs.Prelude.{◌≡◌, ◌≤◌, OnOk, IfOk, MatchOption};
 ghost use Rattle.loom_tree.specs.Tree.{item_of, items_of};
 ghost use Rattle.loom_lang.specs.Rules.{cell_count};
 ghost use Rattle.loom_lang.specs.Gathered.{source_of_items, nothing, with_item, words_in};
@@ -9,6 +8,17 @@ use crate::declarations::Declarations;
 use loom_tree::item::{Funcs, Item, Items, Mutexes, Sema, Semas, Word, Words};
 use loom_tree::name::NoMemory;
 use std::alloc::Global;
+
+/// How many cells an array has, which aren't more than a program may have.
+fn few_cells(cells: Option<u64>) -> Option<u32>
+    requires { MatchOption cells (Unit {0}) (λ n. n ≤ 1024) }
+    ensures { result ≡ cells }
+{
+    match cells {
+        None => None,
+        Some(n) => Some(n as u32),
+    }
+}
 
 fn nothing(alloc: Global) -> Declarations
     ensures { result ≡ nothing }
@@ -21,20 +31,10 @@ fn nothing(alloc: Global) -> Declarations
     }
 }
 
-/// How many cells an array has, where they aren't more than a program may have.
-fn few_cells(cells: Option<u64>) -> Option<Option<u32>>
-    ensures { MatchOption result (MatchOption cells ⊥ (λ n. 1024 < n)) (λ few. few ≡ cells) }
-{
-    match cells {
-        None => Some(None),
-        Some(n) if n <= 1024 => Some(Some(n as u32)),
-        Some(_) => None,
-    }
-}
-
-/// Puts an item behind those of its kind. `false` tells of an array with more cells than a program may have.
-fn put(p: &mut Declarations, item: Item) -> Result<bool, NoMemory>
-    ensures { IfOk result (λ b. MatchBool b (p.new ≡ with_item p.old (item_of item)) (1024 < cell_count (words_in (item_of item)))) }
+/// Puts an item behind those of its kind. An `Err` is want of memory.
+fn put(p: &mut Declarations, item: Item) -> Result<(), NoMemory>
+    requires { cell_count (words_in (item_of item)) ≤ 1024 }
+    ensures { OnOk result (p.new ≡ with_item p.old (item_of item)) }
 {
     match item {
         Item::Word {
@@ -43,9 +43,7 @@ fn put(p: &mut Declarations, item: Item) -> Result<bool, NoMemory>
             cells,
             first,
         } => {
-            let Some(cells) = few_cells(cells) else {
-                return Ok(false);
-            };
+            let cells = few_cells(cells);
             p.words.0.push(Word { name, cells, first })?;
         }
         Item::Mutex { line: _, name } => p.mutexes.0.push(name)?,
@@ -56,18 +54,17 @@ fn put(p: &mut Declarations, item: Item) -> Result<bool, NoMemory>
         } => p.semas.0.push(Sema { name, first })?,
         Item::Func(f) => p.funcs.0.push(f)?,
     }
-    Ok(true)
+    Ok(())
 }
 
-/// What the items declare. `None` tells of more cells than a program may have, an `Err` of want of memory.
-pub fn gather(alloc: Global, items: Items) -> Result<Option<Declarations>, NoMemory>
-    ensures { IfOk result (λ o. MatchOption o (1024 < cell_count (source_of_items (items_of items)).words) (λ p. p ≡ source_of_items (items_of items))) }
+/// What the items declare, which have no more cells than a program may have. An `Err` is want of memory.
+pub fn gather(alloc: Global, items: Items) -> Result<Declarations, NoMemory>
+    requires { cell_count (source_of_items (items_of items)).words ≤ 1024 }
+    ensures { IfOk result (λ p. p ≡ source_of_items (items_of items)) }
 {
     let mut p = nothing(alloc);
     'items: for item in items.0 {
-        if !put(&mut p, item)? {
-            return Ok(None);
-        }
+        put(&mut p, item)?;
     }
-    Ok(Some(p))
+    Ok(p)
 }

@@ -1,16 +1,20 @@
 //! The language: programs, and their parser.
 #![tactic(auto)]
 
-mod copies;
+mod counts;
 mod declarations;
+mod faults;
 mod gather;
 pub mod laws;
 mod limits;
+mod local;
 mod names;
+mod note;
 pub mod parse;
 pub mod program;
 pub mod refusal;
-mod rules;
 #[cfg(test)]
 mod tests;
+mod twice;
+mod unknown;
 mod walk;

@@ -1,14 +1,41 @@
-//! Look-ups of names, each in one role.
-ghost use Rattle.std.specs.Prelude.{◌≡◌, ◌==◌};
+//! Names of items, and look-ups of names, each in one role.
+ghost use Rattle.std.specs.Prelude.{◌≡◌, ◌==◌, map};
 ghost use Rattle.std.specs.Cmp.Lexicographic.{pointwise};
-ghost use Rattle.loom_tree.specs.Tree.{functions_of};
-ghost use Rattle.loom_lang.specs.Rules.{is_in, is_distinct, is_apart, is_word, is_array, is_sema, takes};
+ghost use Rattle.loom_tree.specs.Tree.{item_of, items_of};
+ghost use Rattle.loom_lang.specs.declared.local.Local as local;
+ghost use Rattle.loom_lang.specs.Rules.{is_in, is_word, is_array, is_sema, is_function, takes};
+ghost use Rattle.loom_lang.specs.Gathered.{source_of_items};
+ghost use Rattle.loom_lang.specs.Noted.{name_of, line_of};
 
-use loom_tree::item::{Sema, Word};
+use crate::local::Local;
+use loom_tree::item::Item;
 use loom_tree::name::Name;
-use loom_tree::statement::Func;
 
-fn is_same(x: &Name, bytes: &[u8]) -> bool
+/// The name of an item.
+pub fn name_of(item: &Item) -> &Name
+    ensures { result.now ≡ name_of (item_of item.now) }
+{
+    match item {
+        Item::Word { name, .. } => name,
+        Item::Mutex { name, .. } => name,
+        Item::Sema { name, .. } => name,
+        Item::Func(f) => &f.name,
+    }
+}
+
+/// The line on which an item begins.
+pub fn line_of(item: &Item) -> u32
+    ensures { result ≡ line_of (item_of item.now) }
+{
+    match item {
+        Item::Word { line, .. } => *line,
+        Item::Mutex { line, .. } => *line,
+        Item::Sema { line, .. } => *line,
+        Item::Func(f) => f.line,
+    }
+}
+
+pub fn is_same(x: &Name, bytes: &[u8]) -> bool
     ensures { result ≡ pointwise ◌==◌ x.now bytes.now }
 {
     x.0.as_slice() == bytes
@@ -25,70 +52,91 @@ pub fn is_in(x: &Name, names: &[Name]) -> bool
     false
 }
 
-/// Whether no name stands twice. It takes a number of steps that is the square of theirs.
-pub fn is_distinct(names: &[Name]) -> bool
-    ensures { result ≡ is_distinct names.now }
+pub fn is_local(x: &Name, locals: &[Local]) -> bool
+    ensures { result ≡ is_in x.now (map (λ (d : local.Local). d.name) locals.now) }
 {
-    'scan: for (i, x) in names.iter().enumerate() {
-        if is_in(x, &names[i + 1..]) {
-            return false;
-        }
-    }
-    true
-}
-
-/// Whether none of the names is one of the others.
-pub fn is_apart(names: &[Name], others: &[Name]) -> bool
-    ensures { result ≡ is_apart names.now others.now }
-{
-    'scan: for x in names {
-        if is_in(x, others) {
-            return false;
-        }
-    }
-    true
-}
-
-pub fn is_word(words: &[Word], x: &Name) -> bool
-    ensures { result ≡ is_word words.now x.now }
-{
-    'scan: for w in words {
-        if is_same(&w.name, x.bytes()) && w.cells.is_none() {
+    'scan: for d in locals {
+        if is_same(&d.name, x.bytes()) {
             return true;
         }
     }
     false
 }
 
-pub fn is_array(words: &[Word], x: &Name) -> bool
-    ensures { result ≡ is_array words.now x.now }
+pub fn is_word(items: &[Item], x: &Name) -> bool
+    ensures { result ≡ is_word (source_of_items (items_of items.now)).words x.now }
 {
-    'scan: for w in words {
-        if is_same(&w.name, x.bytes()) && w.cells.is_some() {
-            return true;
+    'scan: for item in items {
+        if let Item::Word { name, cells, .. } = item {
+            if is_same(name, x.bytes()) && cells.is_none() {
+                return true;
+            }
         }
     }
     false
 }
 
-pub fn is_sema(semas: &[Sema], x: &Name) -> bool
-    ensures { result ≡ is_sema semas.now x.now }
+pub fn is_array(items: &[Item], x: &Name) -> bool
+    ensures { result ≡ is_array (source_of_items (items_of items.now)).words x.now }
 {
-    'scan: for s in semas {
-        if is_same(&s.name, x.bytes()) {
-            return true;
+    'scan: for item in items {
+        if let Item::Word { name, cells, .. } = item {
+            if is_same(name, x.bytes()) && cells.is_some() {
+                return true;
+            }
+        }
+    }
+    false
+}
+
+pub fn is_mutex(items: &[Item], x: &Name) -> bool
+    ensures { result ≡ is_in x.now (source_of_items (items_of items.now)).mutexes }
+{
+    'scan: for item in items {
+        if let Item::Mutex { name, .. } = item {
+            if is_same(name, x.bytes()) {
+                return true;
+            }
+        }
+    }
+    false
+}
+
+pub fn is_sema(items: &[Item], x: &Name) -> bool
+    ensures { result ≡ is_sema (source_of_items (items_of items.now)).semas x.now }
+{
+    'scan: for item in items {
+        if let Item::Sema { name, .. } = item {
+            if is_same(name, x.bytes()) {
+                return true;
+            }
+        }
+    }
+    false
+}
+
+pub fn is_function(items: &[Item], name: &[u8]) -> bool
+    ensures { result ≡ is_function (source_of_items (items_of items.now)).funcs name.now }
+{
+    'scan: for item in items {
+        if let Item::Func(f) = item {
+            if is_same(&f.name, name) {
+                return true;
+            }
         }
     }
     false
 }
 
 /// Whether a function has that name and `count` parameters.
-pub fn takes(funcs: &[Func], name: &[u8], count: usize) -> bool
-    ensures { result ≡ takes (functions_of funcs.now) name.now count }
+pub fn takes(items: &[Item], name: &[u8], count: usize) -> bool
+    ensures { result ≡ takes (source_of_items (items_of items.now)).funcs name.now count }
 {
-    'scan: for f in funcs {
-        if is_same(&f.name, name) && f.params.0.len() == count {
-            return true;
+    'scan: for item in items {
+        if let Item::Func(f) = item {
+            if is_same(&f.name, name) && f.params.0.len() == count {
+                return true;
+            }
         }
     }
     false

@@ -1,153 +1,116 @@
-//! Walks over the statements of a function: their lines, and the names of its locals.
-ghost use Rattle.std.specs.Prelude.{◌≡◌, ◌++◌, OnOk, IfOk, is_some, length};
-ghost use Rattle.loom_tree.specs.Tree.{body_of, behind, end, function_of, functions_of};
-ghost use Rattle.loom_lang.specs.Rules.{lines, lets, locals_of};
-ghost use Rattle.loom_lang.specs.Decided.{capped, climb, body_lines};
+//! Walks over the statements of functions: the lines on which they begin, and the locals that they declare.
+ghost use Rattle.std.specs.Prelude.{◌≡◌, ◌++◌, ◌∷◌, [], OnOk, IfOk, flat_map};
+ghost use Rattle.loom_tree.specs.Tree.{Function, body_of, behind, end, function_of, item_of, items_of};
+ghost use Rattle.loom_lang.specs.Rules.{lines, lines_of};
+ghost use Rattle.loom_lang.specs.Gathered.{funcs_in, source_of_items};
+ghost use Rattle.loom_lang.specs.Refusal.{at_line, lets_at, locals_at};
 
-use crate::copies::{put, put_all};
-use loom_tree::name::NoMemory;
-use loom_tree::statement::{Func, Kind, Names, Stmts};
+use crate::local::Local;
+use loom_tree::item::Item;
+use loom_tree::name::{Name, NoMemory};
+use loom_tree::statement::{Func, Kind, Stmts};
 use std::alloc::Global;
 
-/// The last line on which a statement begins, where each begins behind the one before it, and the first behind `before`.
-#[cycle(ascent)]
-#[tactic(auto, using(crate::proofs::Statements::climb_stops_behind))]
-fn climb(before: u32, body: &Stmts) -> Option<u32>
-    ensures { result ≡ climb before (lines (body_of body.now)) }
+#[cycle(lines)]
+fn put_lines(found: &mut Vec<u32>, body: &Stmts) -> Result<(), NoMemory>
+    ensures { OnOk result (found.new.items ≡ found.old.items ++ lines (body_of body.now)) }
 {
-    let mut last = before;
     let mut at = body;
     'walk: while let Stmts::More(first, rest) = at {
-        last = climb_statement(last, first.line, &first.kind)?;
+        put_lines_in(found, first.line, &first.kind)?;
         at = rest;
     }
-    Some(last)
+    Ok(())
 }
 
-#[cycle(ascent)]
-#[tactic(auto, using(crate::proofs::Statements::climb_stops))]
-fn climb_statement(before: u32, line: u32, kind: &Kind) -> Option<u32>
-    ensures { result ≡ climb before (lines (behind line kind.now end)) }
+#[cycle(lines)]
+fn put_lines_in(found: &mut Vec<u32>, line: u32, kind: &Kind) -> Result<(), NoMemory>
+    ensures { OnOk result (found.new.items ≡ found.old.items ++ lines (behind line kind.now end)) }
 {
-    if line <= before {
-        return None;
-    }
+    found.push(line)?;
     match kind {
-        Kind::If(_, a, b) => climb(climb(line, a)?, b),
-        Kind::While(_, a) => climb(line, a),
-        _ => Some(line),
-    }
-}
-
-/// Whether at most one statement begins on a line.
-pub fn is_ascending(funcs: &[Func]) -> bool
-    ensures { result ≡ is_some (climb 0 (body_lines (functions_of funcs.now))) }
-{
-    let mut last = 0;
-    'scan: for f in funcs {
-        match climb(last, &f.body) {
-            Some(line) => last = line,
-            None => return false,
+        Kind::If(_, a, b) => {
+            put_lines(found, a)?;
+            put_lines(found, b)
         }
-    }
-    true
-}
-
-/// How many statements there are, or the largest number of the type.
-#[cycle(statements)]
-fn count(body: &Stmts) -> u64
-    ensures { result ≡ capped (length (lines (body_of body.now))) }
-{
-    let mut total: u64 = 0;
-    let mut at = body;
-    'walk: while let Stmts::More(first, rest) = at {
-        total = total.saturating_add(count_statement(&first.kind));
-        at = rest;
-    }
-    total
-}
-
-#[cycle(statements)]
-fn count_statement(kind: &Kind) -> u64
-    ensures { result ≡ capped (length (lines (behind 0 kind.now end))) }
-{
-    match kind {
-        Kind::If(_, a, b) => count(a).saturating_add(count(b)).saturating_add(1),
-        Kind::While(_, a) => count(a).saturating_add(1),
-        _ => 1,
+        Kind::While(_, a) => put_lines(found, a),
+        _ => Ok(()),
     }
 }
 
-/// How many statements there are in all functions, or the largest number of the type.
-pub fn statement_count(funcs: &[Func]) -> u64
-    ensures { result ≡ capped (length (body_lines (functions_of funcs.now))) }
+fn put_item_lines(found: &mut Vec<u32>, item: &Item) -> Result<(), NoMemory>
+    ensures { OnOk result (found.new.items ≡ found.old.items ++ flat_map (λ (f : Function). lines f.body) (funcs_in (item_of item.now))) }
 {
-    let mut total: u64 = 0;
-    'scan: for f in funcs {
-        total = total.saturating_add(count(&f.body));
+    match item {
+        Item::Func(f) => put_lines(found, &f.body),
+        _ => Ok(()),
     }
-    total
 }
 
-/// How many `let` statements there are, or the largest number of the type.
-#[cycle(let_statements)]
-pub fn count_lets(body: &Stmts) -> u64
-    ensures { result ≡ capped (length (lets (body_of body.now))) }
+/// The lines on which statements begin. An `Err` is want of memory.
+pub fn statement_lines(alloc: Global, items: &[Item]) -> Result<Vec<u32>, NoMemory>
+    ensures { IfOk result (λ ls. ls.items ≡ lines_of (source_of_items (items_of items.now))) }
 {
-    let mut total: u64 = 0;
-    let mut at = body;
-    'walk: while let Stmts::More(first, rest) = at {
-        total = total.saturating_add(count_lets_in(&first.kind));
-        at = rest;
+    let mut found = Vec::new(alloc);
+    'gather: for item in items {
+        put_item_lines(&mut found, item)?;
     }
-    total
+    Ok(found)
 }
 
-#[cycle(let_statements)]
-fn count_lets_in(kind: &Kind) -> u64
-    ensures { result ≡ capped (length (lets (behind 0 kind.now end))) }
+fn put(alloc: Global, locals: &mut Vec<Local>, x: &Name, line: u32) -> Result<(), NoMemory>
+    ensures { OnOk result (locals.new.items ≡ locals.old.items ++ at_line line (x.now ∷ [])) }
 {
-    match kind {
-        Kind::Let(_, _) => 1,
-        Kind::If(_, a, b) => count_lets(a).saturating_add(count_lets(b)),
-        Kind::While(_, a) => count_lets(a),
-        _ => 0,
+    let name = Name::copied(alloc, x.bytes())?;
+    locals.push(Local { name, line })?;
+    Ok(())
+}
+
+fn put_params(alloc: Global, locals: &mut Vec<Local>, f: &Func) -> Result<(), NoMemory>
+    ensures { OnOk result (locals.new.items ≡ locals.old.items ++ at_line f.now.line f.now.params) }
+{
+    'copy: for x in &f.params.0 {
+        put(alloc, locals, x, f.line)?;
     }
+    Ok(())
 }
 
 #[cycle(gather)]
-fn put_lets(alloc: Global, names: &mut Names, body: &Stmts) -> Result<(), NoMemory>
-    ensures { OnOk result (names.new ≡ names.old ++ lets (body_of body.now)) }
+fn put_lets(alloc: Global, locals: &mut Vec<Local>, body: &Stmts) -> Result<(), NoMemory>
+    ensures { OnOk result (locals.new.items ≡ locals.old.items ++ lets_at (body_of body.now)) }
 {
     let mut at = body;
     'walk: while let Stmts::More(first, rest) = at {
-        put_lets_in(alloc, names, &first.kind)?;
+        put_lets_in(alloc, locals, first.line, &first.kind)?;
         at = rest;
     }
     Ok(())
 }
 
 #[cycle(gather)]
-fn put_lets_in(alloc: Global, names: &mut Names, kind: &Kind) -> Result<(), NoMemory>
-    ensures { OnOk result (names.new ≡ names.old ++ lets (behind 0 kind.now end)) }
+fn put_lets_in(
+    alloc: Global,
+    locals: &mut Vec<Local>,
+    line: u32,
+    kind: &Kind,
+) -> Result<(), NoMemory>
+    ensures { OnOk result (locals.new.items ≡ locals.old.items ++ lets_at (behind line kind.now end)) }
 {
     match kind {
-        Kind::Let(x, _) => put(alloc, names, x),
+        Kind::Let(x, _) => put(alloc, locals, x, line),
         Kind::If(_, a, b) => {
-            put_lets(alloc, names, a)?;
-            put_lets(alloc, names, b)
+            put_lets(alloc, locals, a)?;
+            put_lets(alloc, locals, b)
         }
-        Kind::While(_, a) => put_lets(alloc, names, a),
+        Kind::While(_, a) => put_lets(alloc, locals, a),
         _ => Ok(()),
     }
 }
 
-/// The names of a function's locals: its parameters, and those of its `let` statements. An `Err` is want of memory.
-pub fn locals(alloc: Global, f: &Func) -> Result<Names, NoMemory>
-    ensures { IfOk result (λ names. names ≡ locals_of (function_of f.now)) }
+/// Puts the locals of a function behind those that are there. An `Err` is want of memory.
+pub fn put_locals(alloc: Global, locals: &mut Vec<Local>, f: &Func) -> Result<(), NoMemory>
+    ensures { OnOk result (locals.new.items ≡ locals.old.items ++ locals_at (function_of f.now)) }
 {
-    let mut names = Names(Vec::new(alloc));
-    put_all(alloc, &mut names, &f.params.0)?;
-    put_lets(alloc, &mut names, &f.body)?;
-    Ok(names)
+    put_params(alloc, locals, f)?;
+    put_lets(alloc, locals, &f.body)
 }

@@ -8,7 +8,7 @@ use Rattle.loom_tree.specs.Tree as tree
 use Rattle.loom_lang.specs.Rules.{IsLawful}
 use Rattle.loom_lang.specs.Trace.{Act, begin, end, trap, threads, overflow, read, write, lock, spawn, join, print, Finished, Open}
 use Rattle.loom_lang.specs.Acts.{Deed, IsAlike}
-use Rattle.loom_lang.proofs.Lawful.{rules_kept}
+use Rattle.loom_lang.proofs.Shown.{tested}
 use Rattle.loom_lang.proofs.NextAct.{one_next_act}
 use Rattle.loom_lang.proofs.Shown.{calls}
 use Rattle.loom_law.specs.Event.{Event}
@@ -56,7 +56,7 @@ adds = record {
 }
 
 pub adds_lawful : IsLawful adds
-adds_lawful = rules_kept adds refl
+adds_lawful = tested adds refl
 
 abbrev pub adds_events : List Event
 adds_events =
@@ -244,7 +244,7 @@ spawns = record {
 }
 
 pub spawns_lawful : IsLawful spawns
-spawns_lawful = rules_kept spawns refl
+spawns_lawful = tested spawns refl
 
 abbrev pub spawns_events : List Event
 spawns_events =
@@ -324,7 +324,7 @@ full = record {
 }
 
 pub full_lawful : IsLawful full
-full_lawful = rules_kept full refl
+full_lawful = tested full refl
 
 abbrev pub full_events : List Event
 full_events =
@@ -374,7 +374,7 @@ locks = record {
 }
 
 pub locks_lawful : IsLawful locks
-locks_lawful = rules_kept locks refl
+locks_lawful = tested locks refl
 
 abbrev pub locks_events : List Event
 locks_events =

@@ -1,6 +1,8 @@
 use Rattle.std.proofs.Common.{◌≡◌, drop}
+use Rattle.loom_tree.specs.Tree.{items_of}
 use Rattle.loom_lang.specs.Rules.{is_array}
+use Rattle.loom_lang.specs.Gathered.{source_of_items}
 use Rattle.loom_lang.proofs.names.is_array.Given as goal
 
 abbrev pub invariant-scan : goal.invariant-scan
-invariant-scan l = is_array (drop l.w-index l.words) l.x ≡ is_array l.words l.x
+invariant-scan l = is_array (source_of_items (items_of (drop l.item-index l.items))).words l.x ≡ is_array (source_of_items (items_of l.items)).words l.x

@@ -1,6 +1,8 @@
 use Rattle.std.proofs.Common.{◌≡◌, drop}
+use Rattle.loom_tree.specs.Tree.{items_of}
 use Rattle.loom_lang.specs.Rules.{is_word}
+use Rattle.loom_lang.specs.Gathered.{source_of_items}
 use Rattle.loom_lang.proofs.names.is_word.Given as goal
 
 abbrev pub invariant-scan : goal.invariant-scan
-invariant-scan l = is_word (drop l.w-index l.words) l.x ≡ is_word l.words l.x
+invariant-scan l = is_word (source_of_items (items_of (drop l.item-index l.items))).words l.x ≡ is_word (source_of_items (items_of l.items)).words l.x

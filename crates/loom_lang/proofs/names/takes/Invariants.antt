@@ -1,7 +1,8 @@
 use Rattle.std.proofs.Common.{◌≡◌, drop}
-use Rattle.loom_tree.specs.Tree.{functions_of}
+use Rattle.loom_tree.specs.Tree.{items_of}
 use Rattle.loom_lang.specs.Rules.{takes}
+use Rattle.loom_lang.specs.Gathered.{source_of_items}
 use Rattle.loom_lang.proofs.names.takes.Given as goal
 
 abbrev pub invariant-scan : goal.invariant-scan
-invariant-scan l = takes (functions_of (drop l.f-index l.funcs)) l.name l.count ≡ takes (functions_of l.funcs) l.name l.count
+invariant-scan l = takes (source_of_items (items_of (drop l.item-index l.items))).funcs l.name l.count ≡ takes (source_of_items (items_of l.items)).funcs l.name l.count

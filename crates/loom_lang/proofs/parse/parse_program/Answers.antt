@@ -1,17 +1,9 @@
-use Rattle.std.proofs.Common.{◌≡◌, map}
-use Rattle.loom_tree.specs.Token.{placed_of}
-use Rattle.loom_lexer.specs.Tokens.{AreTokens}
-use Rattle.loom_lang.proofs.Texts.{no_program_of_items, no_program_of_tokens}
+use Rattle.loom_lang.specs.Reading.{IsReading}
+use Rattle.loom_lang.specs.Refusal.{IsRefusedProgram}
+use Rattle.loom_lang.proofs.Texts.{refused_no_program}
 use Rattle.loom_lang.proofs.parse.parse_program.Goals as goal
 
-pub returns-in-Ok-clause-refused : goal.returns-in-Ok-clause-refused
-returns-in-Ok-clause-refused c =
-    let same : c.in_ok-tokens.tokens ≡ c.deref.result.now = cc in
-    let lexed : AreTokens c.args.bytes.now (map (placed_of c.args.bytes.now) c.deref.result.now) = rw (← same) c.in_ok-tokens.ensures.tokens in
-    λ e q h. no_program_of_items _ _ _ lexed c.in-Ok.ensures (c.program_of.ensures.refused e) q h
-
-pub returns-in-Err-Syntax-clause-refused : goal.returns-in-Err-Syntax-clause-refused
-returns-in-Err-Syntax-clause-refused c =
-    let same : c.in_ok-tokens.tokens ≡ c.deref.result.now = cc in
-    let lexed : AreTokens c.args.bytes.now (map (placed_of c.args.bytes.now) c.deref.result.now) = rw (← same) c.in_ok-tokens.ensures.tokens in
-    λ e q h. no_program_of_tokens _ _ c.in-Err-Syntax.field-0-0 lexed (rw c.in-Err-Syntax.field-0-is at c.in-Err-Syntax.ensures) q h
+pub returns-in-Err-Refused-clause-refused : goal.returns-in-Err-Refused-clause-refused
+returns-in-Err-Refused-clause-refused c =
+    let refused : IsRefusedProgram c.args.bytes.now c.in-Err-Refused.field-0-0.line c.in-Err-Refused.field-0-0.reason = rw c.in-Err-Refused.field-0-is at c.in-Err-Refused.ensures in
+    λ e q h. refused_no_program c.args.bytes.now c.in-Err-Refused.field-0-0.line c.in-Err-Refused.field-0-0.reason refused q h

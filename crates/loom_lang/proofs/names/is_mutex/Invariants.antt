@@ -1,0 +1,8 @@
+use Rattle.std.proofs.Common.{◌≡◌, drop}
+use Rattle.loom_tree.specs.Tree.{items_of}
+use Rattle.loom_lang.specs.Rules.{is_in}
+use Rattle.loom_lang.specs.Gathered.{source_of_items}
+use Rattle.loom_lang.proofs.names.is_mutex.Given as goal
+
+abbrev pub invariant-scan : goal.invariant-scan
+invariant-scan l = is_in l.x (source_of_items (items_of (drop l.item-index l.items))).mutexes ≡ is_in l.x (source_of_items (items_of l.items)).mutexes

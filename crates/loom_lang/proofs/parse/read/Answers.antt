@@ -1,0 +1,16 @@
+use Rattle.std.proofs.Common.{◌≡◌, List, map}
+use Rattle.loom_tree.specs.declared.item.Item.{Item}
+use Rattle.loom_tree.specs.Token.{placed_of}
+use Rattle.loom_tree.specs.Tree.{items_of}
+use Rattle.loom_lexer.specs.Tokens.{AreTokens, last_line}
+use Rattle.loom_lang.specs.Refusal.{IsFaultless}
+use Rattle.loom_lang.proofs.Lawful.{faultless_lawful}
+use Rattle.loom_lang.proofs.parse.read.Goals as goal
+
+pub returns-in-None : goal.returns-in-None
+returns-in-None c =
+    let same : c.in_ok-tokens.tokens ≡ c.deref.result.now = cc in
+    let lexed : AreTokens c.args.bytes.now (map (placed_of c.args.bytes.now) c.deref.result.now) = rw (← same) c.in_ok-tokens.ensures.tokens in
+    let theirs : c.in-Ok.items ≡ c.deref-in-Ok.result.now = cc in
+    let none : IsFaultless (items_of c.in-Ok.items) c.last_line-last_line.result = rw theirs (rw c.in-None.is at c.in_ok-first_fault-in-Ok.ensures) in
+    (record { tokens = map (placed_of c.args.bytes.now) c.deref.result.now; lexed = lexed; file = c.in-Ok.ensures }, faultless_lawful (items_of c.in-Ok.items) c.last_line-last_line.result none)

@@ -117,7 +117,7 @@ pub calls_lines : map (line_of_place calls) (places calls) ≡ 0 ∷ 2 ∷ 3 ∷
 calls_lines = refl
 
 -- fn main(){print (2+3)*4;}
-product : Source
+abbrev pub product : Source
 product = record {
   words = [];
   mutexes = [];

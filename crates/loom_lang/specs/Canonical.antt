@@ -1,5 +1,5 @@
 -- The canonical text of a program.
-use Rattle.std.specs.Prelude.{ℕ, zero, suc, ◌+◌, Bool, true, false, cond, List, [], ◌∷◌, ◌++◌, length, map, Option, Some, None, codes}
+use Rattle.std.specs.Prelude.{ℕ, zero, suc, ◌+◌, List, [], ◌∷◌, ◌++◌, length, map, flat_map, Option, Some, None, codes}
 use Rattle.loom_tree.specs.declared.expression.Op.{Op}
 use Rattle.loom_tree.specs.declared.expression.Op.TheVariants as o
 use Rattle.loom_tree.specs.declared.item.Word.{Word}
@@ -110,8 +110,7 @@ abbrev pub function_lines : Function → List (List ℕ)
 function_lines f = (codes "fn " ++ f.name ++ codes "(" ++ listed f.params ++ codes ") {") ∷ (body_text_lines 1 f.body ++ codes "}" ∷ [])
 
 abbrev pub functions_lines : List Function → List (List ℕ)
-functions_lines [] = []
-functions_lines (f ∷ fs) = function_lines f ++ functions_lines fs
+functions_lines fs = flat_map function_lines fs
 
 -- The words and arrays come first, then the mutexes, the semaphores and the functions, each in their order.
 abbrev pub canonical_lines : Source → List (List ℕ)
@@ -126,7 +125,7 @@ canonical_text p = ended (canonical_lines p)
 abbrev pub height : Body → ℕ
 height b = length (body_text_lines 0 b)
 
--- statements of which the first begins on this line
+-- the same statements, with the lines that they have where the first begins on this line
 abbrev pub body_from : ℕ → Body → Body
 body_from line end = end
 body_from line (simple l s rest) = simple line s (body_from (suc line) rest)
@@ -134,7 +133,7 @@ body_from line (if_ l e a end rest) = if_ line e (body_from (suc line) a) end (b
 body_from line (if_ l e a b rest) = if_ line e (body_from (suc line) a) (body_from (line + height a + 2) b) (body_from (line + height a + height b + 3) rest)
 body_from line (while_ l e a rest) = while_ line e (body_from (suc line) a) (body_from (line + height a + 2) rest)
 
--- functions of which the first begins on this line
+-- the same of functions
 abbrev pub functions_from : ℕ → List Function → List Function
 functions_from line [] = []
 functions_from line (f ∷ fs) = (record f { line = line; body = body_from (suc line) f.body }) ∷ functions_from (line + length (function_lines f)) fs

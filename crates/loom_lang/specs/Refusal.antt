@@ -2,7 +2,7 @@
 use Rattle.std.specs.Prelude.{ℕ, ◌+◌, ◌<◌, ◌≤◌, ◌≡◌, ◌⊎◌, ◌==◌, nat_lt, Bool, not, ◌&&◌, cond, List, [], ◌∷◌, ◌++◌, length, map, flat_map, take, drop, slice_get, Option, Some, None, codes}
 use Rattle.std.specs.Cmp.Lexicographic.{pointwise}
 use Rattle.loom_tree.specs.Token.{Placed}
-use Rattle.loom_tree.specs.Tree.{Simple, let_, Body, end, simple, if_, while_, Function, Item, word, mutex, sema, func, Source}
+use Rattle.loom_tree.specs.Tree.{Body, end, simple, if_, while_, Function, Item, word, mutex, sema, func, Source}
 use Rattle.loom_lexer.specs.Tokens.{AreTokens, last_line}
 use Rattle.loom_syntax.specs.Written.{IsRefusedAt}
 use Rattle.loom_lang.specs.declared.local.Local.{Local}
@@ -61,8 +61,8 @@ abbrev pub repeated : List (List ℕ) → List Local → List ℕ
 repeated before [] = []
 repeated before (d ∷ ds) = line_if (is_in d.name before) d.line ++ repeated (d.name ∷ before) ds
 
--- `NameTwice`: the second declaration in the order of the text. Of an item it is that of an item before it or of a local of
--- one before it; of a local, that of an item before it, its function among them, or of a local of its function.
+-- `NameTwice`, at the second declaration in the order of the text: an item, where an item before it or a local of a function before it
+-- has its name; a local, where an item up to its own function or an earlier local of that function has its name
 abbrev pub twice_lines : List (List ℕ) → List (List ℕ) → List Item → List ℕ
 twice_lines names locals [] = []
 twice_lines names locals (word l w ∷ is) = line_if (is_in w.name (names ++ locals)) l ++ twice_lines (w.name ∷ names) locals is
@@ -70,7 +70,7 @@ twice_lines names locals (mutex l x ∷ is) = line_if (is_in x (names ++ locals)
 twice_lines names locals (sema l s ∷ is) = line_if (is_in s.name (names ++ locals)) l ++ twice_lines (s.name ∷ names) locals is
 twice_lines names locals (func f ∷ is) = line_if (is_in f.name (names ++ locals)) f.line ++ (repeated (f.name ∷ names) (locals_at f) ++ twice_lines (f.name ∷ names) (locals_of f ++ locals) is)
 
--- `TooMany`: the first that is behind as many as there may be
+-- `TooMany`: the first beyond the limit
 abbrev pub over : ℕ → List ℕ → List ℕ
 over most lines = take 1 (drop most lines)
 
@@ -103,7 +103,7 @@ lines_of_reason items last (reason.TooMany which.Names) = over 64 (shared_lines 
 lines_of_reason items last (reason.TooMany which.Cells) = cells_over 0 items
 lines_of_reason items last (reason.TooMany which.Statements) = over 4096 (lines_of (source_of_items items))
 
--- the order of the reasons
+-- The order of the reasons, and of what there is too much of. It is an order only: `TooMany` is the seventh reason whatever there is too much of.
 abbrev pub rank : Reason → ℕ
 rank reason.Syntax = 1
 rank reason.SecondOnLine = 2
@@ -131,7 +131,8 @@ pub record IsFirstFault (items : List Item) (last : ℕ) (line : ℕ) (why : Rea
   pub stands : IsAmong line (lines_of_reason items last why)
   pub first : (l : ℕ) (r : Reason) → IsAmong l (lines_of_reason items last r) → (line < l) ⊎ ((line ≡ l) × (rank why ≤ rank r))
 
--- The bytes leave the grammar at this line: that of the first token behind which no file can follow, or the last one.
+-- The bytes leave the grammar at this line: that of the first token behind which no file can follow, or the last line, where the file ends
+-- too early.
 abbrev pub line_at : ℕ → Option Placed → ℕ
 line_at last None = last
 line_at last (Some t) = t.line

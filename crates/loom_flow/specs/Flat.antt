@@ -127,9 +127,9 @@ resume None = 0
 resume (Some s) = s.resume
 
 -- The result of the frame is put on the values of the one below, or the thread ends.
-abbrev pub returned : Flat → Thread → (State → Lists) → State → ℤ → List Frame → Lists
-returned c t next z v [] = t.stopped
-returned c t next z v (f ∷ fs) = next (record { at = resume (slice_get c.sites f.site); values = v ∷ z.values; func = f.func; locals = f.locals; below = fs })
+abbrev pub returned : Flat → Thread → (State → Lists) → List ℤ → ℤ → List Frame → Lists
+returned c t next vs v [] = t.stopped
+returned c t next vs v (f ∷ fs) = next (record { at = resume (slice_get c.sites f.site); values = v ∷ vs; func = f.func; locals = f.locals; below = fs })
 
 -- a new frame, where it isn't one too many
 abbrev pub entered : Flat → (State → Lists) → State → Instr → ℕ → List ℤ → Option Entrance → Lists
@@ -174,13 +174,13 @@ performed c t next z i (s.Spawn f n d) =
     (any (λ k. emit (made i.line (spawn k f (arguments z n))) (next (forward (given (without_arguments z n) d (pos k))))))
 performed c t next z i (s.Call f n) = called c t next (without_arguments z n) i f (arguments z n)
 performed c t next z i s.Discard = next (forward (without z o.Top))
-performed c t next z i (s.Return a) = emit (done i.line) (emit (out z.func) (returned c t next (without z a) (operand z a) z.below))
+performed c t next z i (s.Return a) = emit (done i.line) (emit (out z.func) (returned c t next (without z a).values (operand z a) z.below))
 performed c t next z i s.Begin = emit (begins i.line (locals_now c z)) (next (forward z))
 performed c t next z i s.Done = emit (done i.line) (next (forward z))
 performed c t next z i (s.Edge at) = emit (edge i.line) (next (jumped z at))
 performed c t next z i (s.Jump at) = next (jumped z at)
 performed c t next z i (s.JumpIfZero a at) = choice (is_zero (operand z a)) (next (jumped (without z a) at)) (next (forward (without z a)))
-performed c t next z i s.Out = emit (out z.func) (returned c t next z (pos 0) z.below)
+performed c t next z i s.Out = emit (out z.func) (returned c t next z.values (pos 0) z.below)
 
 abbrev pub fetched : Flat → Thread → (State → Lists) → State → Option Instr → Lists
 fetched c t next z None = broken

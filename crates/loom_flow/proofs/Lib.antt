@@ -11,3 +11,9 @@ mod Statements
 mod Simple
 mod Effects
 mod EachSimple
+mod Sizes
+mod Bodies
+mod Frames
+mod Known
+mod Placed
+pub mod Traces

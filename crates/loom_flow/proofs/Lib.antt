@@ -1,0 +1,19 @@
+mod Relations
+mod Steps
+mod Running
+mod Lying
+mod Straight
+mod Locals
+mod Expressions
+mod Trees
+mod Arguments
+mod Statements
+mod Simple
+mod Effects
+mod EachSimple
+mod Sizes
+mod Bodies
+mod Frames
+mod Known
+mod Placed
+pub mod Traces

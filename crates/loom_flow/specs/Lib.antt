@@ -1,0 +1,3 @@
+pub mod Flat
+pub mod Lowered
+pub mod Laws

@@ -1,0 +1,4 @@
+//! Flat code of programs.
+#![tactic(auto)]
+
+pub mod code;

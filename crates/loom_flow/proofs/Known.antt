@@ -5,7 +5,7 @@ use Rattle.loom_tree.specs.declared.item.Word.{Word}
 use Rattle.loom_tree.specs.declared.item.Sema.{Sema}
 use Rattle.loom_tree.specs.Tree.{Expression, num, var, cell, neg, inverse, bin, Right, Simple, let_, set, set_cell, return, Body, end, simple, if_, while_, Function, Source}
 use Rattle.loom_tree.specs.Tree as tree
-use Rattle.loom_lang.specs.Rules.{cells_of, is_in, is_distinct, is_word, is_array, is_sema, takes, knows, knows_all, knows_call, knows_right, knows_returned, knows_simple, knows_body, locals_of, shared_names, file_names, IsLawful, AreLawfulFunctions}
+use Rattle.loom_lang.specs.Rules.{cells_of, is_in, is_distinct, is_word, is_array, is_sema, is_function, knows, knows_all, knows_call, knows_right, knows_returned, knows_simple, knows_body, locals_of, shared_names, file_names, IsLawful, AreLawfulFunctions}
 use Rattle.loom_lang.specs.Numbers.{position, Cells, cells_from, cells_named, mutex_number, sema_number, function_number}
 use Rattle.loom_flow.proofs.Expressions.{IsNumbered, IsArray, IsKnown}
 use Rattle.loom_flow.proofs.Arguments.{AllKnown}
@@ -98,12 +98,12 @@ array_known p x l h = array_cells 0 p.words x (distinct_front (map (λ (w : Word
 
 -- Functions, mutexes and semaphores
 
-function_in : (fs : List Function) (x : List ℕ) (n : ℕ) → takes fs x n ≡ true → is_in x (map (λ (f : Function). f.name) fs) ≡ true
-function_in [] x n h = cc
-function_in (f ∷ fs) x n h =
-    elim (pointwise ◌==◌ f.name x) as (λ b. ((b && (length f.params == n)) || takes fs x n) ≡ true → (b || is_in x (map (λ (g : Function). g.name) fs)) ≡ true) [
+function_in : (fs : List Function) (x : List ℕ) → is_function fs x ≡ true → is_in x (map (λ (f : Function). f.name) fs) ≡ true
+function_in [] x h = cc
+function_in (f ∷ fs) x h =
+    elim (pointwise ◌==◌ f.name x) as (λ b. (b || is_function fs x) ≡ true → (b || is_in x (map (λ (g : Function). g.name) fs)) ≡ true) [
       | true ↦ λ e. refl
-      | false ↦ λ e. function_in fs x n e
+      | false ↦ λ e. function_in fs x e
     ] h
 
 sema_in : (ss : List Sema) (x : List ℕ) → is_sema ss x ≡ true → is_in x (map (λ (s : Sema). s.name) ss) ≡ true
@@ -140,8 +140,8 @@ knows_arguments p xs (e ∷ es) l h = let g : (knows p xs e ≡ true) × (knows_
 
 call_known : (p : Source) (xs : List (List ℕ)) (f : List ℕ) (es : List Expression) → IsLawful p → knows_call p xs f es ≡ true → IsFunction p f × AllKnown p xs es
 call_known p xs f es l h =
-    let g : (takes p.funcs f (length es) ≡ true) × (knows_all p xs es ≡ true) = both _ _ h in
-    (has_position f (map (λ (k : Function). k.name) p.funcs) (function_in p.funcs f (length es) g.0), knows_arguments p xs es l g.1)
+    let g : (is_function p.funcs f ≡ true) × (knows_all p xs es ≡ true) = both _ _ h in
+    (has_position f (map (λ (k : Function). k.name) p.funcs) (function_in p.funcs f g.0), knows_arguments p xs es l g.1)
 
 right_known : (p : Source) (xs : List (List ℕ)) (x : List ℕ) (r : Right Expression) → IsLawful p → knows_right p xs x r ≡ true → IsNumbered p x (position x xs) × IsKnownRight p xs r
 right_known p xs x (Right.value e) l h = let g : ((is_in x xs || is_word p.words x) ≡ true) × (knows p xs e ≡ true) = both _ _ h in (variable_known p xs x g.0, knows_expression p xs e l g.1)

@@ -1,5 +1,5 @@
--- What flat code means: a machine over sites, locals and a stack of frames, which is free in what a read gives and in the traps that the
--- store may give. A state stands for the lists of items that it may still give.
+-- What flat code means: a machine over instruction numbers, values, locals and frames, which is free in what a read gives and in the traps
+-- that the store may give. A state stands for the lists of items that it may still give.
 use Rattle.std.specs.Prelude.{slice_get, ℕ, zero, suc, ◌-◌, ◌≡◌, ◌&&◌, List, [], ◌∷◌, ◌++◌, ℤ, pos, negsuc, Option, Some, None, nat_lt, length, map, take, drop, reverse}
 use Rattle.loom_tree.specs.Tree.{Function, Source}
 use Rattle.loom_lang.specs.Rules.{locals_of}
@@ -131,7 +131,7 @@ abbrev pub returned : Flat → Thread → (State → Lists) → List ℤ → ℤ
 returned c t next vs v [] = t.stopped
 returned c t next vs v (f ∷ fs) = next (record { at = resume (slice_get c.sites f.site); values = v ∷ vs; func = f.func; locals = f.locals; below = fs })
 
--- a new frame, where it isn't one too many
+-- a new frame
 abbrev pub entered : Flat → (State → Lists) → State → Instr → ℕ → List ℤ → Option Entrance → Lists
 entered c next z i f vs None = broken
 entered c next z i f vs (Some e) = emit (enter f) (next (record {
@@ -142,6 +142,7 @@ entered c next z i f vs (Some e) = emit (enter f) (next (record {
   below = (record { func = z.func; locals = z.locals; site = i.place }) ∷ z.below;
 }))
 
+-- the same, or a trap where the frame would be one too many
 abbrev pub called : Flat → Thread → (State → Lists) → State → Instr → ℕ → List ℤ → Lists
 called c t next z i f vs =
     choice (nat_lt (suc (length z.below)) frame_limit) (entered c next z i f vs (slice_get c.entrances f)) (trapped t i.line frames)

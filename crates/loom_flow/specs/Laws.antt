@@ -11,7 +11,7 @@ use Rattle.loom_flow.specs.Lowered.{or_zero, calls_body}
 abbrev pub HasTraces : Flat → Source → Type 0
 HasTraces c p = (f : ℕ) (vs : List ℤ) (items : List Item) (r : Outcome) → IsFlatTrace c f vs items r ↔ IsTrace p f vs items r
 
--- It has the places of the tree, with their lines.
+-- It has as many places as the tree, with the same lines.
 abbrev pub HasPlaces : Flat → Source → Type 0
 HasPlaces c p = map (λ (s : Site). s.line) c.sites ≡ map (line_of_place p) (places p)
 

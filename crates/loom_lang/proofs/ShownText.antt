@@ -1,15 +1,17 @@
 -- Definitions shown on programs.
-use Rattle.std.proofs.Common.{ℕ, ◌≡◌, pos, List, [], ◌∷◌, ◌++◌, Option, Some, None, refl}
+use Rattle.std.proofs.Common.{◌≡◌, pos, [], ◌∷◌, refl}
 use Rattle.std.specs.Prelude.{codes}
 use Rattle.loom_tree.specs.declared.expression.Op.TheVariants as o
-use Rattle.loom_tree.specs.Tree.{Expression, num, var, neg, bin, Right, let_, set, print, return, Body, end, simple, if_, while_, Function, Source}
+use Rattle.loom_tree.specs.Tree.{num, bin, print, end, simple, Source}
 use Rattle.loom_tree.specs.Decimal.{decimal}
 use Rattle.loom_lang.specs.Canonical.{canonical_text}
 
 -- `fn main(){print (2+3)*4;}`
 product : Source
 product = record {
-  words = []; mutexes = []; semas = [];
+  words = [];
+  mutexes = [];
+  semas = [];
   funcs = record { name = codes "main"; line = 1; params = []; body = simple 1 (print (bin o.Mul (bin o.Add (num (pos 2)) (num (pos 3))) (num (pos 4)))) end } ∷ [];
 }
 

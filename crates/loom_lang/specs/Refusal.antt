@@ -2,7 +2,7 @@
 use Rattle.std.specs.Prelude.{ℕ, ◌+◌, ◌<◌, ◌≤◌, ◌≡◌, ◌⊎◌, ◌==◌, nat_lt, Bool, not, ◌&&◌, cond, List, [], ◌∷◌, ◌++◌, length, map, flat_map, take, drop, slice_get, Option, Some, None, codes}
 use Rattle.std.specs.Cmp.Lexicographic.{pointwise}
 use Rattle.loom_tree.specs.Token.{Placed}
-use Rattle.loom_tree.specs.Tree.{Simple, let_, Body, end, simple, if_, while_, Function, Item, word, mutex, sema, func, Source}
+use Rattle.loom_tree.specs.Tree.{Body, end, simple, if_, while_, Function, Item, word, mutex, sema, func, Source}
 use Rattle.loom_lexer.specs.Tokens.{AreTokens, last_line}
 use Rattle.loom_syntax.specs.Written.{IsRefusedAt}
 use Rattle.loom_lang.specs.declared.local.Local.{Local}

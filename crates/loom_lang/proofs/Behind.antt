@@ -1,5 +1,5 @@
 -- A statement, and the statements behind it.
-use Rattle.std.proofs.Common.{ℕ, ◌≡◌, List, [], ◌∷◌, ◌++◌, Option, refl, ap, ◌∙◌, append_assoc}
+use Rattle.std.proofs.Common.{ℕ, ◌≡◌, List, ◌++◌, Option, refl, ap, ◌∙◌, append_assoc}
 use Rattle.std.proofs.lemmas.List.{append-nil}
 use Rattle.loom_tree.specs.declared.statement.Kind.{Kind}
 use Rattle.loom_tree.specs.declared.statement.Kind.TheVariants as k
@@ -13,12 +13,12 @@ use Rattle.loom_lang.proofs.Noted.{noted_on}
 
 pub lines_behind : (l : ℕ) (s : Kind) (rest : Body) → lines (behind l s rest) ≡ lines (behind l s end) ++ lines rest
 lines_behind l (k.If e a b) rest = simp (append-nil, append_assoc)
-lines_behind l (k.While e a) rest = simp (append-nil, append_assoc)
+lines_behind l (k.While e a) rest = simp append-nil
 lines_behind l _ rest = refl
 
 pub lets_behind : (l : ℕ) (s : Kind) (rest : Body) → lets_at (behind l s rest) ≡ lets_at (behind l s end) ++ lets_at rest
 lets_behind l (k.If e a b) rest = simp (append-nil, append_assoc)
-lets_behind l (k.While e a) rest = simp (append-nil, append_assoc)
+lets_behind l (k.While e a) rest = simp append-nil
 lets_behind l _ rest = refl
 
 pub unknown_behind : (p : Source) (locals : List (List ℕ)) (l : ℕ) (s : Kind) (rest : Body) → unknown_lines p locals (behind l s rest) ≡ unknown_lines p locals (behind l s end) ++ unknown_lines p locals rest
@@ -29,7 +29,7 @@ unknown_behind p locals l _ rest = simp append-nil
 
 pub miscounted_behind : (p : Source) (l : ℕ) (s : Kind) (rest : Body) → miscounted_lines p (behind l s rest) ≡ miscounted_lines p (behind l s end) ++ miscounted_lines p rest
 miscounted_behind p l (k.If e a b) rest = simp (append-nil, append_assoc)
-miscounted_behind p l (k.While e a) rest = simp (append-nil, append_assoc)
+miscounted_behind p l (k.While e a) rest = simp append-nil
 miscounted_behind p l (k.Let x r) rest = simp append-nil
 miscounted_behind p l (k.Set x r) rest = simp append-nil
 miscounted_behind p l (k.Call f es) rest = simp append-nil

@@ -8,8 +8,9 @@ use Rattle.loom_lang.specs.Rules.{is_in, is_distinct, is_apart, locals_of, file_
 use Rattle.loom_lang.specs.Gathered.{source_of_items}
 use Rattle.loom_lang.specs.Refusal.{line_if, repeated, twice_lines}
 use Rattle.loom_lang.specs.Noted.{name_of, line_of, locals_in}
-use Rattle.loom_lang.proofs.Distinct.{AreSame, same_swapped, same_append, same_more, same_inserted, apart_nil, apart_same, apart_more, apart_append, apart_swapped, distinct_inserted}
-use Rattle.loom_lang.proofs.Repeated.{names_of, locals_names, twice_step}
+use Rattle.loom_lang.proofs.Distinct.{AreSame, same_append, same_inserted, apart_same, apart_more, apart_append, apart_swapped, distinct_inserted}
+use Rattle.loom_lang.specs.Noted.{names_of}
+use Rattle.loom_lang.proofs.Repeated.{locals_names, twice_step}
 use Rattle.loom_lang.proofs.Empty.{is_empty, empty_append, empty_line_if}
 
 -- the names of a file of these items
@@ -109,17 +110,17 @@ twice_empty names locals (i ∷ is) =
     let at_head : is_empty head ≡ not (is_in n (names ++ locals)) = empty_line_if (is_in n (names ++ locals)) (line_of i) in
     let at_theirs : is_empty theirs ≡ (is_distinct own && (not (is_in n own) && is_apart own names)) = repeated_empty (n ∷ names) (locals_in i) ∙ ap (λ z. is_distinct own && z) (apart_more own n names) in
     let far : is_apart rest (n ∷ (names ++ (own ++ locals))) ≡ (not (is_in n rest) && (is_apart rest names && (is_apart rest own && is_apart rest locals))) =
-          apart_more rest n (names ++ (own ++ locals)) ∙ ap (λ z. not (is_in n rest) && z) (apart_append rest names (own ++ locals) ∙ ap (λ z. is_apart rest names && z) (apart_append rest own locals)) in
+    apart_more rest n (names ++ (own ++ locals)) ∙ ap (λ z. not (is_in n rest) && z) (apart_append rest names (own ++ locals) ∙ ap (λ z. is_apart rest names && z) (apart_append rest own locals)) in
     let at_tail : is_empty tail ≡ (is_distinct rest && ((not (is_in n rest) && (is_apart rest names && (is_apart rest own && is_apart rest locals))) && have_own (n ∷ (names ++ rest)) fs)) = twice_empty (n ∷ names) (own ++ locals) is ∙ ap (λ z. is_distinct rest && (z && have_own (n ∷ (names ++ rest)) fs)) far in
     let distinct : is_distinct all ≡ (not (is_in n rest) && is_distinct rest) = inserted_distinct n all rest (inserted i is) in
     let apart : is_apart all (names ++ locals) ≡ (not (is_in n (names ++ locals)) && (is_apart rest names && is_apart rest locals)) =
-          apart_swapped all (names ++ locals) ∙ apart_same (names ++ locals) all (n ∷ rest) same ∙ apart_more (names ++ locals) n rest
-          ∙ ap (λ z. not (is_in n (names ++ locals)) && z) (apart_swapped (names ++ locals) rest ∙ apart_append rest names locals) in
+    apart_swapped all (names ++ locals) ∙ apart_same (names ++ locals) all (n ∷ rest) same ∙ apart_more (names ++ locals) n rest
+    ∙ ap (λ z. not (is_in n (names ++ locals)) && z) (apart_swapped (names ++ locals) rest ∙ apart_append rest names locals) in
     let apart_own : is_apart own (names ++ all) ≡ (is_apart own names && (not (is_in n own) && is_apart rest own)) =
-          apart_append own names all ∙ ap (λ z. is_apart own names && z) (apart_same own all (n ∷ rest) same ∙ apart_more own n rest ∙ ap (λ z. not (is_in n own) && z) (apart_swapped own rest)) in
+    apart_append own names all ∙ ap (λ z. is_apart own names && z) (apart_same own all (n ∷ rest) same ∙ apart_more own n rest ∙ ap (λ z. not (is_in n own) && z) (apart_swapped own rest)) in
     let others : have_own (names ++ all) fs ≡ have_own (n ∷ (names ++ rest)) fs = have_own_same fs (names ++ all) (n ∷ (names ++ rest)) (λ x. same_append names names all (n ∷ rest) (λ y. refl) same x ∙ same_inserted names rest n x) in
     let functions : have_own (names ++ all) (source_of_items (i ∷ is)).funcs ≡ ((is_distinct own && (is_apart own names && (not (is_in n own) && is_apart rest own))) && have_own (n ∷ (names ++ rest)) fs) =
-          have_own_item (names ++ all) i is ∙ ap (λ z. (is_distinct own && z) && have_own (names ++ all) fs) apart_own ∙ ap (λ z. (is_distinct own && (is_apart own names && (not (is_in n own) && is_apart rest own))) && z) others in
+    have_own_item (names ++ all) i is ∙ ap (λ z. (is_distinct own && z) && have_own (names ++ all) fs) apart_own ∙ ap (λ z. (is_distinct own && (is_apart own names && (not (is_in n own) && is_apart rest own))) && z) others in
     regrouped _ (is_empty head) (is_empty theirs) (is_empty tail) (is_distinct all) (is_apart all (names ++ locals)) (have_own (names ++ all) (source_of_items (i ∷ is)).funcs)
-      (not (is_in n (names ++ locals))) (is_distinct own) (not (is_in n own)) (is_apart own names) (is_distinct rest) (not (is_in n rest)) (is_apart rest names) (is_apart rest own) (is_apart rest locals) (have_own (n ∷ (names ++ rest)) fs)
-      parts at_head at_theirs at_tail distinct apart functions
+    (not (is_in n (names ++ locals))) (is_distinct own) (not (is_in n own)) (is_apart own names) (is_distinct rest) (not (is_in n rest)) (is_apart rest names) (is_apart rest own) (is_apart rest locals) (have_own (n ∷ (names ++ rest)) fs)
+    parts at_head at_theirs at_tail distinct apart functions

@@ -1,5 +1,5 @@
 -- Lists without an element, and the lines of no reason.
-use Rattle.std.proofs.Common.{ℕ, ◌≡◌, Bool, true, false, not, ◌&&◌, List, [], ◌∷◌, ◌++◌, inl, inr, refl}
+use Rattle.std.proofs.Common.{ℕ, ◌≡◌, Bool, true, false, not, ◌&&◌, List, [], ◌∷◌, ◌++◌, inl, refl}
 use Rattle.loom_lang.specs.Refusal.{line_if, IsAmong}
 
 abbrev pub is_empty : List ℕ → Bool

@@ -1,5 +1,5 @@
 -- Each rule is kept where its reason stands at no line.
-use Rattle.std.proofs.Common.{ℕ, ◌+◌, suc, ◌<◌, ◌≤◌, ◌≡◌, Bool, true, false, not, ◌&&◌, ◌||◌, cond, nat_lt, ◌⊎◌, inl, inr, List, [], ◌∷◌, ◌++◌, length, take, drop, map, refl, ap, sym, ◌∙◌, arith, length-append, length-drop}
+use Rattle.std.proofs.Common.{ℕ, ◌+◌, suc, ◌≤◌, ◌≡◌, Bool, true, false, not, ◌&&◌, ◌||◌, cond, nat_lt, List, [], ◌∷◌, ◌++◌, length, take, drop, map, refl, ap, ◌∙◌, arith, length-append, length-drop}
 use Rattle.std.specs.Prelude.{◌==◌, flat_map}
 use Rattle.std.specs.Cmp.Lexicographic.{pointwise}
 use Rattle.std.proofs.lemmas.Bool.{le-ltb, ltb-false}
@@ -12,7 +12,7 @@ use Rattle.loom_lang.specs.Rules.{is_function, takes, knows, knows_simple, knows
 use Rattle.loom_lang.specs.Gathered.{source_of_items}
 use Rattle.loom_lang.specs.Refusal.{line_if, second_lines, unknown_lines, miscounted_lines, locals_at, over, shared_lines, cells_over}
 use Rattle.loom_lang.proofs.Empty.{is_empty, empty_append, empty_line_if}
-use Rattle.loom_lang.proofs.Repeated.{names_of, locals_names}
+use Rattle.loom_lang.proofs.Repeated.{locals_names}
 
 -- a line where a test fails, and other lines
 pub empty_more : (b : Bool) (l : ℕ) (ls : List ℕ) → is_empty (line_if (not b) l ++ ls) ≡ (b && is_empty ls)

@@ -1,7 +1,6 @@
 -- Items are without a fault exactly where they keep the rules.
-use Rattle.std.proofs.Common.{ℕ, ◌+◌, ◌≤◌, ◌≡◌, Bool, true, false, not, ◌&&◌, ◌||◌, nat_lt, List, [], ◌∷◌, ◌++◌, length, map, zero-le, refl, ap, sym, ◌∙◌, arith}
-use Rattle.std.specs.Prelude.{◌==◌, flat_map, codes}
-use Rattle.std.specs.Cmp.Lexicographic.{pointwise}
+use Rattle.std.proofs.Common.{ℕ, ◌+◌, ◌≤◌, ◌≡◌, Bool, true, false, not, ◌&&◌, ◌||◌, nat_lt, List, [], ◌∷◌, length, map, zero-le, refl, ap, sym, ◌∙◌, arith}
+use Rattle.std.specs.Prelude.{flat_map, codes}
 use Rattle.std.proofs.lemmas.Bool.{le-ltb, ltb-false}
 use Rattle.std.proofs.lemmas.List.{length-map}
 use Rattle.loom_tree.specs.Tree.{Function, Item, Source}
@@ -11,11 +10,11 @@ use Rattle.loom_lang.specs.declared.refusal.Reason.{Reason}
 use Rattle.loom_lang.specs.declared.refusal.Reason.TheVariants as reason
 use Rattle.loom_lang.specs.Rules.{is_function, takes, is_distinct, is_apart, locals_of, lines_of, cell_count, file_names, IsLawful, IsLawfulFunction, AreLawfulFunctions}
 use Rattle.loom_lang.specs.Gathered.{source_of_items}
-use Rattle.loom_lang.specs.Refusal.{line_if, unknown_lines, miscounted_lines, main_lines, locals_at, over, twice_lines, shared_lines, lines_of_reason, IsAmong, IsFaultless}
-use Rattle.loom_lang.proofs.Empty.{is_empty, empty_append, empty_line_if, none_among, among_none}
+use Rattle.loom_lang.specs.Refusal.{line_if, unknown_lines, miscounted_lines, main_lines, locals_at, over, shared_lines, lines_of_reason, IsFaultless}
+use Rattle.loom_lang.proofs.Empty.{is_empty, empty_append, none_among, among_none}
 use Rattle.loom_lang.proofs.Distinct.{apart_nil}
 use Rattle.loom_lang.proofs.Declared.{names_in, have_own, twice_empty}
-use Rattle.loom_lang.proofs.Kept.{empty_more, empty_functions, second_empty, unknown_empty, miscounted_empty, main_empty, takes_function, over_kept, kept_over, local_count, shared_count, cells_kept, kept_cells}
+use Rattle.loom_lang.proofs.Kept.{empty_functions, second_empty, unknown_empty, miscounted_empty, main_empty, takes_function, over_kept, kept_over, local_count, shared_count, cells_kept, kept_cells}
 
 both : (a b : Bool) → (a && b) ≡ true → (a ≡ true) × (b ≡ true)
 both true b h = (refl, h)

@@ -1,5 +1,5 @@
 -- What is noted of all faults is the first of them.
-use Rattle.std.proofs.Common.{ℕ, ◌+◌, suc, ◌<◌, ◌≤◌, ◌≡◌, Bool, true, false, ◌&&◌, ◌||◌, cond, nat_lt, ◌⊎◌, inl, inr, List, [], ◌∷◌, Option, Some, None, MatchOption, refl, ap, sym, ◌∙◌, subst, arith}
+use Rattle.std.proofs.Common.{ℕ, suc, ◌<◌, ◌≤◌, ◌≡◌, Bool, true, false, ◌&&◌, ◌||◌, cond, nat_lt, ◌⊎◌, inl, inr, List, [], ◌∷◌, Option, Some, None, MatchOption, refl, ap, sym, subst, arith}
 use Rattle.std.specs.Prelude.{nat_eq}
 use Rattle.std.proofs.lemmas.Bool.Decides.{leb_tells, nat_tests}
 use Rattle.loom_tree.specs.Tree.{Item}
@@ -101,12 +101,13 @@ noted_least Is first why [] h = least_of_same Is (OrAmong Is why []) first (λ l
     back l r (inr x) = absurd x.0
 noted_least Is first why (k ∷ ls) h =
     least_of_same (OrAmong (Or Is k why) why ls) (OrAmong Is why (k ∷ ls)) (noted first why (k ∷ ls)) there back
-      (noted_least (Or Is k why) (Some (sooner first (record { line = k; reason = why }))) why ls (sooner_least Is first (record { line = k; reason = why }) h))
+    (noted_least (Or Is k why) (Some (sooner first (record { line = k; reason = why }))) why ls (sooner_least Is first (record { line = k; reason = why }) h))
   where
     there : (l : ℕ) (r : Reason) → OrAmong (Or Is k why) why ls l r → OrAmong Is why (k ∷ ls) l r
     there l r (inl (inl x)) = inl x
     there l r (inl (inr x)) = inr (inl x.0, x.1)
     there l r (inr x) = inr (inr x.0, x.1)
+
     back : (l : ℕ) (r : Reason) → OrAmong Is why (k ∷ ls) l r → OrAmong (Or Is k why) why ls l r
     back l r (inl x) = inl (inl x)
     back l r (inr (inl e, x)) = inl (inr (e, x))
@@ -129,12 +130,13 @@ all_least Is items last first [] h = least_of_same Is (OrFound Is items last [])
 all_least Is items last first (why ∷ whys) h =
     let found : List ℕ = lines_of_reason items last why in
     least_of_same (OrFound (OrAmong Is why found) items last whys) (OrFound Is items last (why ∷ whys)) (noted_all items last first (why ∷ whys)) there back
-      (all_least (OrAmong Is why found) items last (noted first why found) whys (noted_least Is first why found h))
+    (all_least (OrAmong Is why found) items last (noted first why found) whys (noted_least Is first why found h))
   where
     there : (l : ℕ) (r : Reason) → OrFound (OrAmong Is why (lines_of_reason items last why)) items last whys l r → OrFound Is items last (why ∷ whys) l r
     there l r (inl (inl x)) = inl x
     there l r (inl (inr x)) = inr (inl x.1, subst (λ (z : Reason). IsAmong l (lines_of_reason items last z)) (sym x.1) x.0)
     there l r (inr x) = inr (inr x.0, x.1)
+
     back : (l : ℕ) (r : Reason) → OrFound Is items last (why ∷ whys) l r → OrFound (OrAmong Is why (lines_of_reason items last why)) items last whys l r
     back l r (inl x) = inl (inl x)
     back l r (inr (inl e, x)) = inl (inr (subst (λ (z : Reason). IsAmong l (lines_of_reason items last z)) e x, e))

@@ -1,10 +1,9 @@
 -- Faults that are noted one after another.
-use Rattle.std.proofs.Common.{ℕ, ◌+◌, suc, ◌<◌, ◌≤◌, ◌≡◌, List, [], ◌∷◌, ◌++◌, length, get_or, drop, map, Option, Some, refl, ap, sym, ◌∙◌, arith, add-one, drop-cons, append_assoc}
+use Rattle.std.proofs.Common.{ℕ, ◌+◌, suc, ◌<◌, ◌≡◌, List, [], ◌∷◌, ◌++◌, length, get_or, drop, Option, Some, refl, ap, sym, ◌∙◌, add-one, drop-cons, append_assoc}
 use Rattle.std.specs.Prelude.{flat_map}
 use Rattle.std.proofs.lemmas.Grind.{flat_map-append}
-use Rattle.std.proofs.lemmas.List.{append-nil}
 use Rattle.loom_tree.specs.declared.item.Item as rust_item
-use Rattle.loom_tree.specs.Tree.{Function, Item, item_of, items_of}
+use Rattle.loom_tree.specs.Tree.{Function, item_of, items_of}
 use Rattle.loom_lang.specs.declared.refusal.Reason.{Reason}
 use Rattle.loom_lang.specs.declared.refusal.LangRefusal.{LangRefusal}
 use Rattle.loom_lang.specs.Gathered.{funcs_in}
@@ -17,11 +16,6 @@ noted_append first why (x ∷ xs) ys = noted_append (Some (sooner first (record 
 -- one part of the lines, and then the rest
 pub noted_on : (first new : Option LangRefusal) (why : Reason) (xs ys all : List ℕ) → all ≡ xs ++ ys → new ≡ noted first why xs → noted new why ys ≡ noted first why all
 noted_on first new why xs ys all e h = ap (λ z. noted z why ys) h ∙ sym (ap (noted first why) e ∙ noted_append first why xs ys)
-
--- three parts, one after another
-pub noted_three : (first a b c : Option LangRefusal) (why : Reason) (xs ys zs : List ℕ) → a ≡ noted first why xs → b ≡ noted a why ys → c ≡ noted b why zs → c ≡ noted first why (xs ++ (ys ++ (zs ++ [])))
-noted_three first a b c why xs ys zs e f g =
-    g ∙ noted_on a b why ys zs _ (ap (λ z. ys ++ z) (append-nil zs)) f ∙ noted_on first a why xs (ys ++ (zs ++ [])) _ refl e
 
 pub drop_at : {X : Type 0} (xs : List X) (i : ℕ) (x : X) → i < length xs → x ≡ get_or xs i x → drop i xs ≡ x ∷ drop (i + 1) xs
 drop_at xs i x l e = rw add-one (drop-cons xs i x l ∙ ap (λ z. z ∷ drop (suc i) xs) (sym e))

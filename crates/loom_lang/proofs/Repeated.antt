@@ -1,20 +1,15 @@
 -- Names that are declared a second time.
-use Rattle.std.proofs.Common.{ℕ, ◌+◌, ◌<◌, ◌≡◌, Bool, true, false, ◌||◌, List, [], ◌∷◌, ◌++◌, length, get_or, take, drop, map, Option, Some, refl, ap, sym, ◌∙◌, arith, append_assoc}
-use Rattle.std.specs.Prelude.{◌==◌}
-use Rattle.std.specs.Cmp.Lexicographic.{pointwise}
-use Rattle.std.proofs.lemmas.List.{append-nil, map-append, take_more}
+use Rattle.std.proofs.Common.{ℕ, ◌+◌, ◌<◌, ◌≡◌, List, [], ◌∷◌, ◌++◌, length, get_or, take, drop, map, Option, refl, ap, sym, ◌∙◌, append_assoc}
+use Rattle.std.proofs.lemmas.List.{map-append, take_more}
 use Rattle.loom_tree.specs.Tree.{Body, end, simple, if_, while_, Function, Item, word, mutex, sema, func}
 use Rattle.loom_lang.specs.declared.local.Local.{Local}
 use Rattle.loom_lang.specs.declared.refusal.Reason.{Reason}
 use Rattle.loom_lang.specs.declared.refusal.LangRefusal.{LangRefusal}
 use Rattle.loom_lang.specs.Rules.{is_in, let_names, lets, locals_of}
 use Rattle.loom_lang.specs.Refusal.{line_if, at_line, lets_at, locals_at, repeated, twice_lines}
-use Rattle.loom_lang.specs.Noted.{name_of, line_of, locals_in, noted}
+use Rattle.loom_lang.specs.Noted.{names_of, name_of, line_of, locals_in, noted}
 use Rattle.loom_lang.proofs.Distinct.{AreSame, same_swapped, same_append, same_more}
 use Rattle.loom_lang.proofs.Noted.{noted_on, drop_at}
-
-abbrev pub names_of : List Local → List (List ℕ)
-names_of ds = map (λ (d : Local). d.name) ds
 
 at_line_names : (l : ℕ) (xs : List (List ℕ)) → names_of (at_line l xs) ≡ xs
 at_line_names l [] = refl
@@ -73,9 +68,9 @@ twice_on first new why names more locals others i is all e m o h =
     let same : AreSame (name_of i ∷ names) more = λ x. same_swapped (name_of i ∷ []) names x ∙ ap (is_in x) (sym m) in
     let same_locals : AreSame (own ++ names_of locals) (names_of others) = λ x. same_swapped own (names_of locals) x ∙ ap (is_in x) (sym (ap names_of o ∙ map-append _ locals (locals_in i))) in
     noted_on first new why (head ++ repeated more (locals_in i)) (twice_lines more (names_of others) is) _
-      (ap (twice_lines names (names_of locals)) e
-       ∙ twice_step names (names_of locals) i is
-       ∙ ap (λ z. head ++ (z ++ twice_lines (name_of i ∷ names) (own ++ names_of locals) is)) (repeated_same (locals_in i) _ _ same)
-       ∙ ap (λ z. head ++ (repeated more (locals_in i) ++ z)) (twice_same is _ _ _ _ same same_locals)
-       ∙ sym (append_assoc head (repeated more (locals_in i)) (twice_lines more (names_of others) is)))
-      h
+    (ap (twice_lines names (names_of locals)) e
+    ∙ twice_step names (names_of locals) i is
+    ∙ ap (λ z. head ++ (z ++ twice_lines (name_of i ∷ names) (own ++ names_of locals) is)) (repeated_same (locals_in i) _ _ same)
+    ∙ ap (λ z. head ++ (repeated more (locals_in i) ++ z)) (twice_same is _ _ _ _ same same_locals)
+    ∙ sym (append_assoc head (repeated more (locals_in i)) (twice_lines more (names_of others) is)))
+    h

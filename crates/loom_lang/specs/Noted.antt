@@ -1,5 +1,5 @@
 -- The first of the faults, as they are noted one after another.
-use Rattle.std.specs.Prelude.{ℕ, nat_lt, nat_eq, Bool, true, ◌&&◌, ◌||◌, cond, List, [], ◌∷◌, Option, Some, None}
+use Rattle.std.specs.Prelude.{ℕ, nat_lt, nat_eq, Bool, true, ◌&&◌, ◌||◌, cond, List, [], ◌∷◌, map, Option, Some, None}
 use Rattle.loom_tree.specs.Tree.{Body, end, simple, if_, while_, Item, word, mutex, sema, func, Source}
 use Rattle.loom_lang.specs.declared.local.Local.{Local}
 use Rattle.loom_lang.specs.declared.refusal.Which.TheVariants as which
@@ -46,6 +46,9 @@ counts_head p end = true
 counts_head p (simple l s rest) = counts_simple p s
 counts_head p (if_ l e a b rest) = true
 counts_head p (while_ l e a rest) = true
+
+abbrev pub names_of : List Local → List (List ℕ)
+names_of locals = map (λ (d : Local). d.name) locals
 
 -- What an item declares: its name, its line, and of a function its locals.
 

@@ -2,8 +2,8 @@
 use Rattle.std.specs.Prelude.{ℕ, List, Result, Ok, Err}
 use Rattle.loom_tree.specs.declared.item.Item.{Item}
 use Rattle.loom_tree.specs.Tree.{items_of}
-use Rattle.loom_lang.specs.declared.parse.ReadError.{ReadError}
-use Rattle.loom_lang.specs.declared.parse.ReadError.TheVariants as e
+use Rattle.loom_lang.specs.declared.read.ReadError.{ReadError}
+use Rattle.loom_lang.specs.declared.read.ReadError.TheVariants as e
 use Rattle.loom_lang.specs.Rules.{IsLawful}
 use Rattle.loom_lang.specs.Gathered.{source_of_items}
 use Rattle.loom_lang.specs.Program.{IsText}

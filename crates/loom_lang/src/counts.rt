@@ -45,7 +45,6 @@ fn counts_head(items: &[Item], kind: &Kind) -> bool
 }
 
 #[cycle(counts)]
-#[tactic(auto, using(crate::proofs::Noted::noted_append))]
 fn note_body(items: &[Item], body: &Stmts, first: &mut Option<LangRefusal>)
     ensures { first.new ≡ noted first.old reason.WrongCount (miscounted_lines (source_of_items (items_of items.now)) (body_of body.now)) }
 {

@@ -12,6 +12,7 @@ mod names;
 mod note;
 pub mod parse;
 pub mod program;
+mod read;
 pub mod refusal;
 #[cfg(test)]
 mod tests;

@@ -132,7 +132,8 @@ fn cells_in(item: &Item) -> u64
     match item {
         Item::Word { cells: None, .. } => 1,
         Item::Word {
-            cells: Some(cells), ..
+            cells: Some(cells),
+            ..
         } => *cells,
         Item::Mutex { .. } => 0,
         Item::Sema { .. } => 0,

@@ -1,11 +1,10 @@
 //! Names of items, and look-ups of names, each in one role.
-ghost use Rattle.std.specs.Prelude.{◌≡◌, ◌==◌, map};
+ghost use Rattle.std.specs.Prelude.{◌≡◌, ◌==◌};
 ghost use Rattle.std.specs.Cmp.Lexicographic.{pointwise};
 ghost use Rattle.loom_tree.specs.Tree.{item_of, items_of};
-ghost use Rattle.loom_lang.specs.declared.local.Local as local;
 ghost use Rattle.loom_lang.specs.Rules.{is_in, is_word, is_array, is_sema, is_function, takes};
 ghost use Rattle.loom_lang.specs.Gathered.{source_of_items};
-ghost use Rattle.loom_lang.specs.Noted.{name_of, line_of};
+ghost use Rattle.loom_lang.specs.Noted.{names_of, name_of, line_of};
 
 use crate::local::Local;
 use loom_tree::item::Item;
@@ -53,7 +52,7 @@ pub fn is_in(x: &Name, names: &[Name]) -> bool
 }
 
 pub fn is_local(x: &Name, locals: &[Local]) -> bool
-    ensures { result ≡ is_in x.now (map (λ (d : local.Local). d.name) locals.now) }
+    ensures { result ≡ is_in x.now (names_of locals.now) }
 {
     'scan: for d in locals {
         if is_same(&d.name, x.bytes()) {

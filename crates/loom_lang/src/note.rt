@@ -28,8 +28,7 @@ fn rank(reason: Reason) -> u8
 fn is_before(fault: LangRefusal, other: LangRefusal) -> bool
     ensures { result ≡ is_before fault other }
 {
-    fault.line < other.line
-        || (fault.line == other.line && rank(fault.reason) < rank(other.reason))
+    fault.line < other.line || (fault.line == other.line && rank(fault.reason) < rank(other.reason))
 }
 
 fn sooner(first: Option<LangRefusal>, fault: LangRefusal) -> LangRefusal

@@ -1,14 +1,27 @@
-//! Programs that are accepted, and others that break one rule each.
+//! Programs that are accepted, and texts that are refused, each at its line and for its reason.
 
 use crate::parse::{LangError, parse_program};
+use crate::read::{ReadError, read};
+use crate::refusal::{LangRefusal, Reason, Which};
 use std::alloc::{AllocError, Global};
 use std::test::Fail;
 
-/// The error of a text, or `None` where it is a program. Here a text that is too long counts as refused.
-fn error_of(alloc: Global, text: &str) -> Option<LangError> {
-    let bytes = text.as_bytes();
+/// The refusal of a text, or `None` where it is a program. No text here is too long.
+fn refusal_of(alloc: Global, bytes: &[u8]) -> Result<Option<LangRefusal>, ReadError> {
     if bytes.len() > 65536 {
-        return Some(LangError::Refused);
+        return Err(ReadError::NoMemory);
+    }
+    match read(alloc, bytes) {
+        Ok(_) => Ok(None),
+        Err(ReadError::Refused(refusal)) => Ok(Some(refusal)),
+        Err(ReadError::NoMemory) => Err(ReadError::NoMemory),
+    }
+}
+
+/// The error of a text, or `None` where it is a program. No text here is too long.
+fn error_of(alloc: Global, bytes: &[u8]) -> Option<LangError> {
+    if bytes.len() > 65536 {
+        return Some(LangError::NoMemory);
     }
     match parse_program(alloc, bytes) {
         Ok(_) => None,
@@ -18,56 +31,179 @@ fn error_of(alloc: Global, text: &str) -> Option<LangError> {
 
 #[test]
 fn accepts(rt: HostRuntime) {
-    let texts = [
-        "fn main() {}",
-        "// a comment\nfn main() { skip; }",
-        "shared x = -3; shared a[8]; mutex m; sema s = 2;\nfn f(p) {\nreturn p + x;\n}\nfn main() {\nlet v = f(1);\nlet t = spawn f(a[v]);\njoin t;\nlock m;\nunlock m;\ndown s;\nup s;\na[0] = v;\nif (v) {\nskip;\n} else {\nprint x;\n}\nwhile (v < 3) {\nv = v + 1;\n}\nf(v);\n}",
-        "fn main() {\nv = 1;\nlet v = 2;\n}",
-        "fn f(v) {}\nfn main() {\nlet v = 2;\n}",
-        "shared a[0];\nfn main() {}",
-        "shared a[1024];\nfn main() {}",
-        "fn f(a, b, c, d) {}\nfn main() {}",
+    let texts: [&[u8]; 13] = [
+        b"fn main() {}",
+        b"// a comment\nfn main() { skip; }",
+        b"shared x = -3; shared a[8]; mutex m; sema s = 2;\nfn f(p) {\nreturn p + x;\n}\nfn main() {\nlet v = f(1);\nlet t = spawn f(a[v]);\njoin t;\nlock m;\nunlock m;\ndown s;\nup s;\na[0] = v;\nif (v) {\nskip;\n} else {\nprint x;\n}\nwhile (v < 3) {\nv = v + 1;\n}\nf(v);\n}",
+        b"fn main() {\nv = 1;\nlet v = 2;\n}",
+        b"fn f(v) {}\nfn main() {\nlet v = 2;\n}",
+        b"shared a[0];\nfn main() {}",
+        b"shared a[1024];\nfn main() {}",
+        b"fn f(a, b, c, d) {}\nfn main() {}",
+        b"sema s = 2147483647;\nfn main() {}",
+        b"fn main() {\nprint 9223372036854775807;\n}",
+        b"fn main() {}\n// the end",
+        b"// \xc3\xa9\xff\nfn main() {}",
+        b"fn main() {} // \x80",
     ];
     for text in texts {
-        assert_eq!(rt; error_of(rt.alloc(), text), None, "{text}");
+        assert_eq!(rt; error_of(rt.alloc(), text), None);
+        assert_eq!(rt; refusal_of(rt.alloc(), text), Ok(None));
     }
 }
 
 #[test]
 fn refuses(rt: HostRuntime) {
-    let texts = [
-        "",
-        "fn main() {",
-        "fn main() {}#",
-        "fn main() { skip; skip; }",
-        "fn f() { skip; } fn main() { skip; }",
-        "fn main() {\nprint x;\n}",
-        "fn f(p) {}\nfn main() {\nprint p;\n}",
-        "shared x;\nfn main() {\nprint x[0];\n}",
-        "shared a[2];\nfn main() {\nprint a;\n}",
-        "shared x;\nfn f() {}\nfn main() {\nx = f();\n}",
-        "sema s;\nfn main() {\nlock s;\n}",
-        "mutex m;\nfn main() {\ndown m;\n}",
-        "fn main() {\nf();\n}",
-        "fn f(p) {}\nfn main() {\nf();\n}",
-        "fn f(p) {}\nfn main() {\nlet t = spawn f(1, 2);\n}",
-        "shared x; mutex x;\nfn main() {}",
-        "fn f() {}\nfn f(p) {}\nfn main() {}",
-        "fn f(p, p) {}\nfn main() {}",
-        "shared x;\nfn main() {\nlet x = 1;\n}",
-        "fn main() {\nlet v = 1;\nlet v = 2;\n}",
-        "fn f() {}",
-        "fn main(p) {}",
-        "shared a[1025];\nfn main() {}",
-        "shared a[1024]; shared x;\nfn main() {}",
-        "shared a[4294967296];\nfn main() {}",
-        "fn f(a, b, c, d, e) {}\nfn main() {}",
+    let texts: [(&[u8], u32, Reason); 20] = [
+        (b"", 1, Reason::NoMain),
+        (b"fn main() {", 1, Reason::Syntax),
+        (b"fn main() {\n\n", 3, Reason::Syntax),
+        (b"fn main() {}\n}", 2, Reason::Syntax),
+        (b"fn main() {}\n#", 2, Reason::Syntax),
+        (b"fn main() {}\n\xc3\xa9", 2, Reason::Syntax),
+        (b"fn main() {\nskip skip;\n}", 2, Reason::Syntax),
+        (
+            b"fn f() {}\nfn main() {\nlet v = f(1) + 1;\n}",
+            3,
+            Reason::Syntax,
+        ),
+        (
+            b"fn f(p) {}\nfn main() {\nprint f(1);\n}",
+            3,
+            Reason::Syntax,
+        ),
+        (b"sema s = 2147483648;\nfn main() {}", 1, Reason::Syntax),
+        (
+            b"fn main() {\nprint 9223372036854775808;\n}",
+            2,
+            Reason::Syntax,
+        ),
+        (b"fn main() {\nskip; skip;\n}", 2, Reason::SecondOnLine),
+        (
+            b"fn f() { skip; } fn main() { skip; }",
+            1,
+            Reason::SecondOnLine,
+        ),
+        (
+            b"fn main() {\nif (1) { skip;\n}\n}",
+            2,
+            Reason::SecondOnLine,
+        ),
+        (b"fn f() {}\n\n", 3, Reason::NoMain),
+        (b"shared main;\n", 2, Reason::NoMain),
+        (
+            b"shared a[1025];\nfn main() {}",
+            1,
+            Reason::TooMany(Which::Cells),
+        ),
+        (
+            b"shared a[1024];\nshared x;\nfn main() {}",
+            2,
+            Reason::TooMany(Which::Cells),
+        ),
+        (
+            b"shared a[4294967296];\nfn main() {}",
+            1,
+            Reason::TooMany(Which::Cells),
+        ),
+        (
+            b"fn f(a, b, c, d, e) {}\nfn main() {}",
+            1,
+            Reason::TooMany(Which::Params),
+        ),
     ];
-    for text in texts {
+    for (text, line, reason) in texts {
+        assert_eq!(rt; error_of(rt.alloc(), text), Some(LangError::Refused));
         assert_eq!(rt;
-            error_of(rt.alloc(), text),
-            Some(LangError::Refused),
-            "{text}"
+            refusal_of(rt.alloc(), text),
+            Ok(Some(LangRefusal { line, reason }))
+        );
+    }
+}
+
+#[test]
+fn refuses_names(rt: HostRuntime) {
+    let texts: [(&[u8], u32, Reason); 25] = [
+        (b"fn main() {\nprint x;\n}", 2, Reason::UnknownName),
+        (
+            b"fn f(p) {}\nfn main() {\nprint p;\n}",
+            3,
+            Reason::UnknownName,
+        ),
+        (
+            b"shared x;\nfn main() {\nprint x[0];\n}",
+            3,
+            Reason::UnknownName,
+        ),
+        (
+            b"shared a[2];\nfn main() {\nprint a;\n}",
+            3,
+            Reason::UnknownName,
+        ),
+        (
+            b"shared x;\nfn f() {}\nfn main() {\nx = f();\n}",
+            4,
+            Reason::UnknownName,
+        ),
+        (b"sema s;\nfn main() {\nlock s;\n}", 3, Reason::UnknownName),
+        (b"mutex m;\nfn main() {\ndown m;\n}", 3, Reason::UnknownName),
+        (b"fn main() {\nf();\n}", 2, Reason::UnknownName),
+        (b"fn main() {\nwhile (\nx) {\n}\n}", 2, Reason::UnknownName),
+        (
+            b"fn main() {\nif (1) {\n} else {\nprint x;\n}\n}",
+            4,
+            Reason::UnknownName,
+        ),
+        (b"fn f(p) {}\nfn main() {\nf();\n}", 3, Reason::WrongCount),
+        (
+            b"fn f(p) {}\nfn main() {\nlet t = spawn f(1, 2);\n}",
+            3,
+            Reason::WrongCount,
+        ),
+        (
+            b"fn f(p) {}\nfn main() {\nwhile (1) {\nf();\n}\n}",
+            4,
+            Reason::WrongCount,
+        ),
+        (b"\nfn main(p) {}", 2, Reason::WrongCount),
+        (b"shared x; mutex x;\nfn main() {}", 1, Reason::NameTwice),
+        (b"fn f() {}\nfn f(p) {}\nfn main() {}", 2, Reason::NameTwice),
+        (b"fn f(p,\np) {}\nfn main() {}", 1, Reason::NameTwice),
+        (b"fn f(f) {}\nfn main() {}", 1, Reason::NameTwice),
+        (
+            b"shared x;\nfn main() {\nlet x = 1;\n}",
+            3,
+            Reason::NameTwice,
+        ),
+        (
+            b"fn main() {\nlet x = 1;\n}\nshared x;",
+            4,
+            Reason::NameTwice,
+        ),
+        (
+            b"fn main() {\nlet v = 1;\nlet v = 2;\n}",
+            3,
+            Reason::NameTwice,
+        ),
+        (b"fn main() {}\nfn main(p) {}", 2, Reason::NameTwice),
+        // the lower line counts, and at one line the lesser reason
+        (
+            b"fn f() {}\nfn main() {\nf(1);\nskip; skip;\n}",
+            3,
+            Reason::WrongCount,
+        ),
+        (b"fn f() {}\nfn main() {\nf(x);\n}", 3, Reason::UnknownName),
+        (
+            b"fn f() {}\nfn main() {\nskip; f(x);\n}",
+            3,
+            Reason::SecondOnLine,
+        ),
+    ];
+    for (text, line, reason) in texts {
+        assert_eq!(rt; error_of(rt.alloc(), text), Some(LangError::Refused));
+        assert_eq!(rt;
+            refusal_of(rt.alloc(), text),
+            Ok(Some(LangRefusal { line, reason }))
         );
     }
 }
@@ -93,25 +229,57 @@ fn lines(
     Ok(text)
 }
 
+/// The refusal at a line, where a limit is passed.
+fn past(is_past: bool, line: u32, reason: Reason) -> Option<LangRefusal> {
+    if is_past {
+        Some(LangRefusal { line, reason })
+    } else {
+        None
+    }
+}
+
 #[test]
 fn limits(rt: HostRuntime) -> Result<(), Fail> {
     let alloc = rt.alloc();
-    let names = [(64, None), (65, Some(LangError::Refused))];
-    for (count, error) in names {
-        let text = lines(alloc, "fn main() {}\n", "mutex m", true, ";\n", count)?;
-        assert_eq!(rt; error_of(alloc, text.as_str()), error);
-        let text = lines(alloc, "fn main() {}\n", "fn f", true, "() {}\n", count - 1)?;
-        assert_eq!(rt; error_of(alloc, text.as_str()), error);
-    }
-    for (count, error) in [(32, None), (33, Some(LangError::Refused))] {
-        let mut text = lines(alloc, "fn main() {\n", "let v", true, " = 0;\n", count)?;
+    for more in [false, true] {
+        let one = if more { 1 } else { 0 };
+        let text = lines(alloc, "fn main() {}\n", "mutex m", true, ";\n", 64 + one)?;
+        let refusal = past(more, 66, Reason::TooMany(Which::Names));
+        assert_eq!(rt; refusal_of(alloc, text.as_bytes()), Ok(refusal));
+        let text = lines(alloc, "fn main() {}\n", "fn f", true, "() {}\n", 63 + one)?;
+        let refusal = past(more, 65, Reason::TooMany(Which::Functions));
+        assert_eq!(rt; refusal_of(alloc, text.as_bytes()), Ok(refusal));
+        let mut text = lines(alloc, "fn main() {\n", "let v", true, " = 0;\n", 32 + one)?;
         text.push_str("}")?;
-        assert_eq!(rt; error_of(alloc, text.as_str()), error);
-    }
-    for (count, error) in [(4096, None), (4097, Some(LangError::Refused))] {
-        let mut text = lines(alloc, "fn main() {\n", "skip", false, ";\n", count)?;
+        let refusal = past(more, 34, Reason::TooMany(Which::Locals));
+        assert_eq!(rt; refusal_of(alloc, text.as_bytes()), Ok(refusal));
+        let mut text = lines(alloc, "fn main() {\n", "skip", false, ";\n", 4096 + one)?;
         text.push_str("}")?;
-        assert_eq!(rt; error_of(alloc, text.as_str()), error);
+        let refusal = past(more, 4098, Reason::TooMany(Which::Statements));
+        assert_eq!(rt; refusal_of(alloc, text.as_bytes()), Ok(refusal));
+    }
+    Ok(())
+}
+
+#[test]
+fn limits_of_the_grammar(rt: HostRuntime) -> Result<(), Fail> {
+    let alloc = rt.alloc();
+    for more in [false, true] {
+        let one = if more { 1 } else { 0 };
+        let refusal = past(more, 2, Reason::Syntax);
+        // 128 nodes: 64 numbers, 63 operators between them, and one in front
+        let mut text = lines(alloc, "fn main() {\nprint ", "-", false, "", 1 + one)?;
+        text.push_str(lines(alloc, "1", " + 1", false, "", 63)?.as_str())?;
+        text.push_str(";\n}")?;
+        assert_eq!(rt; refusal_of(alloc, text.as_bytes()), Ok(refusal));
+        let mut text = lines(alloc, "fn main() {\nprint ", "(", false, "", 128 + one)?;
+        text.push_str(lines(alloc, "1", ")", false, "", 128 + one)?.as_str())?;
+        text.push_str(";\n}")?;
+        assert_eq!(rt; refusal_of(alloc, text.as_bytes()), Ok(refusal));
+        let refusal = past(more, 33, Reason::Syntax);
+        let mut text = lines(alloc, "fn main() {\n", "while (1) {\n", false, "", 31 + one)?;
+        text.push_str(lines(alloc, "", "}\n", false, "", 32 + one)?.as_str())?;
+        assert_eq!(rt; refusal_of(alloc, text.as_bytes()), Ok(refusal));
     }
     Ok(())
 }

@@ -1,11 +1,10 @@
 //! Names that are declared a second time.
-ghost use Rattle.std.specs.Prelude.{◌≡◌, ◌∷◌, [], ◌++◌, OnOk, map};
+ghost use Rattle.std.specs.Prelude.{◌≡◌, ◌∷◌, [], ◌++◌, OnOk};
 ghost use Rattle.loom_tree.specs.Tree.{item_of, items_of};
-ghost use Rattle.loom_lang.specs.declared.local.Local as local;
 ghost use Rattle.loom_lang.specs.declared.refusal.Reason.TheVariants as reason;
 ghost use Rattle.loom_lang.specs.Rules.{is_in};
 ghost use Rattle.loom_lang.specs.Refusal.{line_if, repeated, lines_of_reason};
-ghost use Rattle.loom_lang.specs.Noted.{name_of, line_of, locals_in, noted};
+ghost use Rattle.loom_lang.specs.Noted.{names_of, name_of, line_of, locals_in, noted};
 
 use crate::local::Local;
 use crate::names::{is_in, is_local, line_of, name_of};
@@ -20,7 +19,7 @@ use std::alloc::Global;
 /// Whether it is one of these names or locals.
 #[tactic(auto, using(crate::proofs::Distinct::in_append))]
 fn is_taken(x: &Name, names: &[Name], locals: &[Local]) -> bool
-    ensures { result ≡ is_in x.now (names.now ++ map (λ (d : local.Local). d.name) locals.now) }
+    ensures { result ≡ is_in x.now (names.now ++ names_of locals.now) }
 {
     is_in(x, names) || is_local(x, locals)
 }
@@ -58,7 +57,7 @@ fn note_item(
 ) -> Result<(), NoMemory>
     ensures names { OnOk result (names.new ≡ names.old ++ name_of (item_of item.now) ∷ []) }
     ensures locals { OnOk result (locals.new.items ≡ locals.old.items ++ locals_in (item_of item.now)) }
-    ensures first { OnOk result (first.new ≡ noted first.old reason.NameTwice (line_if (is_in (name_of (item_of item.now)) (names.old ++ map (λ (d : local.Local). d.name) locals.old.items)) (line_of (item_of item.now)) ++ repeated names.new (locals_in (item_of item.now)))) }
+    ensures first { OnOk result (first.new ≡ noted first.old reason.NameTwice (line_if (is_in (name_of (item_of item.now)) (names.old ++ names_of locals.old.items)) (line_of (item_of item.now)) ++ repeated names.new (locals_in (item_of item.now)))) }
 {
     let name = name_of(item);
     note_if(

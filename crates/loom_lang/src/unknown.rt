@@ -1,12 +1,11 @@
 //! Names that aren't known in their role.
-ghost use Rattle.std.specs.Prelude.{◌≡◌, OnOk, map, flat_map};
+ghost use Rattle.std.specs.Prelude.{◌≡◌, OnOk, flat_map};
 ghost use Rattle.loom_tree.specs.Tree.{Function, expression_of, expressions_of, right_of, returned_of, body_of, behind, end, item_of, items_of};
-ghost use Rattle.loom_lang.specs.declared.local.Local as local;
 ghost use Rattle.loom_lang.specs.declared.refusal.Reason.TheVariants as reason;
 ghost use Rattle.loom_lang.specs.Rules.{locals_of, knows, knows_all, knows_call, knows_right, knows_returned};
 ghost use Rattle.loom_lang.specs.Gathered.{funcs_in, source_of_items};
 ghost use Rattle.loom_lang.specs.Refusal.{unknown_lines, lines_of_reason};
-ghost use Rattle.loom_lang.specs.Noted.{knows_head, noted};
+ghost use Rattle.loom_lang.specs.Noted.{knows_head, names_of, noted};
 
 use crate::local::Local;
 use crate::names;
@@ -20,7 +19,7 @@ use loom_tree::statement::{Kind, Right, Stmts};
 use std::alloc::Global;
 
 fn knows(items: &[Item], locals: &[Local], e: &Expr) -> bool
-    ensures { result ≡ knows (source_of_items (items_of items.now)) (map (λ (d : local.Local). d.name) locals.now) (expression_of e.now) }
+    ensures { result ≡ knows (source_of_items (items_of items.now)) (names_of locals.now) (expression_of e.now) }
 {
     match e {
         Expr::Num(_) => true,
@@ -33,7 +32,7 @@ fn knows(items: &[Item], locals: &[Local], e: &Expr) -> bool
 }
 
 fn knows_all(items: &[Item], locals: &[Local], es: &Exprs) -> bool
-    ensures { result ≡ knows_all (source_of_items (items_of items.now)) (map (λ (d : local.Local). d.name) locals.now) (expressions_of es.now) }
+    ensures { result ≡ knows_all (source_of_items (items_of items.now)) (names_of locals.now) (expressions_of es.now) }
 {
     'scan: for e in &es.0 {
         if !knows(items, locals, e) {
@@ -44,13 +43,13 @@ fn knows_all(items: &[Item], locals: &[Local], es: &Exprs) -> bool
 }
 
 fn knows_call(items: &[Item], locals: &[Local], f: &Name, es: &Exprs) -> bool
-    ensures { result ≡ knows_call (source_of_items (items_of items.now)) (map (λ (d : local.Local). d.name) locals.now) f.now (expressions_of es.now) }
+    ensures { result ≡ knows_call (source_of_items (items_of items.now)) (names_of locals.now) f.now (expressions_of es.now) }
 {
     names::is_function(items, f.bytes()) && knows_all(items, locals, es)
 }
 
 fn knows_right(items: &[Item], locals: &[Local], x: &Name, right: &Right) -> bool
-    ensures { result ≡ knows_right (source_of_items (items_of items.now)) (map (λ (d : local.Local). d.name) locals.now) x.now (right_of right.now) }
+    ensures { result ≡ knows_right (source_of_items (items_of items.now)) (names_of locals.now) x.now (right_of right.now) }
 {
     match right {
         Right::Value(e) => {
@@ -62,7 +61,7 @@ fn knows_right(items: &[Item], locals: &[Local], x: &Name, right: &Right) -> boo
 }
 
 fn knows_returned(items: &[Item], locals: &[Local], e: &Option<Expr>) -> bool
-    ensures { result ≡ knows_returned (source_of_items (items_of items.now)) (map (λ (d : local.Local). d.name) locals.now) (returned_of e.now) }
+    ensures { result ≡ knows_returned (source_of_items (items_of items.now)) (names_of locals.now) (returned_of e.now) }
 {
     match e {
         None => true,
@@ -72,7 +71,7 @@ fn knows_returned(items: &[Item], locals: &[Local], e: &Option<Expr>) -> bool
 
 /// Whether the names of a statement are known in their roles, those of its blocks aside.
 fn knows_head(items: &[Item], locals: &[Local], kind: &Kind) -> bool
-    ensures { result ≡ knows_head (source_of_items (items_of items.now)) (map (λ (d : local.Local). d.name) locals.now) (behind 0 kind.now end) }
+    ensures { result ≡ knows_head (source_of_items (items_of items.now)) (names_of locals.now) (behind 0 kind.now end) }
 {
     match kind {
         Kind::Let(x, right) => knows_right(items, locals, x, right),
@@ -95,14 +94,8 @@ fn knows_head(items: &[Item], locals: &[Local], kind: &Kind) -> bool
 }
 
 #[cycle(unknown)]
-#[tactic(auto, using(crate::proofs::Noted::noted_append))]
-fn note_body(
-    items: &[Item],
-    locals: &[Local],
-    body: &Stmts,
-    first: &mut Option<LangRefusal>,
-)
-    ensures { first.new ≡ noted first.old reason.UnknownName (unknown_lines (source_of_items (items_of items.now)) (map (λ (d : local.Local). d.name) locals.now) (body_of body.now)) }
+fn note_body(items: &[Item], locals: &[Local], body: &Stmts, first: &mut Option<LangRefusal>)
+    ensures { first.new ≡ noted first.old reason.UnknownName (unknown_lines (source_of_items (items_of items.now)) (names_of locals.now) (body_of body.now)) }
 {
     let mut at = body;
     'walk: while let Stmts::More(stmt, rest) = at {
@@ -120,7 +113,7 @@ fn note_statement(
     kind: &Kind,
     first: &mut Option<LangRefusal>,
 )
-    ensures { first.new ≡ noted first.old reason.UnknownName (unknown_lines (source_of_items (items_of items.now)) (map (λ (d : local.Local). d.name) locals.now) (behind line kind.now end)) }
+    ensures { first.new ≡ noted first.old reason.UnknownName (unknown_lines (source_of_items (items_of items.now)) (names_of locals.now) (behind line kind.now end)) }
 {
     note_if(
         first,

@@ -1,4 +1,3 @@
-use Rattle.loom_lang.specs.Reading.{IsReading}
 use Rattle.loom_lang.specs.Refusal.{IsRefusedProgram}
 use Rattle.loom_lang.proofs.Texts.{refused_no_program}
 use Rattle.loom_lang.proofs.parse.parse_program.Goals as goal

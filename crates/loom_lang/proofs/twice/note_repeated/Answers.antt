@@ -1,4 +1,4 @@
-use Rattle.std.proofs.Common.{◌≡◌, ap, ◌∙◌}
+use Rattle.std.proofs.Common.{ap, ◌∙◌}
 use Rattle.loom_lang.specs.declared.refusal.Reason.TheVariants as reason
 use Rattle.loom_lang.specs.Refusal.{line_if}
 use Rattle.loom_lang.specs.Noted.{noted}

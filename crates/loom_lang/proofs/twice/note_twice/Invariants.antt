@@ -3,7 +3,7 @@ use Rattle.loom_tree.specs.Tree.{items_of}
 use Rattle.loom_lang.specs.declared.refusal.Reason.TheVariants as reason
 use Rattle.loom_lang.specs.Refusal.{twice_lines}
 use Rattle.loom_lang.specs.Noted.{noted}
-use Rattle.loom_lang.proofs.Repeated.{names_of}
+use Rattle.loom_lang.specs.Noted.{names_of}
 use Rattle.loom_lang.proofs.twice.note_twice.Given as goal
 
 abbrev pub invariant-scan : goal.invariant-scan

@@ -6,7 +6,8 @@ use Rattle.loom_lang.specs.Rules.{locals_of}
 use Rattle.loom_lang.specs.Gathered.{source_of_items}
 use Rattle.loom_lang.specs.Refusal.{locals_at, unknown_lines}
 use Rattle.loom_lang.specs.Noted.{noted}
-use Rattle.loom_lang.proofs.Repeated.{names_of, locals_names}
+use Rattle.loom_lang.specs.Noted.{names_of}
+use Rattle.loom_lang.proofs.Repeated.{locals_names}
 use Rattle.loom_lang.proofs.unknown.note_item.Goals as goal
 
 pub returns-in_ok-put_locals : goal.returns-in_ok-put_locals

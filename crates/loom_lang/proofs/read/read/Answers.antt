@@ -1,11 +1,10 @@
-use Rattle.std.proofs.Common.{◌≡◌, List, map}
-use Rattle.loom_tree.specs.declared.item.Item.{Item}
+use Rattle.std.proofs.Common.{◌≡◌, map}
 use Rattle.loom_tree.specs.Token.{placed_of}
 use Rattle.loom_tree.specs.Tree.{items_of}
-use Rattle.loom_lexer.specs.Tokens.{AreTokens, last_line}
+use Rattle.loom_lexer.specs.Tokens.{AreTokens}
 use Rattle.loom_lang.specs.Refusal.{IsFaultless}
 use Rattle.loom_lang.proofs.Lawful.{faultless_lawful}
-use Rattle.loom_lang.proofs.parse.read.Goals as goal
+use Rattle.loom_lang.proofs.read.read.Goals as goal
 
 pub returns-in-None : goal.returns-in-None
 returns-in-None c =

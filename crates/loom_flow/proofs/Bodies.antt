@@ -1,5 +1,5 @@
 -- Statements give in their code what they give in the tree.
-use Rattle.std.proofs.Common.{ℕ, suc, zero, ◌+◌, ◌≡◌, ◌≤◌, List, [], ◌∷◌, ◌++◌, Bool, true, false, ℤ, pos, Option, Some, None, refl, sym, ap, subst, ◌∙◌, slice_get, length, inl, le_trans, arith}
+use Rattle.std.proofs.Common.{ℕ, suc, zero, ◌+◌, ◌≡◌, ◌≤◌, List, [], ◌∷◌, ◌++◌, Bool, true, false, ℤ, pos, Option, Some, None, refl, sym, ap, subst, ◌∙◌, slice_get, length, length-append, inl, arith}
 use mathlib.Core.Path.{fun_ext}
 use Rattle.loom_tree.specs.Tree.{Expression, Body, end, simple, if_, while_, Source}
 use Rattle.loom_lang.specs.Values.{is_zero}
@@ -22,7 +22,7 @@ use Rattle.loom_flow.proofs.Trees.{Turn, meets_expression, expression_open, body
 use Rattle.loom_flow.proofs.Statements.{operand_straight, meets_begin}
 use Rattle.loom_flow.proofs.Simple.{CallsMeet}
 use Rattle.loom_flow.proofs.EachSimple.{IsKnownSimple, Ends, Returns, simple_meets}
-use Rattle.loom_flow.proofs.Sizes.{instrs_length, condition_length, code_length, sites_length}
+use Rattle.loom_flow.proofs.Sizes.{instrs_length, code_length, sites_length}
 
 -- Runs by at most so many steps, or by any number of them: they fetch their instructions, and go round loops.
 pub record Runner (b : Bool) (c : Flat) (t : Thread) (m : ℕ → State → Lists) : Type 1 where
@@ -62,6 +62,10 @@ ever_runner c t = record {
 }
 
 -- Conditions
+
+-- with what begins it and jumps behind it
+condition_length : (l k : ℕ) (xs : List Step) (x y : Step) → length (instrs l k (x ∷ (xs ++ y ∷ []))) ≡ 2 + length xs
+condition_length l k xs x y = instrs_length l k (x ∷ (xs ++ y ∷ [])) ∙ (let e : length (xs ++ y ∷ []) ≡ length xs + 1 = length-append xs (y ∷ []) in omega arith)
 
 -- steps one behind another, and then any step
 meets_then : (b : Bool) (c : Flat) (t : Thread) (l k : ℕ) (m : State → Lists) (xs : List Step) (x : Step) (at : ℕ) (z : State)
@@ -171,20 +175,20 @@ body_meets b c t m runner most n le calls xs z (if_ l e x y rest) k at ret more 
       (lies_second c.code at (instrs l k head) (code_x ++ instr l k (s.Jump last) ∷ (code_y ++ instr l k s.Done ∷ code_rest)) lies) in
     let lies_x : Lies c.code first code_x = lies_first c.code first code_x (instr l k (s.Jump last) ∷ (code_y ++ instr l k s.Done ∷ code_rest)) lies_from_x in
     let lies_jump : Lies c.code (first + size p xs x) (instr l k (s.Jump last) ∷ (code_y ++ instr l k s.Done ∷ code_rest)) =
-      subst (λ i. Lies c.code i (instr l k (s.Jump last) ∷ (code_y ++ instr l k s.Done ∷ code_rest))) (ap (λ i. first + i) (code_length p xs first (suc k) x))
+      subst (λ i. Lies c.code i (instr l k (s.Jump last) ∷ (code_y ++ instr l k s.Done ∷ code_rest))) (ap (λ i. first + i) (code_length p xs x first (suc k)))
       (lies_second c.code first code_x (instr l k (s.Jump last) ∷ (code_y ++ instr l k s.Done ∷ code_rest)) lies_from_x) in
     let lies_from_y : Lies c.code second (code_y ++ instr l k s.Done ∷ code_rest) = subst (λ i. Lies c.code i (code_y ++ instr l k s.Done ∷ code_rest)) (omega arith) lies_jump.1 in
     let lies_y : Lies c.code second code_y = lies_first c.code second code_y (instr l k s.Done ∷ code_rest) lies_from_y in
     let lies_done : Lies c.code last (instr l k s.Done ∷ code_rest) =
-      subst (λ i. Lies c.code i (instr l k s.Done ∷ code_rest)) (ap (λ i. second + i) (code_length p xs second (suc k + place_count x) y))
+      subst (λ i. Lies c.code i (instr l k s.Done ∷ code_rest)) (ap (λ i. second + i) (code_length p xs y second (suc k + place_count x)))
       (lies_second c.code second code_y (instr l k s.Done ∷ code_rest) lies_from_y) in
     let sites_x : Lies c.sites (suc k) (body_sites p xs first x) = lies_first c.sites (suc k) (body_sites p xs first x) (body_sites p xs second y ++ body_sites p xs (suc last) rest) sites.1 in
     let sites_from_y : Lies c.sites (suc k + place_count x) (body_sites p xs second y ++ body_sites p xs (suc last) rest) =
-      subst (λ i. Lies c.sites i (body_sites p xs second y ++ body_sites p xs (suc last) rest)) (ap (λ i. suc k + i) (sites_length p xs first x))
+      subst (λ i. Lies c.sites i (body_sites p xs second y ++ body_sites p xs (suc last) rest)) (ap (λ i. suc k + i) (sites_length p xs x first))
       (lies_second c.sites (suc k) (body_sites p xs first x) (body_sites p xs second y ++ body_sites p xs (suc last) rest) sites.1) in
     let sites_y : Lies c.sites (suc k + place_count x) (body_sites p xs second y) = lies_first c.sites (suc k + place_count x) (body_sites p xs second y) (body_sites p xs (suc last) rest) sites_from_y in
     let sites_rest : Lies c.sites (suc k + place_count x + place_count y) (body_sites p xs (suc last) rest) =
-      subst (λ i. Lies c.sites i (body_sites p xs (suc last) rest)) (ap (λ i. suc k + place_count x + i) (sites_length p xs second y))
+      subst (λ i. Lies c.sites i (body_sites p xs (suc last) rest)) (ap (λ i. suc k + place_count x + i) (sites_length p xs y second))
       (lies_second c.sites (suc k + place_count x) (body_sites p xs second y) (body_sites p xs (suc last) rest) sites_from_y) in
     let behind : (j : ℕ) → j ≤ n → (vs : List ℤ) → length vs ≡ length z.locals → Meets b (m j (jumped (record z { locals = vs }) last)) (emit (done l) (body t calls most (named xs vs) rest ret more)) = λ j below vs g.
       meets_done b c t (m j) l k last (record z { locals = vs }) (body t calls most (named xs vs) rest ret more) (runner.fetches j) lies_done.0
@@ -219,7 +223,7 @@ body_meets b c t m runner most n le calls xs z (while_ l e x rest) k at ret more
       (lies_second c.code at (instrs l k begin) (code_x ++ instr l (suc k) (s.Edge head) ∷ instr l k s.Done ∷ code_rest) lies) in
     let lies_x : Lies c.code first code_x = lies_first c.code first code_x (instr l (suc k) (s.Edge head) ∷ instr l k s.Done ∷ code_rest) lies_from_x in
     let lies_edge : Lies c.code (first + size p xs x) (instr l (suc k) (s.Edge head) ∷ instr l k s.Done ∷ code_rest) =
-      subst (λ i. Lies c.code i (instr l (suc k) (s.Edge head) ∷ instr l k s.Done ∷ code_rest)) (ap (λ i. first + i) (code_length p xs first (suc (suc k)) x))
+      subst (λ i. Lies c.code i (instr l (suc k) (s.Edge head) ∷ instr l k s.Done ∷ code_rest)) (ap (λ i. first + i) (code_length p xs x first (suc (suc k))))
       (lies_second c.code first code_x (instr l (suc k) (s.Edge head) ∷ instr l k s.Done ∷ code_rest) lies_from_x) in
     let lies_done : Lies c.code last (instr l k s.Done ∷ code_rest) = subst (λ i. Lies c.code i (instr l k s.Done ∷ code_rest)) (omega arith) lies_edge.1 in
     let place : ℕ = at + (2 + length before) in
@@ -228,7 +232,7 @@ body_meets b c t m runner most n le calls xs z (while_ l e x rest) k at ret more
       (lies_first c.sites (suc (suc k)) (body_sites p xs place x) (body_sites p xs (suc (place + (1 + size p xs x))) rest) sites.1.1) in
     let sites_rest : Lies c.sites (suc (suc k) + place_count x) (body_sites p xs (suc last) rest) =
       subst (λ i. Lies c.sites (suc (suc k) + place_count x) (body_sites p xs (suc (i + (1 + size p xs x))) rest)) (first_again at (length before))
-      (subst (λ i. Lies c.sites i (body_sites p xs (suc (place + (1 + size p xs x))) rest)) (ap (λ i. suc (suc k) + i) (sites_length p xs place x))
+      (subst (λ i. Lies c.sites i (body_sites p xs (suc (place + (1 + size p xs x))) rest)) (ap (λ i. suc (suc k) + i) (sites_length p xs x place))
       (lies_second c.sites (suc (suc k)) (body_sites p xs place x) (body_sites p xs (suc (place + (1 + size p xs x))) rest) sites.1.1)) in
     let behind : (j : ℕ) → j ≤ n → (vs : List ℤ) → length vs ≡ length z.locals → Meets b (m j (jumped (record z { locals = vs }) last)) (emit (done l) (body t calls most (named xs vs) rest ret more)) = λ j below vs g.
       meets_done b c t (m j) l k last (record z { locals = vs }) (body t calls most (named xs vs) rest ret more) (runner.fetches j) lies_done.0

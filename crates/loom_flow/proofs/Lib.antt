@@ -11,9 +11,9 @@ mod Statements
 mod Simple
 mod Effects
 mod EachSimple
-mod Sizes
+pub mod Sizes
 mod Bodies
 mod Frames
-mod Known
+mod Roles
 mod Placed
 pub mod Traces

@@ -12,8 +12,9 @@ mod Simple
 mod Effects
 mod EachSimple
 pub mod Sizes
-mod Bodies
+mod Meeting
 mod Frames
 mod Roles
 mod Placed
 pub mod Traces
+pub mod Counts

@@ -2,3 +2,4 @@ pub mod Tree
 pub mod Code
 pub mod Token
 pub mod Decimal
+pub mod Chain

@@ -1,10 +1,10 @@
 //! Copies of trees. An `Err` is want of memory throughout.
 ghost use Rattle.std.specs.Prelude.{◌≡◌, IfOk};
 ghost use Rattle.loom_tree.specs.Chain.{before};
-ghost use Rattle.loom_tree.specs.Tree.{expression_of, expressions_of, right_of, returned_of, behind, body_of, end, function_of};
+ghost use Rattle.loom_tree.specs.Tree.{expression_of, expressions_of, right_of, returned_of, behind, body_of, end, function_of, functions_of};
 
 use crate::expression::{Expr, Exprs};
-use crate::item::{Sema, Word};
+use crate::item::{Funcs, Mutexes, Sema, Semas, Word, Words};
 use crate::name::{Name, NoMemory};
 use crate::statement::{Func, Kind, Names, Right, Stmt, Stmts};
 use std::alloc::Global;
@@ -50,6 +50,45 @@ impl Sema {
             name: name(alloc, &self.name)?,
             first: self.first,
         })
+    }
+}
+
+impl Words {
+    /// A copy of the words. An `Err` is want of memory.
+    pub fn copied(&self, alloc: Global) -> Result<Words, NoMemory>
+        ensures { IfOk result (λ words. words ≡ self.now) }
+    {
+        let mut copies = Vec::new(alloc);
+        'copy: for w in &self.0 {
+            copies.push(w.copied(alloc)?)?;
+        }
+        Ok(Words(copies))
+    }
+}
+
+impl Mutexes {
+    /// A copy of the mutexes. An `Err` is want of memory.
+    pub fn copied(&self, alloc: Global) -> Result<Mutexes, NoMemory>
+        ensures { IfOk result (λ mutexes. mutexes ≡ self.now) }
+    {
+        let mut copies = Vec::new(alloc);
+        'copy: for x in &self.0 {
+            copies.push(name(alloc, x)?)?;
+        }
+        Ok(Mutexes(copies))
+    }
+}
+
+impl Semas {
+    /// A copy of the semaphores. An `Err` is want of memory.
+    pub fn copied(&self, alloc: Global) -> Result<Semas, NoMemory>
+        ensures { IfOk result (λ semas. semas ≡ self.now) }
+    {
+        let mut copies = Vec::new(alloc);
+        'copy: for s in &self.0 {
+            copies.push(s.copied(alloc)?)?;
+        }
+        Ok(Semas(copies))
     }
 }
 
@@ -175,5 +214,18 @@ impl Func {
             params: self.params.copied(alloc)?,
             body: self.body.copied(alloc)?,
         })
+    }
+}
+
+impl Funcs {
+    /// A copy of the functions. An `Err` is want of memory.
+    pub fn copied(&self, alloc: Global) -> Result<Funcs, NoMemory>
+        ensures { IfOk result (λ fs. functions_of fs ≡ functions_of self.now) }
+    {
+        let mut copies = Vec::new(alloc);
+        'copy: for f in &self.0 {
+            copies.push(f.copied(alloc)?)?;
+        }
+        Ok(Funcs(copies))
     }
 }

@@ -1,0 +1,88 @@
+-- How long flat code is.
+use Rattle.std.proofs.Common.{ℕ, suc, ◌+◌, ◌≡◌, List, [], ◌∷◌, ◌++◌, length, refl, ap, arith, length-append}
+use Rattle.loom_tree.specs.Tree.{Body, end, simple, if_, while_, Source}
+use Rattle.loom_lang.specs.Places.{body_places}
+use Rattle.loom_flow.specs.declared.code.Step.{Step}
+use Rattle.loom_flow.specs.declared.code.Instr.{Instr}
+use Rattle.loom_flow.specs.declared.code.Site.{Site}
+use Rattle.loom_flow.specs.declared.code.Step.TheVariants as s
+use Rattle.loom_flow.specs.Lowered.{operand_of, operand_steps, simple_steps, instrs, instr, size, place_count, body_code, body_sites}
+
+pub instrs_length : (l place : ℕ) (xs : List Step) → length (instrs l place xs) ≡ length xs
+instrs_length l place [] = refl
+instrs_length l place (x ∷ xs) = ap suc (instrs_length l place xs)
+
+-- the steps of a test have one more before and one behind
+test_length : (l place : ℕ) (xs : List Step) (x y : Step) → length (instrs l place (x ∷ (xs ++ y ∷ []))) ≡ length xs + 2
+test_length l place xs x y =
+    let is = instrs_length l place (x ∷ (xs ++ y ∷ [])) in
+    let two = length-append xs (y ∷ []) in
+    omega (arith, is, two)
+
+choice_length : (xs cs bs rest : List Instr) (i j : Instr) → length (xs ++ (cs ++ i ∷ (bs ++ j ∷ rest))) ≡ length xs + length cs + length bs + length rest + 2
+choice_length xs cs bs rest i j =
+    let one = length-append xs (cs ++ i ∷ (bs ++ j ∷ rest)) in
+    let two = length-append cs (i ∷ (bs ++ j ∷ rest)) in
+    let three = length-append bs (j ∷ rest) in
+    omega arith
+
+loop_length : (xs cs rest : List Instr) (i j : Instr) → length (xs ++ (cs ++ i ∷ j ∷ rest)) ≡ length xs + length cs + length rest + 2
+loop_length xs cs rest i j =
+    let one = length-append xs (cs ++ i ∷ j ∷ rest) in
+    let two = length-append cs (i ∷ j ∷ rest) in
+    omega arith
+
+pub code_length : (p : Source) (names : List (List ℕ)) (b : Body) (at place : ℕ) → length (body_code p names at place b) ≡ size p names b
+code_length p names end at place = refl
+code_length p names (simple l x rest) at place =
+    let first = instrs_length l place (simple_steps p names x) in
+    let behind = code_length p names rest (at + length (simple_steps p names x)) (suc place) in
+    let whole = length-append (instrs l place (simple_steps p names x)) (body_code p names (at + length (simple_steps p names x)) (suc place) rest) in
+    omega arith
+code_length p names (if_ l e a b rest) at place =
+    let first : ℕ = at + (2 + length (operand_steps p names e)) in
+    let second : ℕ = first + (1 + size p names a) in
+    let done : ℕ = second + size p names b in
+    let test = test_length l place (operand_steps p names e) s.Begin (s.JumpIfZero (operand_of names e) second) in
+    let cs = code_length p names a first (suc place) in
+    let bs = code_length p names b second (suc place + place_count a) in
+    let behind = code_length p names rest (suc done) (suc place + place_count a + place_count b) in
+    let whole = choice_length (instrs l place (s.Begin ∷ (operand_steps p names e ++ s.JumpIfZero (operand_of names e) second ∷ []))) (body_code p names first (suc place) a) (body_code p names second (suc place + place_count a) b) (body_code p names (suc done) (suc place + place_count a + place_count b) rest) (instr l place (s.Jump done)) (instr l place s.Done) in
+    omega arith
+code_length p names (while_ l e a rest) at place =
+    let head : ℕ = at + 1 in
+    let first : ℕ = head + (1 + length (operand_steps p names e)) in
+    let done : ℕ = first + (1 + size p names a) in
+    let test = test_length l place (operand_steps p names e) s.Begin (s.JumpIfZero (operand_of names e) done) in
+    let cs = code_length p names a first (suc (suc place)) in
+    let behind = code_length p names rest (suc done) (suc (suc place) + place_count a) in
+    let whole = loop_length (instrs l place (s.Begin ∷ (operand_steps p names e ++ s.JumpIfZero (operand_of names e) done ∷ []))) (body_code p names first (suc (suc place)) a) (body_code p names (suc done) (suc (suc place) + place_count a) rest) (instr l (suc place) (s.Edge head)) (instr l place s.Done) in
+    omega arith
+
+sum_length : {A : Type 0} (cs bs rest : List A) → length (cs ++ (bs ++ rest)) ≡ length cs + (length bs + length rest)
+sum_length cs bs rest =
+    let one = length-append cs (bs ++ rest) in
+    let two = length-append bs rest in
+    omega arith
+
+pub sites_length : (p : Source) (names : List (List ℕ)) (b : Body) (at : ℕ) → length (body_sites p names at b) ≡ place_count b
+sites_length p names end at = refl
+sites_length p names (simple l x rest) at = ap suc (sites_length p names rest _)
+sites_length p names (if_ l e a b rest) at =
+    let first : ℕ = at + (2 + length (operand_steps p names e)) in
+    let second : ℕ = first + (1 + size p names a) in
+    let done : ℕ = second + size p names b in
+    let cs = sites_length p names a first in
+    let bs = sites_length p names b second in
+    let behind = sites_length p names rest (suc done) in
+    let whole = sum_length (body_sites p names first a) (body_sites p names second b) (body_sites p names (suc done) rest) in
+    let places = sum_length (body_places a) (body_places b) (body_places rest) in
+    omega arith
+sites_length p names (while_ l e a rest) at =
+    let first : ℕ = at + (2 + length (operand_steps p names e)) in
+    let done : ℕ = first + (1 + size p names a) in
+    let cs = sites_length p names a first in
+    let behind = sites_length p names rest (suc done) in
+    let whole = length-append (body_sites p names first a) (body_sites p names (suc done) rest) in
+    let places = length-append (body_places a) (body_places rest) in
+    omega arith

@@ -12,4 +12,4 @@ pub mod program;
 mod rules;
 #[cfg(test)]
 mod tests;
-mod walk;
+pub mod walk;

@@ -40,7 +40,7 @@ fn climb_statement(before: u32, line: u32, kind: &Kind) -> Option<u32>
 }
 
 /// Whether at most one statement begins on a line.
-pub fn is_ascending(funcs: &[Func]) -> bool
+pub(crate) fn is_ascending(funcs: &[Func]) -> bool
     ensures { result ≡ is_some (climb 0 (body_lines (functions_of funcs.now))) }
 {
     let mut last = 0;
@@ -79,7 +79,7 @@ fn count_statement(kind: &Kind) -> u64
 }
 
 /// How many statements there are in all functions, or the largest number of the type.
-pub fn statement_count(funcs: &[Func]) -> u64
+pub(crate) fn statement_count(funcs: &[Func]) -> u64
     ensures { result ≡ capped (length (body_lines (functions_of funcs.now))) }
 {
     let mut total: u64 = 0;
@@ -91,7 +91,7 @@ pub fn statement_count(funcs: &[Func]) -> u64
 
 /// How many `let` statements there are, or the largest number of the type.
 #[cycle(let_statements)]
-pub fn count_lets(body: &Stmts) -> u64
+pub(crate) fn count_lets(body: &Stmts) -> u64
     ensures { result ≡ capped (length (lets (body_of body.now))) }
 {
     let mut total: u64 = 0;

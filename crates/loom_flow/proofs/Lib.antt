@@ -2,3 +2,4 @@ pub mod Sizes
 pub mod Places
 pub mod CallSets
 pub mod Kept
+pub mod Lookups

@@ -1,5 +1,5 @@
 -- The set of the functions that a body calls.
-use Rattle.std.proofs.Common.{ℕ, zero, suc, ◌+◌, ◌^◌, ◌<◌, ◌≤◌, ◌≡◌, ◌≢◌, ◌⊎◌, inl, inr, ◌↔◌, List, [], ◌∷◌, ◌++◌, length, map, Some, None, refl, ap, sym, ◌∙◌, subst, arith, max}
+use Rattle.std.proofs.Common.{ℕ, zero, suc, ◌+◌, ◌^◌, ◌<◌, ◌≤◌, ◌≡◌, ◌≢◌, ◌⊎◌, inl, inr, ◌↔◌, List, [], ◌∷◌, ◌++◌, length, map, Some, None, refl, ap, sym, ◌∙◌, subst, arith, append_assoc}
 use Rattle.std.specs.Prelude.{slice_get, option_map, bit_or, Contains, IsBitSet, slice_index_or}
 use Rattle.std.specs.Int.{bit_at}
 use Rattle.std.proofs.Math.Decide.{ℕ_discrete}
@@ -7,7 +7,10 @@ use Rattle.std.proofs.lemmas.Nat.{bit_set_by_shift}
 use Rattle.std.proofs.lemmas.Nat.Bits.{shr_and_one, bit_at_or, bit_at-zero, bit_at-pow_same, bit_at-pow_other, bit_at-lt}
 use Rattle.std.proofs.lemmas.List.Elements.{Contains-append_left, Contains-append_right, Contains-append_cases}
 use Rattle.std.proofs.lemmas.Option.{slice_get-map}
-use Rattle.loom_tree.specs.Tree.{Function, Source}
+use Rattle.std.proofs.lemmas.List.{append-nil}
+use Rattle.loom_tree.specs.declared.statement.Kind.{Kind}
+use Rattle.loom_tree.specs.declared.statement.Kind.TheVariants as k
+use Rattle.loom_tree.specs.Tree.{Function, Source, Body, end, behind}
 use Rattle.loom_flow.specs.Laws.{HasCalls}
 use Rattle.loom_flow.specs.Lowered.{lowered, or_zero, calls_body, set_of}
 
@@ -60,3 +63,28 @@ lowered_calls p f h g e =
     let is : or_zero (slice_get (map calls p.funcs) f) ≡ set_of 0 (calls_body p h.body) = ap or_zero (slice_get-map calls p.funcs f ∙ ap (option_map calls) e) in
     let P : ℕ → Type 0 = λ z. IsBitSet z g in
     (λ s. of_set (calls_body p h.body) g (subst P is s), λ c. subst P (sym is) (is_set _ g (set_has (calls_body p h.body) 0 g (inr c))))
+
+-- statements one after another
+
+set_of_append : (xs ys : List ℕ) (bits : ℕ) → set_of bits (xs ++ ys) ≡ set_of (set_of bits xs) ys
+set_of_append [] ys bits = refl
+set_of_append (x ∷ xs) ys bits = set_of_append xs ys _
+
+pub set_of_one : (bits : ℕ) (xs : List ℕ) → set_of bits (xs ++ []) ≡ set_of bits xs
+set_of_one bits xs = ap (set_of bits) (append-nil xs)
+
+pub set_of_two : (bits : ℕ) (xs ys : List ℕ) → set_of bits (xs ++ (ys ++ [])) ≡ set_of (set_of bits xs) ys
+set_of_two bits xs ys = set_of_append xs (ys ++ []) bits ∙ set_of_one (set_of bits xs) ys
+
+calls_behind : (p : Source) (l : ℕ) (s : Kind) (rest : Body) → calls_body p (behind l s rest) ≡ calls_body p (behind 0 s end) ++ calls_body p rest
+calls_behind p l (k.Let x e) rest = ap (λ z. z ++ calls_body p rest) (sym (append-nil _))
+calls_behind p l (k.Set x e) rest = ap (λ z. z ++ calls_body p rest) (sym (append-nil _))
+calls_behind p l (k.If e a b) rest = simp (append-nil, append_assoc)
+calls_behind p l (k.While e a) rest = simp append-nil
+calls_behind p l _ rest = refl
+
+pub calls_step : (p : Source) (l : ℕ) (s : Kind) (all rest : Body) (bits more : ℕ) → all ≡ behind l s rest → more ≡ set_of bits (calls_body p (behind 0 s end)) → set_of more (calls_body p rest) ≡ set_of bits (calls_body p all)
+calls_step p l s all rest bits more e h =
+    ap (λ z. set_of z (calls_body p rest)) h
+    ∙ sym (set_of_append (calls_body p (behind 0 s end)) (calls_body p rest) bits)
+    ∙ ap (set_of bits) (sym (ap (calls_body p) e ∙ calls_behind p l s rest))

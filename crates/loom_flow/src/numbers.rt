@@ -1,5 +1,5 @@
 //! The numbers of what names stand for, in one function of a program.
-ghost use Rattle.std.specs.Prelude.{◌≡◌, ◌==◌, ◌≤◌, length, map};
+ghost use Rattle.std.specs.Prelude.{◌≡◌, ◌==◌, ◌<◌, ◌≤◌, IfSome, length, map};
 ghost use Rattle.std.specs.Cmp.Lexicographic.{pointwise};
 ghost use Rattle.loom_tree.specs.declared.item.Sema as sema;
 ghost use Rattle.loom_tree.specs.Tree.{Function, functions_of};
@@ -48,7 +48,8 @@ fn sema_position(semas: &[Sema], x: &Name) -> Option<u8>
 #[tactic(auto, using(crate::proofs::Lookups::from_zero))]
 fn func_position(funcs: &[Func], x: &Name) -> Option<u8>
     requires { length funcs.now ≤ 64 }
-    ensures { result ≡ position x.now (map (λ (f : Function). f.name) (functions_of funcs.now)) }
+    ensures number { result ≡ position x.now (map (λ (f : Function). f.name) (functions_of funcs.now)) }
+    ensures within { IfSome result (λ n. n < 64) }
 {
     'scan: for (i, f) in funcs.iter().enumerate() {
         if is_same(&f.name, x) {
@@ -147,8 +148,12 @@ impl Scope {
 
     /// The number of a function.
     pub fn function(&self, x: &Name) -> u8
-        ensures { result ≡ or_zero (function_number self.now.program x.now) }
+        ensures number { result ≡ or_zero (function_number self.now.program x.now) }
+        ensures below { result < 64 }
     {
-        func_position(&self.program.funcs().0, x).unwrap_or(0)
+        match func_position(&self.program.funcs().0, x) {
+            Some(n) => n,
+            None => 0,
+        }
     }
 }

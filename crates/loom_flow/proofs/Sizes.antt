@@ -1,12 +1,14 @@
 -- How long flat code is.
-use Rattle.std.proofs.Common.{ℕ, suc, ◌+◌, ◌≡◌, List, [], ◌∷◌, ◌++◌, length, refl, ap, arith, length-append}
-use Rattle.loom_tree.specs.Tree.{Body, end, simple, if_, while_, Source}
+use Rattle.std.proofs.Common.{ℕ, suc, ◌+◌, ◌≡◌, List, [], ◌∷◌, ◌++◌, length, refl, ap, Result, Ok, Err, OnOk, sym, ◌∙◌, subst, append_assoc, arith, length-append}
+use Rattle.loom_tree.specs.declared.expression.Expr.{Expr}
+use Rattle.loom_tree.specs.Tree.{expression_of, expressions_of, Body, end, simple, if_, while_, Source}
 use Rattle.loom_lang.specs.Places.{body_places}
 use Rattle.loom_flow.specs.declared.code.Step.{Step}
+use Rattle.loom_flow.specs.declared.code.Target.TheVariants as t
 use Rattle.loom_flow.specs.declared.code.Instr.{Instr}
 use Rattle.loom_flow.specs.declared.code.Site.{Site}
 use Rattle.loom_flow.specs.declared.code.Step.TheVariants as s
-use Rattle.loom_flow.specs.Lowered.{operand_of, operand_steps, simple_steps, instrs, instr, size, place_count, body_code, body_sites}
+use Rattle.loom_flow.specs.Lowered.{steps_to, argument_steps, operand_of, operand_steps, simple_steps, instrs, instr, size, place_count, body_code, body_sites}
 
 pub instrs_length : (l place : ℕ) (xs : List Step) → length (instrs l place xs) ≡ length xs
 instrs_length l place [] = refl
@@ -86,3 +88,26 @@ sites_length p names (while_ l e a rest) at =
     let whole = length-append (body_sites p names first a) (body_sites p names (suc done) rest) in
     let places = length-append (body_places a) (body_places rest) in
     omega arith
+
+pub instrs_append : (l place : ℕ) (xs ys : List Step) → instrs l place (xs ++ ys) ≡ instrs l place xs ++ instrs l place ys
+instrs_append l place [] ys = refl
+instrs_append l place (x ∷ xs) ys = ap (λ z. instr l place x ∷ z) (instrs_append l place xs ys)
+
+-- one step more, where memory suffices
+pub step_more : {A E : Type 0} (r : Result A E) (l place : ℕ) (xs : List Step) (x : Step) (old now new : List Instr) → now ≡ old ++ instrs l place xs → OnOk r (new ≡ now ++ instr l place x ∷ []) → OnOk r (new ≡ old ++ instrs l place (xs ++ x ∷ []))
+step_more (Ok v) l place xs x old now new h g = g ∙ ap (λ z. z ++ instr l place x ∷ []) h ∙ append_assoc old (instrs l place xs) (instr l place x ∷ []) ∙ ap (λ z. old ++ z) (sym (instrs_append l place xs (x ∷ [])))
+step_more (Err e) l place xs x old now new h g = g
+
+pub step_behind : {A E : Type 0} (r : Result A E) (l place : ℕ) (xs ys : List Step) (x : Step) (old mid now new : List Instr) → mid ≡ old ++ instrs l place xs → now ≡ mid ++ instrs l place ys → OnOk r (new ≡ now ++ instr l place x ∷ []) → OnOk r (new ≡ old ++ instrs l place (xs ++ (ys ++ x ∷ [])))
+step_behind r l place xs ys x old mid now new h g k =
+    let is : now ≡ old ++ instrs l place (xs ++ ys) = g ∙ ap (λ z. z ++ instrs l place ys) h ∙ append_assoc old (instrs l place xs) (instrs l place ys) ∙ ap (λ z. old ++ z) (sym (instrs_append l place xs ys)) in
+    let P : List Step → Type 0 = λ z. OnOk r (new ≡ old ++ instrs l place z) in
+    subst P (append_assoc xs ys (x ∷ [])) (step_more r l place (xs ++ ys) x old now new is k)
+
+-- one argument more
+pub arguments_step : (p : Source) (names : List (List ℕ)) (l place : ℕ) (e : Expr) (es rest : List Expr) (code more : List Instr) → es ≡ e ∷ rest → more ≡ code ++ instrs l place (steps_to p names t.Push (expression_of e)) → more ++ instrs l place (argument_steps p names (expressions_of rest)) ≡ code ++ instrs l place (argument_steps p names (expressions_of es))
+arguments_step p names l place e es rest code more h g =
+    ap (λ z. z ++ instrs l place (argument_steps p names (expressions_of rest))) g
+    ∙ append_assoc code (instrs l place (steps_to p names t.Push (expression_of e))) (instrs l place (argument_steps p names (expressions_of rest)))
+    ∙ ap (λ z. code ++ z) (sym (instrs_append l place (steps_to p names t.Push (expression_of e)) (argument_steps p names (expressions_of rest))))
+    ∙ ap (λ (z : List Expr). code ++ instrs l place (argument_steps p names (expressions_of z))) (sym h)

@@ -3,5 +3,6 @@
 
 mod calls;
 pub mod code;
+mod expression;
 pub mod flow;
 mod numbers;

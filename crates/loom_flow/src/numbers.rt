@@ -104,12 +104,12 @@ fn cells(words: &[Word], x: &Name) -> Array
 pub struct Scope {
     pub program: Program,
     pub locals: Names,
+    ghost few: { length locals ≤ 32 },
 }
 
 impl Scope {
     /// The number of a local; `None` where the name is none.
     pub fn local(&self, x: &Name) -> Option<u8>
-        requires { length self.now.locals ≤ 32 }
         ensures { result ≡ position x.now self.now.locals }
     {
         position(&self.locals.0, x)

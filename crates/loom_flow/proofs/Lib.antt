@@ -3,3 +3,4 @@ pub mod Places
 pub mod CallSets
 pub mod Kept
 pub mod Lookups
+pub mod Known

@@ -93,9 +93,13 @@ pub instrs_append : (l place : ℕ) (xs ys : List Step) → instrs l place (xs +
 instrs_append l place [] ys = refl
 instrs_append l place (x ∷ xs) ys = ap (λ z. instr l place x ∷ z) (instrs_append l place xs ys)
 
--- one step more, where memory suffices
+-- one step more
+pub step_is : (l place : ℕ) (xs : List Step) (x : Step) (old now new : List Instr) → now ≡ old ++ instrs l place xs → new ≡ now ++ instr l place x ∷ [] → new ≡ old ++ instrs l place (xs ++ x ∷ [])
+step_is l place xs x old now new h g = g ∙ ap (λ z. z ++ instr l place x ∷ []) h ∙ append_assoc old (instrs l place xs) (instr l place x ∷ []) ∙ ap (λ z. old ++ z) (sym (instrs_append l place xs (x ∷ [])))
+
+-- where memory suffices
 pub step_more : {A E : Type 0} (r : Result A E) (l place : ℕ) (xs : List Step) (x : Step) (old now new : List Instr) → now ≡ old ++ instrs l place xs → OnOk r (new ≡ now ++ instr l place x ∷ []) → OnOk r (new ≡ old ++ instrs l place (xs ++ x ∷ []))
-step_more (Ok v) l place xs x old now new h g = g ∙ ap (λ z. z ++ instr l place x ∷ []) h ∙ append_assoc old (instrs l place xs) (instr l place x ∷ []) ∙ ap (λ z. old ++ z) (sym (instrs_append l place xs (x ∷ [])))
+step_more (Ok v) l place xs x old now new h g = step_is l place xs x old now new h g
 step_more (Err e) l place xs x old now new h g = g
 
 pub step_behind : {A E : Type 0} (r : Result A E) (l place : ℕ) (xs ys : List Step) (x : Step) (old mid now new : List Instr) → mid ≡ old ++ instrs l place xs → now ≡ mid ++ instrs l place ys → OnOk r (new ≡ now ++ instr l place x ∷ []) → OnOk r (new ≡ old ++ instrs l place (xs ++ (ys ++ x ∷ [])))
@@ -111,3 +115,20 @@ arguments_step p names l place e es rest code more h g =
     ∙ append_assoc code (instrs l place (steps_to p names t.Push (expression_of e))) (instrs l place (argument_steps p names (expressions_of rest)))
     ∙ ap (λ z. code ++ z) (sym (instrs_append l place (steps_to p names t.Push (expression_of e)) (argument_steps p names (expressions_of rest))))
     ∙ ap (λ (z : List Expr). code ++ instrs l place (argument_steps p names (expressions_of z))) (sym h)
+
+-- statements from their beginning to their end
+
+pub statement_is : (l place : ℕ) (ys : List Step) (z : Step) (old a b new : List Instr) → a ≡ old ++ instr l place s.Begin ∷ [] → b ≡ a ++ instrs l place ys → new ≡ b ++ instr l place z ∷ [] → new ≡ old ++ instr l place s.Begin ∷ instrs l place (ys ++ z ∷ [])
+statement_is l place ys z old a b new h g k =
+    k ∙ ap (λ w. w ++ instr l place z ∷ []) (g ∙ ap (λ w. w ++ instrs l place ys) h)
+    ∙ append_assoc (old ++ instr l place s.Begin ∷ []) (instrs l place ys) (instr l place z ∷ [])
+    ∙ append_assoc old (instr l place s.Begin ∷ []) (instrs l place ys ++ instr l place z ∷ [])
+    ∙ ap (λ w. old ++ instr l place s.Begin ∷ w) (sym (instrs_append l place ys (z ∷ [])))
+
+-- the number behind these steps, which stand behind the first instruction of a statement
+pub number_behind : (l place : ℕ) (xs : List Step) (old new : List Instr) (n at : ℕ) → n ≡ length new → new ≡ old ++ instrs l place xs → length old ≡ at + 1 → n ≡ at + (1 + length xs)
+number_behind l place xs old new n at h g k =
+    let many = ap length g in
+    let both = length-append old (instrs l place xs) in
+    let steps = instrs_length l place xs in
+    omega arith

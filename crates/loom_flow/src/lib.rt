@@ -6,3 +6,4 @@ pub mod code;
 mod expression;
 pub mod flow;
 mod numbers;
+mod statement;

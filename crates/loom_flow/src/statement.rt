@@ -1,0 +1,169 @@
+//! The instructions and the place of a statement without a block. An `Err` is want of memory throughout.
+ghost use Rattle.std.specs.Prelude.{ℕ, ◌≡◌, ◌<◌, ◌+◌, ◌∷◌, ◌++◌, [], Some, true, OnOk, IfOk, length};
+ghost use Rattle.loom_tree.specs.Tree.{Simple, expression_of, expressions_of, right_of, returned_of};
+ghost use Rattle.loom_tree.specs.Tree as tree;
+ghost use Rattle.loom_lang.specs.Numbers.{position};
+ghost use Rattle.loom_lang.specs.Rules.{knows_call, knows_right, takes};
+ghost use Rattle.loom_flow.specs.declared.code.Step.TheVariants as s;
+ghost use Rattle.loom_flow.specs.Lowered.{instr, instrs, call_steps, spawn_steps, store_step, value_steps, set_steps, simple_steps, resume_of, site};
+
+use crate::code::{Instr, Operand, Site, Step, Target};
+use crate::expression::{Spot, arguments, expression, operand, push};
+use crate::numbers::Scope;
+use loom_tree::expression::{Expr, Exprs};
+use loom_tree::name::{Name, NoMemory};
+use loom_tree::statement::Right;
+
+/// The number of the next instruction. A list of more of them than a `u32` counts is none that memory holds.
+pub fn next(code: &[Instr]) -> Result<u32, NoMemory>
+    ensures { IfOk result (λ n. n ≡ length code.now) }
+{
+    if code.len() > u32::MAX as usize {
+        return Err(NoMemory);
+    }
+    Ok(code.len() as u32)
+}
+
+/// Where the instructions of a statement stand whose place is the next.
+pub fn spot(sites: &[Site], line: u32) -> Spot
+    requires { length sites.now < 65536 }
+    ensures { result ≡ record { line = line; place = length sites.now } }
+{
+    Spot {
+        line,
+        place: sites.len() as u16,
+    }
+}
+
+/// One place more.
+pub fn put_site(sites: &mut Vec<Site>, line: u32, resume: u32) -> Result<(), NoMemory>
+    ensures { OnOk result (sites.new.items ≡ sites.old.items ++ site line resume ∷ []) }
+{
+    sites.push(Site { line, resume })?;
+    Ok(())
+}
+
+/// How many arguments a call has.
+#[tactic(auto, using(crate::proofs::Known::few_arguments))]
+fn count(scope: &Scope, f: &Name, es: &Exprs) -> u8
+    requires { takes scope.now.program.funcs f.now (length (expressions_of es.now)) ≡ true }
+    ensures { result ≡ length (expressions_of es.now) }
+{
+    let _rules = scope.program.funcs();
+    es.0.len() as u8
+}
+
+#[tactic(auto, using(crate::proofs::Sizes::step_more, crate::proofs::Known::call_takes))]
+fn call(
+    code: &mut Vec<Instr>,
+    scope: &Scope,
+    spot: Spot,
+    f: &Name,
+    es: &Exprs,
+) -> Result<(), NoMemory>
+    requires { knows_call scope.now.program scope.now.locals f.now (expressions_of es.now) ≡ true }
+    ensures { OnOk result (code.new.items ≡ code.old.items ++ instrs spot.line spot.place (call_steps scope.now.program scope.now.locals f.now (expressions_of es.now))) }
+{
+    arguments(code, scope, spot, es)?;
+    let count = count(scope, f, es);
+    push(code, spot, Step::Call(scope.function(f), count))
+}
+
+#[tactic(auto, using(crate::proofs::Sizes::step_more, crate::proofs::Known::call_takes))]
+fn spawn(
+    code: &mut Vec<Instr>,
+    scope: &Scope,
+    spot: Spot,
+    f: &Name,
+    es: &Exprs,
+) -> Result<(), NoMemory>
+    requires { knows_call scope.now.program scope.now.locals f.now (expressions_of es.now) ≡ true }
+    ensures { OnOk result (code.new.items ≡ code.old.items ++ instrs spot.line spot.place (spawn_steps scope.now.program scope.now.locals f.now (expressions_of es.now))) }
+{
+    arguments(code, scope, spot, es)?;
+    let count = count(scope, f, es);
+    push(code, spot, Step::Spawn(scope.function(f), count, Target::Push))
+}
+
+/// What is on top goes into a name.
+fn store(code: &mut Vec<Instr>, scope: &Scope, spot: Spot, x: &Name) -> Result<(), NoMemory>
+    ensures { OnOk result (code.new.items ≡ code.old.items ++ instr spot.line spot.place (store_step scope.now.program x.now (position x.now scope.now.locals)) ∷ []) }
+{
+    match scope.local(x) {
+        Some(local) => push(code, spot, Step::Move(Operand::Top, Target::Local(local))),
+        None => push(code, spot, Step::Write(scope.word(x), Operand::Top)),
+    }
+}
+
+/// The value of an expression goes into a name.
+#[tactic(auto, using(crate::proofs::Sizes::step_more))]
+fn value(
+    code: &mut Vec<Instr>,
+    scope: &Scope,
+    spot: Spot,
+    x: &Name,
+    e: &Expr,
+) -> Result<(), NoMemory>
+    ensures { OnOk result (code.new.items ≡ code.old.items ++ instrs spot.line spot.place (value_steps scope.now.program scope.now.locals x.now (expression_of e.now) (position x.now scope.now.locals))) }
+{
+    match scope.local(x) {
+        Some(local) => expression(code, scope, spot, Target::Local(local), e),
+        None => {
+            let value = operand(code, scope, spot, e)?;
+            push(code, spot, Step::Write(scope.word(x), value))
+        }
+    }
+}
+
+/// What stands at the right of `=` goes into a name. The answer is the number of the instruction behind the call, or 0.
+#[tactic(auto, using(crate::proofs::Sizes::step_is, crate::proofs::Sizes::number_behind, crate::proofs::Known::right_knows))]
+fn set(
+    code: &mut Vec<Instr>,
+    scope: &Scope,
+    spot: Spot,
+    x: &Name,
+    right: &Right,
+) -> Result<u32, NoMemory>
+    requires { knows_right scope.now.program scope.now.locals x.now (right_of right.now) ≡ true }
+    ensures code { OnOk result (code.new.items ≡ code.old.items ++ instrs spot.line spot.place (set_steps scope.now.program scope.now.locals x.now (right_of right.now))) }
+    ensures resume { IfOk result (λ n. (at : ℕ) → length code.old.items ≡ at + 1 → n ≡ resume_of scope.now.program scope.now.locals at (tree.set x.now (right_of right.now))) }
+{
+    match right {
+        Right::Value(e) => {
+            value(code, scope, spot, x, e)?;
+            Ok(0)
+        }
+        Right::Call(f, es) => {
+            call(code, scope, spot, f, es)?;
+            let resume = next(code)?;
+            store(code, scope, spot, x)?;
+            Ok(resume)
+        }
+        Right::Spawn(f, es) => {
+            spawn(code, scope, spot, f, es)?;
+            store(code, scope, spot, x)?;
+            Ok(0)
+        }
+    }
+}
+
+/// A `let` or another write to a name.
+#[tactic(auto, using(crate::proofs::Sizes::statement_is))]
+pub fn assign(
+    code: &mut Vec<Instr>,
+    sites: &mut Vec<Site>,
+    scope: &Scope,
+    spot: Spot,
+    x: &Name,
+    right: &Right,
+) -> Result<(), NoMemory>
+    requires { knows_right scope.now.program scope.now.locals x.now (right_of right.now) ≡ true }
+    ensures code { OnOk result (code.new.items ≡ code.old.items ++ instrs spot.line spot.place (simple_steps scope.now.program scope.now.locals (tree.set x.now (right_of right.now)))) }
+    ensures sites { OnOk result (sites.new.items ≡ sites.old.items ++ site spot.line (resume_of scope.now.program scope.now.locals (length code.old.items) (tree.set x.now (right_of right.now))) ∷ []) }
+{
+    push(code, spot, Step::Begin)?;
+    let resume = set(code, scope, spot, x, right)?;
+    push(code, spot, Step::Done)?;
+    put_site(sites, spot.line, resume)?;
+    Ok(())
+}

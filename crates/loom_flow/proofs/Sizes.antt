@@ -8,7 +8,7 @@ use Rattle.loom_flow.specs.declared.code.Target.TheVariants as t
 use Rattle.loom_flow.specs.declared.code.Instr.{Instr}
 use Rattle.loom_flow.specs.declared.code.Site.{Site}
 use Rattle.loom_flow.specs.declared.code.Step.TheVariants as s
-use Rattle.loom_flow.specs.Lowered.{steps_to, argument_steps, operand_of, operand_steps, simple_steps, instrs, instr, size, place_count, body_code, body_sites}
+use Rattle.loom_flow.specs.Lowered.{steps_to, argument_steps, operand_of, operand_steps, simple_steps, instrs, instr, size, place_count, body_code, body_sites, site}
 
 pub instrs_length : (l place : ℕ) (xs : List Step) → length (instrs l place xs) ≡ length xs
 instrs_length l place [] = refl
@@ -132,3 +132,19 @@ number_behind l place xs old new n at h g k =
     let both = length-append old (instrs l place xs) in
     let steps = instrs_length l place xs in
     omega arith
+
+pub statement_ends : (l place : ℕ) (ys : List Step) (y z : Step) (old a b d new : List Instr) → a ≡ old ++ instr l place s.Begin ∷ [] → b ≡ a ++ instrs l place ys → d ≡ b ++ instr l place y ∷ [] → new ≡ d ++ instr l place z ∷ [] → new ≡ old ++ instr l place s.Begin ∷ instrs l place (ys ++ y ∷ z ∷ [])
+statement_ends l place ys y z old a b d new h g k m =
+    let is : new ≡ old ++ instrs l place (s.Begin ∷ ((ys ++ y ∷ []) ++ z ∷ [])) = statement_is l place (ys ++ y ∷ []) z old a d new h (step_is l place ys y a b d g k) m in
+    is ∙ ap (λ w. old ++ instrs l place (s.Begin ∷ w)) (append_assoc ys (y ∷ []) (z ∷ []))
+
+pub cell_is : (l place : ℕ) (xs ys : List Step) (y z : Step) (old a b d e new : List Instr) → a ≡ old ++ instr l place s.Begin ∷ [] → b ≡ a ++ instrs l place xs → d ≡ b ++ instrs l place ys → e ≡ d ++ instr l place y ∷ [] → new ≡ e ++ instr l place z ∷ [] → new ≡ old ++ instr l place s.Begin ∷ instrs l place (xs ++ (ys ++ y ∷ z ∷ []))
+cell_is l place xs ys y z old a b d e new h f g k m =
+    let both : d ≡ a ++ instrs l place (xs ++ ys) = g ∙ ap (λ w. w ++ instrs l place ys) f ∙ append_assoc a (instrs l place xs) (instrs l place ys) ∙ ap (λ w. a ++ w) (sym (instrs_append l place xs ys)) in
+    statement_ends l place (xs ++ ys) y z old a d e new h both k m ∙ ap (λ w. old ++ instrs l place (s.Begin ∷ w)) (append_assoc xs ys (y ∷ z ∷ []))
+
+-- the place of a statement that calls
+pub call_site : (line l place n : ℕ) (x : Step) (xs : List Step) (old now new : List Instr) (before after : List Site) → after ≡ before ++ site line n ∷ [] → n ≡ length new → new ≡ now ++ instrs l place xs → now ≡ old ++ instr l place x ∷ [] → after ≡ before ++ site line (length old + (1 + length xs)) ∷ []
+call_site line l place n x xs old now new before after e h g k =
+    let one : length now ≡ length old + 1 = ap length k ∙ length-append old (instr l place x ∷ []) in
+    e ∙ ap (λ z. before ++ site line z ∷ []) (number_behind l place xs now new n (length old) h g one)

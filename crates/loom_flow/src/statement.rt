@@ -53,20 +53,24 @@ fn count(scope: &Scope, f: &Name, es: &Exprs) -> u8
     es.0.len() as u8
 }
 
-#[tactic(auto, using(crate::proofs::Sizes::step_more, crate::proofs::Known::call_takes))]
+/// A call. The answer is the number of the instruction behind it.
+#[tactic(auto, using(crate::proofs::Sizes::step_is, crate::proofs::Known::call_takes))]
 fn call(
     code: &mut Vec<Instr>,
     scope: &Scope,
     spot: Spot,
     f: &Name,
     es: &Exprs,
-) -> Result<(), NoMemory>
+) -> Result<u32, NoMemory>
     requires { knows_call scope.now.program scope.now.locals f.now (expressions_of es.now) ≡ true }
-    ensures { OnOk result (code.new.items ≡ code.old.items ++ instrs spot.line spot.place (call_steps scope.now.program scope.now.locals f.now (expressions_of es.now))) }
+    ensures code { OnOk result (code.new.items ≡ code.old.items ++ instrs spot.line spot.place (call_steps scope.now.program scope.now.locals f.now (expressions_of es.now))) }
+    ensures resume { IfOk result (λ n. n ≡ length code.new.items) }
 {
     arguments(code, scope, spot, es)?;
     let count = count(scope, f, es);
-    push(code, spot, Step::Call(scope.function(f), count))
+    push(code, spot, Step::Call(scope.function(f), count))?;
+    let resume = next(code)?;
+    Ok(resume)
 }
 
 #[tactic(auto, using(crate::proofs::Sizes::step_more, crate::proofs::Known::call_takes))]
@@ -116,7 +120,7 @@ fn value(
 }
 
 /// What stands at the right of `=` goes into a name. The answer is the number of the instruction behind the call, or 0.
-#[tactic(auto, using(crate::proofs::Sizes::step_is, crate::proofs::Sizes::number_behind, crate::proofs::Known::right_knows))]
+#[tactic(auto, using(crate::proofs::Sizes::step_is, crate::proofs::Known::right_knows))]
 fn set(
     code: &mut Vec<Instr>,
     scope: &Scope,
@@ -134,8 +138,7 @@ fn set(
             Ok(0)
         }
         Right::Call(f, es) => {
-            call(code, scope, spot, f, es)?;
-            let resume = next(code)?;
+            let resume = call(code, scope, spot, f, es)?;
             store(code, scope, spot, x)?;
             Ok(resume)
         }
@@ -165,5 +168,111 @@ pub fn assign(
     let resume = set(code, scope, spot, x, right)?;
     push(code, spot, Step::Done)?;
     put_site(sites, spot.line, resume)?;
+    Ok(())
+}
+
+/// A write to a cell: the index, then the value.
+#[tactic(auto, using(crate::proofs::Sizes::cell_is))]
+pub fn set_cell(
+    code: &mut Vec<Instr>,
+    scope: &Scope,
+    spot: Spot,
+    x: &Name,
+    i: &Expr,
+    e: &Expr,
+) -> Result<(), NoMemory>
+    ensures { OnOk result (code.new.items ≡ code.old.items ++ instrs spot.line spot.place (simple_steps scope.now.program scope.now.locals (tree.set_cell x.now (expression_of i.now) (expression_of e.now)))) }
+{
+    push(code, spot, Step::Begin)?;
+    let index = operand(code, scope, spot, i)?;
+    let value = operand(code, scope, spot, e)?;
+    push(code, spot, Step::WriteCell(scope.array(x), index, value))?;
+    push(code, spot, Step::Done)?;
+    Ok(())
+}
+
+/// A call whose result is dropped.
+#[tactic(auto, using(crate::proofs::Sizes::statement_ends))]
+pub fn call_alone(
+    code: &mut Vec<Instr>,
+    sites: &mut Vec<Site>,
+    scope: &Scope,
+    spot: Spot,
+    f: &Name,
+    es: &Exprs,
+) -> Result<(), NoMemory>
+    requires { knows_call scope.now.program scope.now.locals f.now (expressions_of es.now) ≡ true }
+    ensures code { OnOk result (code.new.items ≡ code.old.items ++ instrs spot.line spot.place (simple_steps scope.now.program scope.now.locals (Simple.call f.now (expressions_of es.now)))) }
+    ensures sites { OnOk result (sites.new.items ≡ sites.old.items ++ site spot.line (resume_of scope.now.program scope.now.locals (length code.old.items) (Simple.call f.now (expressions_of es.now))) ∷ []) }
+{
+    push(code, spot, Step::Begin)?;
+    let resume = call(code, scope, spot, f, es)?;
+    push(code, spot, Step::Discard)?;
+    push(code, spot, Step::Done)?;
+    put_site(sites, spot.line, resume)?;
+    Ok(())
+}
+
+/// The end of the function, with a result; 0 where none is said.
+#[tactic(auto, using(crate::proofs::Sizes::statement_is))]
+pub fn give_back(
+    code: &mut Vec<Instr>,
+    scope: &Scope,
+    spot: Spot,
+    e: &Option<Expr>,
+) -> Result<(), NoMemory>
+    ensures { OnOk result (code.new.items ≡ code.old.items ++ instrs spot.line spot.place (simple_steps scope.now.program scope.now.locals (tree.return (returned_of e.now)))) }
+{
+    push(code, spot, Step::Begin)?;
+    match e {
+        None => {
+            push(code, spot, Step::Return(Operand::Number(0)))?;
+            Ok(())
+        }
+        Some(e) => {
+            let value = operand(code, scope, spot, e)?;
+            push(code, spot, Step::Return(value))?;
+            Ok(())
+        }
+    }
+}
+
+/// A statement of one step between its beginning and its completion.
+pub fn alone(code: &mut Vec<Instr>, spot: Spot, step: Step) -> Result<(), NoMemory>
+    ensures { OnOk result (code.new.items ≡ code.old.items ++ instrs spot.line spot.place (s.Begin ∷ step ∷ s.Done ∷ [])) }
+{
+    push(code, spot, Step::Begin)?;
+    push(code, spot, step)?;
+    push(code, spot, Step::Done)?;
+    Ok(())
+}
+
+pub fn skip(code: &mut Vec<Instr>, spot: Spot) -> Result<(), NoMemory>
+    ensures { OnOk result (code.new.items ≡ code.old.items ++ instrs spot.line spot.place (s.Begin ∷ s.Done ∷ [])) }
+{
+    push(code, spot, Step::Begin)?;
+    push(code, spot, Step::Done)?;
+    Ok(())
+}
+
+#[tactic(auto, using(crate::proofs::Sizes::statement_ends))]
+pub fn join(code: &mut Vec<Instr>, scope: &Scope, spot: Spot, e: &Expr) -> Result<(), NoMemory>
+    ensures { OnOk result (code.new.items ≡ code.old.items ++ instrs spot.line spot.place (simple_steps scope.now.program scope.now.locals (tree.join (expression_of e.now)))) }
+{
+    push(code, spot, Step::Begin)?;
+    let thread = operand(code, scope, spot, e)?;
+    push(code, spot, Step::Join(thread))?;
+    push(code, spot, Step::Done)?;
+    Ok(())
+}
+
+#[tactic(auto, using(crate::proofs::Sizes::statement_ends))]
+pub fn print(code: &mut Vec<Instr>, scope: &Scope, spot: Spot, e: &Expr) -> Result<(), NoMemory>
+    ensures { OnOk result (code.new.items ≡ code.old.items ++ instrs spot.line spot.place (simple_steps scope.now.program scope.now.locals (tree.print (expression_of e.now)))) }
+{
+    push(code, spot, Step::Begin)?;
+    let value = operand(code, scope, spot, e)?;
+    push(code, spot, Step::Print(value))?;
+    push(code, spot, Step::Done)?;
     Ok(())
 }

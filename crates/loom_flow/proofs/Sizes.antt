@@ -148,3 +148,10 @@ pub call_site : (line l place n : ℕ) (x : Step) (xs : List Step) (old now new 
 call_site line l place n x xs old now new before after e h g k =
     let one : length now ≡ length old + 1 = ap length k ∙ length-append old (instr l place x ∷ []) in
     e ∙ ap (λ z. before ++ site line z ∷ []) (number_behind l place xs now new n (length old) h g one)
+
+pub length_behind : (l place : ℕ) (xs : List Step) (old new : List Instr) (n : ℕ) → new ≡ old ++ instrs l place xs → n ≡ length new → n ≡ length old + length xs
+length_behind l place xs old new n h g =
+    let many = ap length h in
+    let both = length-append old (instrs l place xs) in
+    let steps = instrs_length l place xs in
+    omega arith

@@ -1,6 +1,7 @@
 //! Flat code of programs.
 #![tactic(auto)]
 
+mod block;
 mod calls;
 pub mod code;
 mod expression;

@@ -25,7 +25,7 @@ pub fn next(code: &[Instr]) -> Result<u32, NoMemory>
 }
 
 /// Where the instructions of a statement stand whose place is the next.
-pub fn spot(sites: &[Site], line: u32) -> Spot
+pub fn spot_of(sites: &[Site], line: u32) -> Spot
     requires { length sites.now < 65536 }
     ensures { result ≡ record { line = line; place = length sites.now } }
 {
@@ -86,7 +86,11 @@ fn spawn(
 {
     arguments(code, scope, spot, es)?;
     let count = count(scope, f, es);
-    push(code, spot, Step::Spawn(scope.function(f), count, Target::Push))
+    push(
+        code,
+        spot,
+        Step::Spawn(scope.function(f), count, Target::Push),
+    )
 }
 
 /// What is on top goes into a name.
@@ -175,14 +179,17 @@ pub fn assign(
 #[tactic(auto, using(crate::proofs::Sizes::cell_is))]
 pub fn set_cell(
     code: &mut Vec<Instr>,
+    sites: &mut Vec<Site>,
     scope: &Scope,
     spot: Spot,
     x: &Name,
     i: &Expr,
     e: &Expr,
 ) -> Result<(), NoMemory>
-    ensures { OnOk result (code.new.items ≡ code.old.items ++ instrs spot.line spot.place (simple_steps scope.now.program scope.now.locals (tree.set_cell x.now (expression_of i.now) (expression_of e.now)))) }
+    ensures code { OnOk result (code.new.items ≡ code.old.items ++ instrs spot.line spot.place (simple_steps scope.now.program scope.now.locals (tree.set_cell x.now (expression_of i.now) (expression_of e.now)))) }
+    ensures sites { OnOk result (sites.new.items ≡ sites.old.items ++ site spot.line 0 ∷ []) }
 {
+    put_site(sites, spot.line, 0)?;
     push(code, spot, Step::Begin)?;
     let index = operand(code, scope, spot, i)?;
     let value = operand(code, scope, spot, e)?;
@@ -217,12 +224,15 @@ pub fn call_alone(
 #[tactic(auto, using(crate::proofs::Sizes::statement_is))]
 pub fn give_back(
     code: &mut Vec<Instr>,
+    sites: &mut Vec<Site>,
     scope: &Scope,
     spot: Spot,
     e: &Option<Expr>,
 ) -> Result<(), NoMemory>
-    ensures { OnOk result (code.new.items ≡ code.old.items ++ instrs spot.line spot.place (simple_steps scope.now.program scope.now.locals (tree.return (returned_of e.now)))) }
+    ensures code { OnOk result (code.new.items ≡ code.old.items ++ instrs spot.line spot.place (simple_steps scope.now.program scope.now.locals (tree.return (returned_of e.now)))) }
+    ensures sites { OnOk result (sites.new.items ≡ sites.old.items ++ site spot.line 0 ∷ []) }
 {
+    put_site(sites, spot.line, 0)?;
     push(code, spot, Step::Begin)?;
     match e {
         None => {
@@ -238,27 +248,44 @@ pub fn give_back(
 }
 
 /// A statement of one step between its beginning and its completion.
-pub fn alone(code: &mut Vec<Instr>, spot: Spot, step: Step) -> Result<(), NoMemory>
-    ensures { OnOk result (code.new.items ≡ code.old.items ++ instrs spot.line spot.place (s.Begin ∷ step ∷ s.Done ∷ [])) }
+pub fn alone(
+    code: &mut Vec<Instr>,
+    sites: &mut Vec<Site>,
+    spot: Spot,
+    step: Step,
+) -> Result<(), NoMemory>
+    ensures code { OnOk result (code.new.items ≡ code.old.items ++ instrs spot.line spot.place (s.Begin ∷ step ∷ s.Done ∷ [])) }
+    ensures sites { OnOk result (sites.new.items ≡ sites.old.items ++ site spot.line 0 ∷ []) }
 {
+    put_site(sites, spot.line, 0)?;
     push(code, spot, Step::Begin)?;
     push(code, spot, step)?;
     push(code, spot, Step::Done)?;
     Ok(())
 }
 
-pub fn skip(code: &mut Vec<Instr>, spot: Spot) -> Result<(), NoMemory>
-    ensures { OnOk result (code.new.items ≡ code.old.items ++ instrs spot.line spot.place (s.Begin ∷ s.Done ∷ [])) }
+pub fn skip(code: &mut Vec<Instr>, sites: &mut Vec<Site>, spot: Spot) -> Result<(), NoMemory>
+    ensures code { OnOk result (code.new.items ≡ code.old.items ++ instrs spot.line spot.place (s.Begin ∷ s.Done ∷ [])) }
+    ensures sites { OnOk result (sites.new.items ≡ sites.old.items ++ site spot.line 0 ∷ []) }
 {
+    put_site(sites, spot.line, 0)?;
     push(code, spot, Step::Begin)?;
     push(code, spot, Step::Done)?;
     Ok(())
 }
 
 #[tactic(auto, using(crate::proofs::Sizes::statement_ends))]
-pub fn join(code: &mut Vec<Instr>, scope: &Scope, spot: Spot, e: &Expr) -> Result<(), NoMemory>
-    ensures { OnOk result (code.new.items ≡ code.old.items ++ instrs spot.line spot.place (simple_steps scope.now.program scope.now.locals (tree.join (expression_of e.now)))) }
+pub fn join(
+    code: &mut Vec<Instr>,
+    sites: &mut Vec<Site>,
+    scope: &Scope,
+    spot: Spot,
+    e: &Expr,
+) -> Result<(), NoMemory>
+    ensures code { OnOk result (code.new.items ≡ code.old.items ++ instrs spot.line spot.place (simple_steps scope.now.program scope.now.locals (tree.join (expression_of e.now)))) }
+    ensures sites { OnOk result (sites.new.items ≡ sites.old.items ++ site spot.line 0 ∷ []) }
 {
+    put_site(sites, spot.line, 0)?;
     push(code, spot, Step::Begin)?;
     let thread = operand(code, scope, spot, e)?;
     push(code, spot, Step::Join(thread))?;
@@ -267,9 +294,17 @@ pub fn join(code: &mut Vec<Instr>, scope: &Scope, spot: Spot, e: &Expr) -> Resul
 }
 
 #[tactic(auto, using(crate::proofs::Sizes::statement_ends))]
-pub fn print(code: &mut Vec<Instr>, scope: &Scope, spot: Spot, e: &Expr) -> Result<(), NoMemory>
-    ensures { OnOk result (code.new.items ≡ code.old.items ++ instrs spot.line spot.place (simple_steps scope.now.program scope.now.locals (tree.print (expression_of e.now)))) }
+pub fn print(
+    code: &mut Vec<Instr>,
+    sites: &mut Vec<Site>,
+    scope: &Scope,
+    spot: Spot,
+    e: &Expr,
+) -> Result<(), NoMemory>
+    ensures code { OnOk result (code.new.items ≡ code.old.items ++ instrs spot.line spot.place (simple_steps scope.now.program scope.now.locals (tree.print (expression_of e.now)))) }
+    ensures sites { OnOk result (sites.new.items ≡ sites.old.items ++ site spot.line 0 ∷ []) }
 {
+    put_site(sites, spot.line, 0)?;
     push(code, spot, Step::Begin)?;
     let value = operand(code, scope, spot, e)?;
     push(code, spot, Step::Print(value))?;

@@ -4,3 +4,5 @@ pub mod CallSets
 pub mod Kept
 pub mod Lookups
 pub mod Known
+pub mod Bodies
+pub mod Jumps

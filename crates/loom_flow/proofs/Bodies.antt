@@ -45,13 +45,13 @@ two_split cs bs rest = simp (append-nil, append_assoc)
 
 -- how many places blocks have
 
-if_count : (l : ℕ) (e : Expression) (a b rest : Body) → place_count (if_ l e a b rest) ≡ 1 + place_count a + place_count b + place_count rest
+pub if_count : (l : ℕ) (e : Expression) (a b rest : Body) → place_count (if_ l e a b rest) ≡ 1 + place_count a + place_count b + place_count rest
 if_count l e a b rest =
     let one = length-append (body_places a) (body_places b ++ body_places rest) in
     let two = length-append (body_places b) (body_places rest) in
     omega arith
 
-while_count : (l : ℕ) (e : Expression) (a rest : Body) → place_count (while_ l e a rest) ≡ 2 + place_count a + place_count rest
+pub while_count : (l : ℕ) (e : Expression) (a rest : Body) → place_count (while_ l e a rest) ≡ 2 + place_count a + place_count rest
 while_count l e a rest = let one = length-append (body_places a) (body_places rest) in omega arith
 
 if_splits : (p : Source) (names : List (List ℕ)) (l : ℕ) (e : Expression) (a b rest : Body) → Splits p names (if_ l e a b end) rest (if_ l e a b rest)
@@ -190,3 +190,31 @@ known_else p names l e a b h =
 
 pub known_again : (p : Source) (names : List (List ℕ)) (l : ℕ) (e : Expression) (a : Body) → knows_body p names (while_ l e a end) ≡ true → knows_body p names a ≡ true
 known_again p names l e a h = first_of (knows_body p names a) true (second_of (knows p names e) (knows_body p names a && true) h)
+
+pub if_sites : (p : Source) (names : List (List ℕ)) (l : ℕ) (e : Expression) (a b : Body) (at first second : ℕ) (old begun ran new : List Site) →
+    begun ≡ old ++ site l 0 ∷ [] →
+    ran ≡ begun ++ body_sites p names first a →
+    new ≡ ran ++ body_sites p names second b →
+    first ≡ at + (2 + length (operand_steps p names e)) →
+    second ≡ at + (2 + length (operand_steps p names e)) + (1 + size p names a) →
+    new ≡ old ++ body_sites p names at (if_ l e a b end)
+if_sites p names l e a b at first second old begun ran new h1 h2 h3 h4 h5 =
+    let flat : ((old ++ site l 0 ∷ []) ++ body_sites p names first a) ++ body_sites p names second b ≡ old ++ site l 0 ∷ (body_sites p names first a ++ (body_sites p names second b ++ [])) = simp (append-nil, append_assoc) in
+    h3
+    ∙ ap (λ z. z ++ body_sites p names second b) (h2 ∙ ap (λ z. z ++ body_sites p names first a) h1)
+    ∙ flat
+    ∙ ap (λ n. old ++ site l 0 ∷ (body_sites p names n a ++ (body_sites p names second b ++ []))) h4
+    ∙ ap (λ n. old ++ site l 0 ∷ (body_sites p names (at + (2 + length (operand_steps p names e))) a ++ (body_sites p names n b ++ []))) h5
+
+pub while_sites : (p : Source) (names : List (List ℕ)) (l : ℕ) (e : Expression) (a : Body) (at first : ℕ) (old begun back new : List Site) →
+    begun ≡ old ++ site l 0 ∷ [] →
+    back ≡ begun ++ site l 0 ∷ [] →
+    new ≡ back ++ body_sites p names first a →
+    first ≡ at + (2 + length (operand_steps p names e)) →
+    new ≡ old ++ body_sites p names at (while_ l e a end)
+while_sites p names l e a at first old begun back new h1 h2 h3 h4 =
+    let flat : ((old ++ site l 0 ∷ []) ++ site l 0 ∷ []) ++ body_sites p names first a ≡ old ++ site l 0 ∷ site l 0 ∷ (body_sites p names first a ++ []) = simp (append-nil, append_assoc) in
+    h3
+    ∙ ap (λ z. z ++ body_sites p names first a) (h2 ∙ ap (λ z. z ++ site l 0 ∷ []) h1)
+    ∙ flat
+    ∙ ap (λ n. old ++ site l 0 ∷ site l 0 ∷ (body_sites p names n a ++ [])) h4

@@ -1,5 +1,5 @@
 -- The code of statements with blocks, whose jumps get their targets once these are known.
-use Rattle.std.proofs.Common.{ℕ, suc, ◌+◌, ◌≡◌, List, [], ◌∷◌, ◌++◌, length, slice_set, refl, ap, sym, ◌∙◌, arith, append_assoc, length-append}
+use Rattle.std.proofs.Common.{ℕ, suc, ◌+◌, ◌<◌, ◌≡◌, List, [], ◌∷◌, ◌++◌, length, slice_set, refl, ap, sym, ◌∙◌, arith, append_assoc, length-append, length-set}
 use Rattle.std.proofs.Math.Seq.{set-append_seam}
 use Rattle.loom_tree.specs.Tree.{Expression, Body, end, if_, while_, Source}
 use Rattle.loom_flow.specs.declared.code.Operand.{Operand}
@@ -64,11 +64,33 @@ at_front l place at steps begun h =
     let two = instrs_length l place steps in
     omega arith
 
-pushed : {A : Type 0} (xs ys : List A) (x : A) → ys ≡ xs ++ x ∷ [] → length ys ≡ length xs + 1
+pub pushed : {A : Type 0} (xs ys : List A) (x : A) → ys ≡ xs ++ x ∷ [] → length ys ≡ length xs + 1
 pushed xs ys x h = ap length h ∙ length-append xs (x ∷ [])
 
 behind_code : (p : Source) (names : List (List ℕ)) (b : Body) (n place : ℕ) (xs ys : List Instr) → ys ≡ xs ++ body_code p names n place b → length ys ≡ length xs + size p names b
 behind_code p names b n place xs ys h = ap length h ∙ length-append xs (body_code p names n place b) ∙ ap (λ m. length xs + m) (code_length p names b n place)
+
+-- how long the code is behind the test, and behind a target that was put in
+pub tested_long : (l place : ℕ) (steps : List Step) (x : Step) (old begun tested : List Instr) → begun ≡ old ++ instr l place s.Begin ∷ [] → tested ≡ begun ++ instrs l place (steps ++ x ∷ []) → length tested ≡ length old + (2 + length steps)
+tested_long l place steps x old begun tested h1 h2 =
+    let front : length tested ≡ length (begun ++ instrs l place steps) + 1 = pushed (begun ++ instrs l place steps) tested (instr l place x) (tested_front l place steps x begun tested h2) in
+    let is = front_length l place steps old begun h1 in
+    omega arith
+
+pub aimed_long : (p : Source) (names : List (List ℕ)) (a : Body) (n place at : ℕ) (x y : Instr) (tested ran jumps aimed : List Instr) → ran ≡ tested ++ body_code p names n place a → jumps ≡ ran ++ y ∷ [] → aimed ≡ slice_set jumps at x → length aimed ≡ length tested + (size p names a + 1)
+aimed_long p names a n place at x y tested ran jumps aimed h1 h2 h3 =
+    let one = behind_code p names a n place tested ran h1 in
+    let two = pushed ran jumps y h2 in
+    let three = ap length h3 ∙ length-set jumps at x in
+    omega arith
+
+pub at_within : (l place at : ℕ) (steps : List Step) (x : Step) (y : Instr) (begun tested bs ran jumps : List Instr) → tested ≡ begun ++ instrs l place (steps ++ x ∷ []) → ran ≡ tested ++ bs → jumps ≡ ran ++ y ∷ [] → at ≡ length begun + length steps → at < length jumps
+at_within l place at steps x y begun tested bs ran jumps h1 h2 h3 h4 =
+    let front : length tested ≡ length (begun ++ instrs l place steps) + 1 = pushed (begun ++ instrs l place steps) tested (instr l place x) (tested_front l place steps x begun tested h1) in
+    let at_is : at ≡ length (begun ++ instrs l place steps) = at_front l place at steps begun h4 in
+    let more = ap length h2 ∙ length-append tested bs in
+    let last = pushed ran jumps y h3 in
+    omega arith
 
 -- The code of an `if`: the jump to the second block, and then the one over it, get their targets.
 pub if_code : (p : Source) (names : List (List ℕ)) (l place : ℕ) (e : Expression) (a b : Body) (o : Operand) (at over second done first_place second_place : ℕ) (old begun tested ran jumps aimed otherwise over_it new : List Instr) →

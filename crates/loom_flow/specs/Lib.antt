@@ -2,3 +2,4 @@ pub mod Flat
 pub mod Lowered
 pub mod Laws
 pub mod Counted
+pub mod Code

@@ -17,3 +17,6 @@ mod Frames
 mod Known
 mod Placed
 pub mod Traces
+mod Each
+mod Plain
+mod Standing

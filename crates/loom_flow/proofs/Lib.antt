@@ -20,3 +20,4 @@ pub mod Traces
 mod Each
 mod Plain
 mod Standing
+mod Located

@@ -27,7 +27,7 @@ pub record Stands (c : Flat) (n : ℕ) (g : Function) (e : Entrance) (next : Opt
   pub behind : start_or (length c.code) next ≡ suc (e.start + size c.program (locals_of g) g.body)
   pub inside : suc (e.start + size c.program (locals_of g) g.body) ≤ length c.code
 
-function_length : (p : Source) (at place : ℕ) (g : Function) → length (function_code p at place g) ≡ suc (size p (locals_of g) g.body)
+pub function_length : (p : Source) (at place : ℕ) (g : Function) → length (function_code p at place g) ≡ suc (size p (locals_of g) g.body)
 function_length p at place g =
     let e : length (body_code p (locals_of g) at (suc place) g.body) ≡ size p (locals_of g) g.body = code_length p (locals_of g) at (suc place) g.body in
     length-append (body_code p (locals_of g) at (suc place) g.body) _ ∙ omega arith

@@ -20,4 +20,5 @@ pub mod Traces
 mod Each
 mod Plain
 mod Standing
-mod Located
+pub mod Located
+pub mod Forward

@@ -22,3 +22,4 @@ mod Plain
 mod Standing
 pub mod Located
 pub mod Forward
+mod Balanced

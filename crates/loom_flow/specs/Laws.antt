@@ -1,5 +1,5 @@
 -- What flat code keeps of a program, and what its instructions keep to.
-use Rattle.std.specs.Prelude.{slice_get, Contains, IsBitSet, ℕ, suc, ◌≡◌, ◌≤◌, ◌<◌, ◌↔◌, ℤ, List, Option, Some, None, map, length}
+use Rattle.std.specs.Prelude.{slice_get, Contains, IsBitSet, ℕ, suc, ◌+◌, ◌-◌, ◌≡◌, ◌≤◌, ◌<◌, ◌↔◌, ℤ, List, Option, Some, None, map, length}
 use Rattle.loom_tree.specs.Tree.{Function, Source}
 use Rattle.loom_lang.specs.Places.{Place, entry, inside, back_edge, out, places, place_at, line_of_place}
 use Rattle.loom_lang.specs.Trace.{Item, Outcome, IsTrace}
@@ -10,6 +10,7 @@ use Rattle.loom_flow.specs.declared.code.Site.{Site}
 use Rattle.loom_flow.specs.declared.code.Entrance.{Entrance}
 use Rattle.loom_flow.specs.Flat.{Flat, resume, IsFlatTrace}
 use Rattle.loom_flow.specs.Lowered.{or_zero, calls_body}
+use Rattle.loom_flow.specs.Depth.{taken, takes_off, puts_on, depth_before}
 
 -- The flat code has the traces of the tree, for every function and all arguments.
 abbrev pub HasTraces : Flat → Source → Type 0
@@ -78,3 +79,21 @@ pub record KeepsFunctions (c : Flat) : Type 0 where
   pub inside : (n at : ℕ) → IsInFunction c n at → at < length c.code
   pub starts : (n : ℕ) (e : Entrance) → slice_get c.entrances n ≡ Some e → IsInFunction c n e.start
   pub instructions : (n at : ℕ) (i : Instr) → IsInFunction c n at → slice_get c.code at ≡ Some i → LeadsInto (IsInFunction c n) c at i i.step
+
+-- Values
+
+-- With `d` values before it, an instruction takes off no more than these, and wherever it leads as many wait as are foreseen there. What
+-- jumps, calls or returns takes off all of them: a frame begins with no values, and goes on behind a call with the result alone.
+abbrev pub KeepsDepth : Flat → ℕ → ℕ → Instr → Step → Type 0
+KeepsDepth c at d i (s.Jump to) = (d ≡ 0) × (depth_before c to ≡ Some 0)
+KeepsDepth c at d i (s.JumpIfZero a to) = (d ≡ taken a) × (depth_before c (suc at) ≡ Some 0) × (depth_before c to ≡ Some 0)
+KeepsDepth c at d i (s.Edge to) = (d ≡ 0) × (depth_before c to ≡ Some 0)
+KeepsDepth c at d i (s.Call f n) = (d ≡ n) × (depth_before c (resume (slice_get c.sites i.place)) ≡ Some 1)
+KeepsDepth c at d i (s.Return a) = d ≡ taken a
+KeepsDepth c at d i s.Out = d ≡ 0
+KeepsDepth c at d i x = (takes_off x ≤ d) × (depth_before c (suc at) ≡ Some (d - takes_off x + puts_on x))
+
+-- No instruction finds too few values, on whatever way it is reached, or more than `most`.
+pub record HasOperands (c : Flat) (most : ℕ) : Type 0 where
+  pub starts : (n : ℕ) (e : Entrance) → slice_get c.entrances n ≡ Some e → depth_before c e.start ≡ Some 0
+  pub instructions : (at : ℕ) (i : Instr) → slice_get c.code at ≡ Some i → (d : ℕ) × (depth_before c at ≡ Some d) × (d ≤ most) × KeepsDepth c at d i i.step

@@ -1,3 +1,4 @@
 pub mod Flat
 pub mod Lowered
+pub mod Depth
 pub mod Laws

@@ -135,7 +135,7 @@ store_balanced p m x (Some j) h = (omega arith, h, refl)
 
 -- In a program that keeps the rules a call has at most four arguments.
 
-both : (a b : Bool) → (a && b) ≡ true → (a ≡ true) × (b ≡ true)
+pub both : (a b : Bool) → (a && b) ≡ true → (a ≡ true) × (b ≡ true)
 both true b h = (refl, h)
 both false b h = cc
 
@@ -149,7 +149,7 @@ four_parameters p (f ∷ fs) x n l h =
     ⊎_elim (λ (here : (pointwise ◌==◌ f.name x && (length f.params == n)) ≡ true). subst (λ m. m ≤ 4) (eqb-true (length f.params) n (both _ _ here).1) l.0.params)
     (λ (there : takes fs x n ≡ true). four_parameters p fs x n l.1 there) (or_else (pointwise ◌==◌ f.name x && (length f.params == n)) (takes fs x n) h)
 
-four_arguments : (p : Source) (xs : List (List ℕ)) (f : List ℕ) (es : List Expression) → IsLawful p → knows_call p xs f es ≡ true → length es ≤ 4
+pub four_arguments : (p : Source) (xs : List (List ℕ)) (f : List ℕ) (es : List Expression) → IsLawful p → knows_call p xs f es ≡ true → length es ≤ 4
 four_arguments p xs f es l h = four_parameters p p.funcs f (length es) l.functions (both (takes p.funcs f (length es)) (knows_all p xs es) h).0
 
 -- Statements

@@ -23,3 +23,4 @@ mod Standing
 pub mod Located
 pub mod Forward
 mod Balanced
+pub mod Depths

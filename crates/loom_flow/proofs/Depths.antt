@@ -42,12 +42,15 @@ depth_through first (j ∷ is) (suc at) i d h e le =
 depth_next : (c : Flat) (at : ℕ) (i : Instr) (d : ℕ) → slice_get c.code at ≡ Some i → depth_before c at ≡ Some d → takes_off i.step ≤ d → depth_before c (suc at) ≡ Some (d - takes_off i.step + puts_on i.step)
 depth_next c at i d h e le = depth_through 0 c.code at i d h e le
 
+depth_at : (c : Flat) (at to d : ℕ) → at ≡ to → depth_before c at ≡ Some d → depth_before c to ≡ Some d
+depth_at c at to d e h = subst (λ n. depth_before c n ≡ Some d) e h
+
 -- Steps
 
 depth_over : (c : Flat) (l k at m d e : ℕ) (xs : List Step) → depth_before c at ≡ Some d → Balanced m d xs e → Lies c.code at (instrs l k xs) → depth_before c (at + length xs) ≡ Some e
-depth_over c l k at m d e [] h b lies = subst (λ n. depth_before c n ≡ Some e) (omega arith) (h ∙ ap {B = Option ℕ} Some b)
+depth_over c l k at m d e [] h b lies = depth_at c at (at + 0) e (omega arith) (h ∙ ap {B = Option ℕ} Some b)
 depth_over c l k at m d e (x ∷ xs) h b lies =
-    subst (λ n. depth_before c n ≡ Some e) (omega arith)
+    depth_at c (suc at + length xs) (at + suc (length xs)) e (omega arith)
     (depth_over c l k (suc at) m (d - takes_off x + puts_on x) e xs (depth_next c at (instr l k x) d lies.0 h (fits_takes d x b.0)) b.2 lies.1)
 
 -- where else a step of place `k` leads
@@ -90,7 +93,7 @@ call_resumed : (c : Flat) (l k at m n : ℕ) (xs : List (List ℕ)) (f : List �
     → Lies c.code at (instrs l k (s.Begin ∷ (call_steps c.program xs f es ++ rest))) → resume (slice_get c.sites k) ≡ at + (1 + length (call_steps c.program xs f es)) → depth_before c (resume (slice_get c.sites k)) ≡ Some 1
 call_resumed c l k at m n xs f es rest small room h lies site =
     let begun : List Step = s.Begin ∷ call_steps c.program xs f es in
-    subst (λ j. depth_before c j ≡ Some 1) (let e : at + length begun ≡ resume (slice_get c.sites k) = omega (arith, site) in e)
+    depth_at c (at + length begun) (resume (slice_get c.sites k)) 1 (omega (arith, site))
     (depth_over c l k at m 0 1 begun h (omega arith, omega arith, call_balanced c.program xs m n f es small room) (lies_front c l k at begun rest lies))
 
 calls_resumed : (c : Flat) (l k at m n : ℕ) (xs : List (List ℕ)) (x : Simple Expression) → IsLawful c.program → n + 4 ≤ m → knows_simple c.program xs x ≡ true → IsSmallSimple n x → depth_before c at ≡ Some 0
@@ -124,7 +127,133 @@ condition_depth : (c : Flat) (l k at m to : ℕ) (xs : List (List ℕ)) (e : Exp
     → depth_before c (at + (2 + length (operand_steps c.program xs e))) ≡ Some 0
 condition_depth c l k at m to xs e small h lies =
     let steps : List Step = s.Begin ∷ (operand_steps c.program xs e ++ s.JumpIfZero (operand_of xs e) to ∷ []) in
-    subst (λ j. depth_before c j ≡ Some 0)
+    depth_at c (at + length steps) (at + (2 + length (operand_steps c.program xs e))) 0
     (let n : length (operand_steps c.program xs e ++ s.JumpIfZero (operand_of xs e) to ∷ []) ≡ length (operand_steps c.program xs e) + 1 = length-append (operand_steps c.program xs e) (s.JumpIfZero (operand_of xs e) to ∷ []) in
-      let f : at + length steps ≡ at + (2 + length (operand_steps c.program xs e)) = omega (arith, n) in f)
+      omega (arith, n))
     (depth_over c l k at m 0 0 steps h (condition_balanced c.program xs m to e small) lies)
+
+-- Statements: each of their instructions, and the number behind them
+
+body_keeps : (c : Flat) (m n : ℕ) (xs : List (List ℕ)) → IsLawful c.program → n + 4 ≤ m → (at k : ℕ) (a : Body) → knows_body c.program xs a ≡ true → IsSmallBody n a
+    → Lies c.code at (body_code c.program xs at k a) → Lies c.sites k (body_sites c.program xs at a) → depth_before c at ≡ Some 0
+    → Each (Keeps c m) at (body_code c.program xs at k a) × (depth_before c (at + size c.program xs a) ≡ Some 0)
+body_keeps c m n xs law room at k end known small lies sites h = (tt, depth_at c at (at + 0) 0 (omega arith) h)
+body_keeps c m n xs law room at k (simple l x rest) known small lies sites h =
+    let p : Source = c.program in
+    let steps : List Step = simple_steps p xs x in
+    let next : ℕ = at + length steps in
+    let both_known : (knows_simple p xs x ≡ true) × (knows_body p xs rest ≡ true) = both _ _ known in
+    let lies_first_is : Lies c.code at (instrs l k steps) = lies_first c.code at (instrs l k steps) (body_code p xs next (suc k) rest) lies in
+    let lies_rest : Lies c.code next (body_code p xs next (suc k) rest) =
+      subst (λ i. Lies c.code i (body_code p xs next (suc k) rest)) (ap (λ i. at + i) (instrs_length l k steps)) (lies_second c.code at (instrs l k steps) (body_code p xs next (suc k) rest) lies) in
+    let balanced : Balanced m 0 steps 0 = simple_balanced p xs m n x law room both_known.0 small.0 in
+    let others : Each (Keeps c m) next (body_code p xs next (suc k) rest) × (depth_before c (next + size p xs rest) ≡ Some 0) =
+      body_keeps c m n xs law room next (suc k) rest both_known.1 small.1 lies_rest sites.1 (depth_over c l k at m 0 0 steps h balanced lies_first_is) in
+    (each_append (Keeps c m) at next (instrs l k steps) _ (ap (λ i. at + i) (instrs_length l k steps))
+      (steps_keep c l k at m 0 0 steps h balanced lies_first_is
+        (simple_all (Elsewhere c k) (plain_elsewhere c k) p xs x (calls_resumed c l k at m n xs x law room both_known.0 small.0 h lies_first_is (ap resume sites.0))))
+      others.0,
+    depth_at c (next + size p xs rest) (at + size p xs (simple l x rest)) 0 (omega arith) others.1)
+body_keeps c m n xs law room at k (if_ l e x y rest) known small lies sites h =
+    let p : Source = c.program in
+    let before : List Step = operand_steps p xs e in
+    let first : ℕ = at + (2 + length before) in
+    let second : ℕ = first + (1 + size p xs x) in
+    let last : ℕ = second + size p xs y in
+    let jump : Step = s.JumpIfZero (operand_of xs e) second in
+    let head : List Step = s.Begin ∷ (before ++ jump ∷ []) in
+    let code_x : List Instr = body_code p xs first (suc k) x in
+    let code_y : List Instr = body_code p xs second (suc k + place_count x) y in
+    let code_rest : List Instr = body_code p xs (suc last) (suc k + place_count x + place_count y) rest in
+    let known_e : (knows p xs e ≡ true) × ((knows_body p xs x && (knows_body p xs y && knows_body p xs rest)) ≡ true) = both _ _ known in
+    let known_x : (knows_body p xs x ≡ true) × ((knows_body p xs y && knows_body p xs rest) ≡ true) = both _ _ known_e.1 in
+    let known_y : (knows_body p xs y ≡ true) × (knows_body p xs rest ≡ true) = both _ _ known_x.1 in
+    let lies_head : Lies c.code at (instrs l k head) = lies_first c.code at (instrs l k head) (code_x ++ instr l k (s.Jump last) ∷ (code_y ++ instr l k s.Done ∷ code_rest)) lies in
+    let lies_from_x : Lies c.code first (code_x ++ instr l k (s.Jump last) ∷ (code_y ++ instr l k s.Done ∷ code_rest)) =
+      subst (λ i. Lies c.code i (code_x ++ instr l k (s.Jump last) ∷ (code_y ++ instr l k s.Done ∷ code_rest))) (ap (λ i. at + i) (condition_length l k before s.Begin jump))
+      (lies_second c.code at (instrs l k head) (code_x ++ instr l k (s.Jump last) ∷ (code_y ++ instr l k s.Done ∷ code_rest)) lies) in
+    let lies_x : Lies c.code first code_x = lies_first c.code first code_x (instr l k (s.Jump last) ∷ (code_y ++ instr l k s.Done ∷ code_rest)) lies_from_x in
+    let lies_jump : Lies c.code (first + size p xs x) (instr l k (s.Jump last) ∷ (code_y ++ instr l k s.Done ∷ code_rest)) =
+      subst (λ i. Lies c.code i (instr l k (s.Jump last) ∷ (code_y ++ instr l k s.Done ∷ code_rest))) (ap (λ i. first + i) (code_length p xs first (suc k) x))
+      (lies_second c.code first code_x (instr l k (s.Jump last) ∷ (code_y ++ instr l k s.Done ∷ code_rest)) lies_from_x) in
+    let lies_from_y : Lies c.code second (code_y ++ instr l k s.Done ∷ code_rest) = subst (λ i. Lies c.code i (code_y ++ instr l k s.Done ∷ code_rest)) (omega arith) lies_jump.1 in
+    let lies_y : Lies c.code second code_y = lies_first c.code second code_y (instr l k s.Done ∷ code_rest) lies_from_y in
+    let lies_done : Lies c.code last (instr l k s.Done ∷ code_rest) =
+      subst (λ i. Lies c.code i (instr l k s.Done ∷ code_rest)) (ap (λ i. second + i) (code_length p xs second (suc k + place_count x) y))
+      (lies_second c.code second code_y (instr l k s.Done ∷ code_rest) lies_from_y) in
+    let sites_x : Lies c.sites (suc k) (body_sites p xs first x) = lies_first c.sites (suc k) (body_sites p xs first x) (body_sites p xs second y ++ body_sites p xs (suc last) rest) sites.1 in
+    let sites_from_y : Lies c.sites (suc k + place_count x) (body_sites p xs second y ++ body_sites p xs (suc last) rest) =
+      subst (λ i. Lies c.sites i (body_sites p xs second y ++ body_sites p xs (suc last) rest)) (ap (λ i. suc k + i) (sites_length p xs first x))
+      (lies_second c.sites (suc k) (body_sites p xs first x) (body_sites p xs second y ++ body_sites p xs (suc last) rest) sites.1) in
+    let sites_y : Lies c.sites (suc k + place_count x) (body_sites p xs second y) = lies_first c.sites (suc k + place_count x) (body_sites p xs second y) (body_sites p xs (suc last) rest) sites_from_y in
+    let sites_rest : Lies c.sites (suc k + place_count x + place_count y) (body_sites p xs (suc last) rest) =
+      subst (λ i. Lies c.sites i (body_sites p xs (suc last) rest)) (ap (λ i. suc k + place_count x + i) (sites_length p xs second y))
+      (lies_second c.sites (suc k + place_count x) (body_sites p xs second y) (body_sites p xs (suc last) rest) sites_from_y) in
+    let small_e : nodes e ≤ m = omega (arith, small.0, room) in
+    let in_x : Each (Keeps c m) first code_x × (depth_before c (first + size p xs x) ≡ Some 0) =
+      body_keeps c m n xs law room first (suc k) x known_x.0 small.1 lies_x sites_x (condition_depth c l k at m second xs e small_e h lies_head) in
+    let at_second : depth_before c second ≡ Some 0 = depth_at c (suc (first + size p xs x)) second 0 (omega arith) (depth_next c (first + size p xs x) (instr l k (s.Jump last)) 0 lies_jump.0 in_x.1 (omega arith)) in
+    let in_y : Each (Keeps c m) second code_y × (depth_before c last ≡ Some 0) = body_keeps c m n xs law room second (suc k + place_count x) y known_y.0 small.2 lies_y sites_y at_second in
+    let in_rest : Each (Keeps c m) (suc last) code_rest × (depth_before c (suc last + size p xs rest) ≡ Some 0) =
+      body_keeps c m n xs law room (suc last) (suc k + place_count x + place_count y) rest known_y.1 small.3 lies_done.1 sites_rest (depth_next c last (instr l k s.Done) 0 lies_done.0 in_y.1 (omega arith)) in
+    (each_append (Keeps c m) at first (instrs l k head) _ (ap (λ i. at + i) (condition_length l k before s.Begin jump))
+      (condition_keeps c l k at m second xs e small_e h at_second lies_head)
+      (each_append (Keeps c m) first (first + size p xs x) code_x _ (ap (λ i. first + i) (code_length p xs first (suc k) x))
+      in_x.0
+      ((0, in_x.1, omega arith, (refl, in_y.1)),
+      subst (λ i. Each (Keeps c m) i (code_y ++ instr l k s.Done ∷ code_rest)) (omega arith)
+      (each_append (Keeps c m) second last code_y _ (ap (λ i. second + i) (code_length p xs second (suc k + place_count x) y))
+      in_y.0
+      ((0, in_y.1, omega arith, (omega arith, depth_next c last (instr l k s.Done) 0 lies_done.0 in_y.1 (omega arith))), in_rest.0)))),
+    depth_at c (suc last + size p xs rest) (at + size p xs (if_ l e x y rest)) 0 (omega arith) in_rest.1)
+body_keeps c m n xs law room at k (while_ l e x rest) known small lies sites h =
+    let p : Source = c.program in
+    let before : List Step = operand_steps p xs e in
+    let head : ℕ = at + 1 in
+    let first : ℕ = head + (1 + length before) in
+    let last : ℕ = first + (1 + size p xs x) in
+    let jump : Step = s.JumpIfZero (operand_of xs e) last in
+    let begin : List Step = s.Begin ∷ (before ++ jump ∷ []) in
+    let place : ℕ = at + (2 + length before) in
+    let same : place ≡ first = omega arith in
+    let code_x : List Instr = body_code p xs first (suc (suc k)) x in
+    let code_rest : List Instr = body_code p xs (suc last) (suc (suc k) + place_count x) rest in
+    let known_e : (knows p xs e ≡ true) × ((knows_body p xs x && knows_body p xs rest) ≡ true) = both _ _ known in
+    let known_x : (knows_body p xs x ≡ true) × (knows_body p xs rest ≡ true) = both _ _ known_e.1 in
+    let lies_begin : Lies c.code at (instrs l k begin) = lies_first c.code at (instrs l k begin) (code_x ++ instr l (suc k) (s.Edge head) ∷ instr l k s.Done ∷ code_rest) lies in
+    let lies_from_x : Lies c.code first (code_x ++ instr l (suc k) (s.Edge head) ∷ instr l k s.Done ∷ code_rest) =
+      subst (λ i. Lies c.code i (code_x ++ instr l (suc k) (s.Edge head) ∷ instr l k s.Done ∷ code_rest)) (ap (λ i. at + i) (condition_length l k before s.Begin jump) ∙ same)
+      (lies_second c.code at (instrs l k begin) (code_x ++ instr l (suc k) (s.Edge head) ∷ instr l k s.Done ∷ code_rest) lies) in
+    let lies_x : Lies c.code first code_x = lies_first c.code first code_x (instr l (suc k) (s.Edge head) ∷ instr l k s.Done ∷ code_rest) lies_from_x in
+    let lies_edge : Lies c.code (first + size p xs x) (instr l (suc k) (s.Edge head) ∷ instr l k s.Done ∷ code_rest) =
+      subst (λ i. Lies c.code i (instr l (suc k) (s.Edge head) ∷ instr l k s.Done ∷ code_rest)) (ap (λ i. first + i) (code_length p xs first (suc (suc k)) x))
+      (lies_second c.code first code_x (instr l (suc k) (s.Edge head) ∷ instr l k s.Done ∷ code_rest) lies_from_x) in
+    let lies_done : Lies c.code last (instr l k s.Done ∷ code_rest) = subst (λ i. Lies c.code i (instr l k s.Done ∷ code_rest)) (omega arith) lies_edge.1 in
+    let sites_x : Lies c.sites (suc (suc k)) (body_sites p xs first x) =
+      subst (λ i. Lies c.sites (suc (suc k)) (body_sites p xs i x)) same
+      (lies_first c.sites (suc (suc k)) (body_sites p xs place x) (body_sites p xs (suc (place + (1 + size p xs x))) rest) sites.1.1) in
+    let sites_rest : Lies c.sites (suc (suc k) + place_count x) (body_sites p xs (suc last) rest) =
+      subst (λ i. Lies c.sites (suc (suc k) + place_count x) (body_sites p xs (suc (i + (1 + size p xs x))) rest)) same
+      (subst (λ i. Lies c.sites i (body_sites p xs (suc (place + (1 + size p xs x))) rest)) (ap (λ i. suc (suc k) + i) (sites_length p xs place x))
+      (lies_second c.sites (suc (suc k)) (body_sites p xs place x) (body_sites p xs (suc (place + (1 + size p xs x))) rest) sites.1.1)) in
+    let small_e : nodes e ≤ m = omega (arith, small.0, room) in
+    let at_head : depth_before c head ≡ Some 0 = depth_at c (suc at) head 0 (omega arith) (depth_next c at (instr l k s.Begin) 0 lies_begin.0 h (omega arith)) in
+    let in_x : Each (Keeps c m) first code_x × (depth_before c (first + size p xs x) ≡ Some 0) =
+      body_keeps c m n xs law room first (suc (suc k)) x known_x.0 small.1 lies_x sites_x (depth_at c place first 0 same (condition_depth c l k at m last xs e small_e h lies_begin)) in
+    let at_last : depth_before c last ≡ Some 0 = depth_at c (suc (first + size p xs x)) last 0 (omega arith) (depth_next c (first + size p xs x) (instr l (suc k) (s.Edge head)) 0 lies_edge.0 in_x.1 (omega arith)) in
+    let behind : depth_before c (suc last) ≡ Some 0 = depth_next c last (instr l k s.Done) 0 lies_done.0 at_last (omega arith) in
+    let in_rest : Each (Keeps c m) (suc last) code_rest × (depth_before c (suc last + size p xs rest) ≡ Some 0) =
+      body_keeps c m n xs law room (suc last) (suc (suc k) + place_count x) rest known_x.1 small.2 lies_done.1 sites_rest behind in
+    (each_append (Keeps c m) at first (instrs l k begin) _ (ap (λ i. at + i) (condition_length l k before s.Begin jump) ∙ same)
+      (condition_keeps c l k at m last xs e small_e h at_last lies_begin)
+      (each_append (Keeps c m) first (first + size p xs x) code_x _ (ap (λ i. first + i) (code_length p xs first (suc (suc k)) x))
+      in_x.0
+      ((0, in_x.1, omega arith, (refl, at_head)),
+      subst (λ i. Each (Keeps c m) i (instr l k s.Done ∷ code_rest)) (let f : last ≡ suc (first + size p xs x) = omega arith in f)
+      ((0, at_last, omega arith, (omega arith, behind)), in_rest.0))),
+    depth_at c (suc last + size p xs rest) (at + size p xs (while_ l e x rest)) 0 (omega arith) in_rest.1)
+
+-- Functions: each of their instructions, and their starts
+
+AreStarts : Flat → List Entrance → Type 0
+AreStarts c es = (n : ℕ) (e : Entrance) → slice_get es n ≡ Some e → depth_before c e.start ≡ Some 0

@@ -255,5 +255,50 @@ body_keeps c m n xs law room at k (while_ l e x rest) known small lies sites h =
 
 -- Functions: each of their instructions, and their starts
 
-AreStarts : Flat → List Entrance → Type 0
+abbrev AreStarts : Flat → List Entrance → Type 0
 AreStarts c es = (n : ℕ) (e : Entrance) → slice_get es n ≡ Some e → depth_before c e.start ≡ Some 0
+
+starts_more : (c : Flat) (e : Entrance) (es : List Entrance) → depth_before c e.start ≡ Some 0 → AreStarts c es → AreStarts c (e ∷ es)
+starts_more c e es h f zero d g = subst (λ (q : Entrance). depth_before c q.start ≡ Some 0) (same_element e d g) h
+starts_more c e es h f (suc n) d g = f n d g
+
+functions_keep : (c : Flat) (m n : ℕ) → IsLawful c.program → n + 4 ≤ m → (fs : List Function) (at place : ℕ) → AreLawfulFunctions c.program fs → AreSmallFunctions n fs
+    → Lies c.code at (functions_code c.program at place fs) → Lies c.sites place (functions_sites c.program at fs) → depth_before c at ≡ Some 0
+    → Each (Keeps c m) at (functions_code c.program at place fs) × AreStarts c (entrances c.program at place fs)
+functions_keep c m n law room [] at place l small code sites h = (tt, λ k e g. cc)
+functions_keep c m n law room (g ∷ gs) at place l small code sites h =
+    let p : Source = c.program in
+    let xs : List (List ℕ) = locals_of g in
+    let last : ℕ = at + size p xs g.body in
+    let later : ℕ = suc (suc (place + place_count g.body)) in
+    let body : List Instr = body_code p xs at (suc place) g.body in
+    let out : Instr = instr g.line (suc place + place_count g.body) s.Out in
+    let more : List Instr = functions_code p (suc last) later gs in
+    let others : List Site = functions_sites p (suc last) gs in
+    let length_is : at + length body ≡ last = ap (λ i. at + i) (code_length p xs at (suc place) g.body) in
+    let lies_out : Lies c.code last (out ∷ more) = subst (λ i. Lies c.code i (out ∷ more)) length_is (lies_second c.code at body (out ∷ more) code) in
+    let sites_out : Lies c.sites (suc place + length (body_sites p xs at g.body)) (site g.line 0 ∷ others) =
+      lies_second c.sites (suc place) (body_sites p xs at g.body) (site g.line 0 ∷ others) sites.1 in
+    let sites_length_is : length (body_sites p xs at g.body) ≡ place_count g.body = sites_length p xs at g.body in
+    let in_body : Each (Keeps c m) at body × (depth_before c last ≡ Some 0) =
+      body_keeps c m n xs law room at (suc place) g.body l.0.known small.0 (lies_first c.code at body (out ∷ more) code)
+      (lies_first c.sites (suc place) (body_sites p xs at g.body) (site g.line 0 ∷ others) sites.1) h in
+    let again : Each (Keeps c m) (suc last) more × AreStarts c (entrances p (suc last) later gs) =
+      functions_keep c m n law room gs (suc last) later l.1 small.1 lies_out.1
+      (subst (λ i. Lies c.sites i others) (let f : suc (suc place + length (body_sites p xs at g.body)) ≡ later = omega (arith, sites_length_is) in f) sites_out.1)
+      (depth_next c last out 0 lies_out.0 in_body.1 (omega arith)) in
+    (each_append (Keeps c m) at last body (out ∷ more) length_is in_body.0 ((0, in_body.1, omega arith, refl), again.0),
+    starts_more c (record { start = at; place = place; params = length g.params; locals = length xs }) (entrances p (suc last) later gs) h again.1)
+
+-- where each expression of the program has at most `n` nodes
+pub lowered_operands : (p : Source) → IsLawful p → (n : ℕ) → IsSmall n p → HasOperands (lowered p) (n + 4)
+lowered_operands p l n small =
+    let c : Flat = lowered p in
+    let code : List Instr = functions_code p 0 1 p.funcs in
+    let all : Each (Keeps c (n + 4)) 0 code × AreStarts c (entrances p 0 1 p.funcs) =
+      functions_keep c (n + 4) n l (omega arith) p.funcs 0 1 l.functions small (lies_whole code)
+      (lies_behind (site 0 0) (functions_sites p 0 p.funcs) 0 (functions_sites p 0 p.funcs) (lies_whole (functions_sites p 0 p.funcs))) refl in
+    record {
+      starts = all.1;
+      instructions = λ at i h. each_at (Keeps c (n + 4)) code 0 code (lies_whole code) all.0 at i (omega arith) (let f : at < length code = slice_get_within code at i h in omega (arith, f)) h;
+    }

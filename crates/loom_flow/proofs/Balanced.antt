@@ -1,10 +1,10 @@
 -- How many values the steps of statements need and leave.
-use Rattle.std.proofs.Common.{ℕ, suc, zero, ◌+◌, ◌-◌, ◌≡◌, ◌≤◌, ◌<◌, List, [], ◌∷◌, ◌++◌, Bool, true, false, ◌&&◌, ◌||◌, pos, Option, Some, None, refl, sym, ap, subst, ◌∙◌, map, take, slice_get, length, append_assoc, if◌then◌else◌, nat_le, le-leb, eqb-true, ◌==◌, ◌⊎◌, inl, inr, ⊎_elim, arith}
+use Rattle.std.proofs.Common.{ℕ, ◌+◌, ◌-◌, ◌≡◌, ◌≤◌, List, [], ◌∷◌, ◌++◌, Bool, true, false, ◌&&◌, ◌||◌, Option, Some, None, refl, sym, subst, length, append_assoc, eqb-true, ◌==◌, ◌⊎◌, inl, inr, ⊎_elim, arith}
 use Rattle.std.specs.Cmp.Lexicographic.{pointwise}
 use Rattle.loom_tree.specs.Tree.{Expression, num, var, cell, neg, inverse, bin, Right, Simple, let_, set, set_cell, return, Function, Source}
 use Rattle.loom_tree.specs.Tree as tree
-use Rattle.loom_lang.specs.Rules.{takes, knows_all, knows_call, knows_right, knows_simple, IsLawfulFunction, AreLawfulFunctions, IsLawful}
-use Rattle.loom_lang.specs.Numbers.{position, mutex_number, sema_number, function_number}
+use Rattle.loom_lang.specs.Rules.{takes, knows_all, knows_call, knows_right, knows_simple, AreLawfulFunctions, IsLawful}
+use Rattle.loom_lang.specs.Numbers.{position, function_number}
 use Rattle.loom_flow.specs.declared.code.Operand.{Operand}
 use Rattle.loom_flow.specs.declared.code.Operand.TheVariants as operand
 use Rattle.loom_flow.specs.declared.code.Target.{Target}
@@ -12,7 +12,7 @@ use Rattle.loom_flow.specs.declared.code.Target.TheVariants as target
 use Rattle.loom_flow.specs.declared.code.Step.{Step}
 use Rattle.loom_flow.specs.declared.code.Step.TheVariants as s
 use Rattle.loom_flow.specs.Lowered.{or_zero, word_named, array_named, operand_of, unless_there, variable_step, steps_to, operand_steps, argument_steps, call_steps, spawn_steps, store_step, value_steps, set_steps, simple_steps}
-use Rattle.loom_flow.specs.Depth.{taken, put, takes_off, puts_on, depth_after, nodes, AreSmall, IsSmallRight, IsSmallSimple}
+use Rattle.loom_flow.specs.Depth.{taken, put, takes_off, puts_on, nodes, AreSmall, IsSmallRight, IsSmallSimple}
 
 -- A step may stand where there are `d` values: what jumps, calls or returns takes off all.
 abbrev pub Fits : ℕ → Step → Type 0
@@ -41,12 +41,6 @@ Balanced m d (x ∷ xs) e = Fits d x × (d ≤ m) × Balanced m (d - takes_off x
 pub balanced_append : (m d e f : ℕ) (xs ys : List Step) → Balanced m d xs e → Balanced m e ys f → Balanced m d (xs ++ ys) f
 balanced_append m d e f [] ys h g = subst (λ q. Balanced m q ys f) (sym h) g
 balanced_append m d e f (x ∷ xs) ys h g = (h.0, h.1, balanced_append m (d - takes_off x + puts_on x) e f xs ys h.2 g)
-
-pub balanced_depth : (m d e : ℕ) (xs : List Step) → Balanced m d xs e → depth_after d xs ≡ Some e
-balanced_depth m d e [] h = ap {B = Option ℕ} Some h
-balanced_depth m d e (x ∷ xs) h =
-    ap {B = Option ℕ} (λ b. if b then depth_after (d - takes_off x + puts_on x) xs else None) (le-leb (takes_off x) d (fits_takes d x h.0))
-    ∙ balanced_depth m (d - takes_off x + puts_on x) e xs h.2
 
 -- Expressions
 

@@ -1,8 +1,8 @@
 -- How many values there are before each instruction.
-use Rattle.std.proofs.Common.{ℕ, suc, zero, ◌+◌, ◌-◌, ◌≡◌, ◌≤◌, ◌<◌, List, [], ◌∷◌, ◌++◌, Bool, true, false, ◌&&◌, Option, Some, None, refl, sym, ap, subst, ◌∙◌, map, take, slice_get, length, length-append, append_assoc, if◌then◌else◌, nat_le, le-leb, arith}
+use Rattle.std.proofs.Common.{ℕ, suc, zero, ◌+◌, ◌-◌, ◌≡◌, ◌≤◌, ◌<◌, List, [], ◌∷◌, ◌++◌, true, false, ◌&&◌, Option, Some, None, refl, sym, ap, subst, ◌∙◌, map, take, slice_get, length, length-append, append_assoc, if◌then◌else◌, nat_le, le-leb, arith}
 use Rattle.std.proofs.lemmas.Option.{slice_get_within}
-use Rattle.loom_tree.specs.Tree.{Expression, Right, Simple, let_, set, set_cell, return, Body, end, simple, if_, while_, Function, Source}
-use Rattle.loom_lang.specs.Rules.{knows, knows_call, knows_all, knows_right, knows_simple, knows_body, takes, locals_of, is_in, IsLawful, IsLawfulFunction, AreLawfulFunctions}
+use Rattle.loom_tree.specs.Tree.{Expression, Right, Simple, let_, set, Body, end, simple, if_, while_, Function, Source}
+use Rattle.loom_lang.specs.Rules.{knows, knows_simple, knows_body, locals_of, is_in, IsLawful, AreLawfulFunctions}
 use Rattle.loom_lang.specs.Numbers.{position}
 use Rattle.loom_flow.specs.declared.code.Step.{Step}
 use Rattle.loom_flow.specs.declared.code.Step.TheVariants as s
@@ -10,15 +10,15 @@ use Rattle.loom_flow.specs.declared.code.Instr.{Instr}
 use Rattle.loom_flow.specs.declared.code.Site.{Site}
 use Rattle.loom_flow.specs.declared.code.Entrance.{Entrance}
 use Rattle.loom_flow.specs.Flat.{Flat, resume}
-use Rattle.loom_flow.specs.Lowered.{operand_of, operand_steps, argument_steps, call_steps, store_step, simple_steps, resume_of, instr, instrs, size, place_count, body_code, body_sites, site, functions_code, functions_sites, entrances, lowered}
-use Rattle.loom_flow.specs.Depth.{taken, takes_off, puts_on, depth_after, depth_before, nodes, AreSmall, IsSmallRight, IsSmallSimple, IsSmallBody, AreSmallFunctions, IsSmall}
+use Rattle.loom_flow.specs.Lowered.{operand_of, operand_steps, call_steps, store_step, simple_steps, resume_of, instr, instrs, size, place_count, body_code, body_sites, site, functions_code, functions_sites, entrances, lowered}
+use Rattle.loom_flow.specs.Depth.{taken, takes_off, puts_on, depth_after, depth_before, nodes, AreSmall, IsSmallSimple, IsSmallBody, AreSmallFunctions, IsSmall}
 use Rattle.loom_flow.specs.Laws.{KeepsDepth, HasOperands}
 use Rattle.loom_flow.proofs.Lying.{Lies, lies_first, lies_second, lies_behind, lies_whole}
 use Rattle.loom_flow.proofs.Straight.{lies_front}
 use Rattle.loom_flow.proofs.Each.{AllOf, all_append, Each, each_append, each_at, same_element}
-use Rattle.loom_flow.proofs.Plain.{is_plain, CallsRight, CallsSimple, operand_all, simple_all}
+use Rattle.loom_flow.proofs.Plain.{is_plain, CallsSimple, operand_all, simple_all}
 use Rattle.loom_flow.proofs.Sizes.{instrs_length, condition_length, code_length, sites_length}
-use Rattle.loom_flow.proofs.Balanced.{Fits, fits_takes, Balanced, balanced_append, both, four_arguments, call_balanced, condition_balanced, simple_balanced}
+use Rattle.loom_flow.proofs.Balanced.{Fits, fits_takes, Balanced, both, four_arguments, call_balanced, condition_balanced, simple_balanced}
 
 -- From an instruction to the next
 
@@ -33,8 +33,8 @@ depth_through first (j ∷ is) zero i d h e le =
     (subst (λ n. depth_after n (i.step ∷ []) ≡ Some (d - takes_off i.step + puts_on i.step)) (sym (same_element first d e)) (depth_one d i.step le))
 depth_through first (j ∷ is) (suc at) i d h e le =
     elim (nat_le (takes_off j.step) first) as (λ b.
-      (if b then depth_after (first - takes_off j.step + puts_on j.step) (map (λ (k : Instr). k.step) (take at is)) else None) ≡ Some d
-      → (if b then depth_after (first - takes_off j.step + puts_on j.step) (map (λ (k : Instr). k.step) (take (suc at) is)) else None) ≡ Some (d - takes_off i.step + puts_on i.step)) [
+    (if b then depth_after (first - takes_off j.step + puts_on j.step) (map (λ (k : Instr). k.step) (take at is)) else None) ≡ Some d
+    → (if b then depth_after (first - takes_off j.step + puts_on j.step) (map (λ (k : Instr). k.step) (take (suc at) is)) else None) ≡ Some (d - takes_off i.step + puts_on i.step)) [
       | true ↦ λ f. depth_through (first - takes_off j.step + puts_on j.step) is at i d h f le
       | false ↦ λ f. cc
     ] e
@@ -83,9 +83,10 @@ step_keeps c l k at d x h e fits other = (fits, depth_next c at (instr l k x) d 
 
 steps_keep : (c : Flat) (l k at m d e : ℕ) (xs : List Step) → depth_before c at ≡ Some d → Balanced m d xs e → Lies c.code at (instrs l k xs) → AllOf (Elsewhere c k) xs → Each (Keeps c m) at (instrs l k xs)
 steps_keep c l k at m d e [] h b lies other = tt
-steps_keep c l k at m d e (x ∷ xs) h b lies other =
-    ((d, h, b.1, step_keeps c l k at d x lies.0 h b.0 other.0),
-    steps_keep c l k (suc at) m (d - takes_off x + puts_on x) e xs (depth_next c at (instr l k x) d lies.0 h (fits_takes d x b.0)) b.2 lies.1 other.1)
+steps_keep c l k at m d e (x ∷ xs) h b lies other = (
+  (d, h, b.1, step_keeps c l k at d x lies.0 h b.0 other.0),
+  steps_keep c l k (suc at) m (d - takes_off x + puts_on x) e xs (depth_next c at (instr l k x) d lies.0 h (fits_takes d x b.0)) b.2 lies.1 other.1,
+)
 
 -- Behind a call there is its result.
 
@@ -129,7 +130,7 @@ condition_depth c l k at m to xs e small h lies =
     let steps : List Step = s.Begin ∷ (operand_steps c.program xs e ++ s.JumpIfZero (operand_of xs e) to ∷ []) in
     depth_at c (at + length steps) (at + (2 + length (operand_steps c.program xs e))) 0
     (let n : length (operand_steps c.program xs e ++ s.JumpIfZero (operand_of xs e) to ∷ []) ≡ length (operand_steps c.program xs e) + 1 = length-append (operand_steps c.program xs e) (s.JumpIfZero (operand_of xs e) to ∷ []) in
-      omega (arith, n))
+    omega (arith, n))
     (depth_over c l k at m 0 0 steps h (condition_balanced c.program xs m to e small) lies)
 
 -- Statements: each of their instructions, and the number behind them
@@ -145,15 +146,16 @@ body_keeps c m n xs law room at k (simple l x rest) known small lies sites h =
     let both_known : (knows_simple p xs x ≡ true) × (knows_body p xs rest ≡ true) = both _ _ known in
     let lies_first_is : Lies c.code at (instrs l k steps) = lies_first c.code at (instrs l k steps) (body_code p xs next (suc k) rest) lies in
     let lies_rest : Lies c.code next (body_code p xs next (suc k) rest) =
-      subst (λ i. Lies c.code i (body_code p xs next (suc k) rest)) (ap (λ i. at + i) (instrs_length l k steps)) (lies_second c.code at (instrs l k steps) (body_code p xs next (suc k) rest) lies) in
+    subst (λ i. Lies c.code i (body_code p xs next (suc k) rest)) (ap (λ i. at + i) (instrs_length l k steps)) (lies_second c.code at (instrs l k steps) (body_code p xs next (suc k) rest) lies) in
     let balanced : Balanced m 0 steps 0 = simple_balanced p xs m n x law room both_known.0 small.0 in
     let others : Each (Keeps c m) next (body_code p xs next (suc k) rest) × (depth_before c (next + size p xs rest) ≡ Some 0) =
-      body_keeps c m n xs law room next (suc k) rest both_known.1 small.1 lies_rest sites.1 (depth_over c l k at m 0 0 steps h balanced lies_first_is) in
-    (each_append (Keeps c m) at next (instrs l k steps) _ (ap (λ i. at + i) (instrs_length l k steps))
-      (steps_keep c l k at m 0 0 steps h balanced lies_first_is
-        (simple_all (Elsewhere c k) (plain_elsewhere c k) p xs x (calls_resumed c l k at m n xs x law room both_known.0 small.0 h lies_first_is (ap resume sites.0))))
-      others.0,
-    depth_at c (next + size p xs rest) (at + size p xs (simple l x rest)) 0 (omega arith) others.1)
+    body_keeps c m n xs law room next (suc k) rest both_known.1 small.1 lies_rest sites.1 (depth_over c l k at m 0 0 steps h balanced lies_first_is) in (
+      each_append (Keeps c m) at next (instrs l k steps) _ (ap (λ i. at + i) (instrs_length l k steps))
+          (steps_keep c l k at m 0 0 steps h balanced lies_first_is
+          (simple_all (Elsewhere c k) (plain_elsewhere c k) p xs x (calls_resumed c l k at m n xs x law room both_known.0 small.0 h lies_first_is (ap resume sites.0))))
+          others.0,
+      depth_at c (next + size p xs rest) (at + size p xs (simple l x rest)) 0 (omega arith) others.1,
+    )
 body_keeps c m n xs law room at k (if_ l e x y rest) known small lies sites h =
     let p : Source = c.program in
     let before : List Step = operand_steps p xs e in
@@ -170,42 +172,44 @@ body_keeps c m n xs law room at k (if_ l e x y rest) known small lies sites h =
     let known_y : (knows_body p xs y ≡ true) × (knows_body p xs rest ≡ true) = both _ _ known_x.1 in
     let lies_head : Lies c.code at (instrs l k head) = lies_first c.code at (instrs l k head) (code_x ++ instr l k (s.Jump last) ∷ (code_y ++ instr l k s.Done ∷ code_rest)) lies in
     let lies_from_x : Lies c.code first (code_x ++ instr l k (s.Jump last) ∷ (code_y ++ instr l k s.Done ∷ code_rest)) =
-      subst (λ i. Lies c.code i (code_x ++ instr l k (s.Jump last) ∷ (code_y ++ instr l k s.Done ∷ code_rest))) (ap (λ i. at + i) (condition_length l k before s.Begin jump))
-      (lies_second c.code at (instrs l k head) (code_x ++ instr l k (s.Jump last) ∷ (code_y ++ instr l k s.Done ∷ code_rest)) lies) in
+    subst (λ i. Lies c.code i (code_x ++ instr l k (s.Jump last) ∷ (code_y ++ instr l k s.Done ∷ code_rest))) (ap (λ i. at + i) (condition_length l k before s.Begin jump))
+    (lies_second c.code at (instrs l k head) (code_x ++ instr l k (s.Jump last) ∷ (code_y ++ instr l k s.Done ∷ code_rest)) lies) in
     let lies_x : Lies c.code first code_x = lies_first c.code first code_x (instr l k (s.Jump last) ∷ (code_y ++ instr l k s.Done ∷ code_rest)) lies_from_x in
     let lies_jump : Lies c.code (first + size p xs x) (instr l k (s.Jump last) ∷ (code_y ++ instr l k s.Done ∷ code_rest)) =
-      subst (λ i. Lies c.code i (instr l k (s.Jump last) ∷ (code_y ++ instr l k s.Done ∷ code_rest))) (ap (λ i. first + i) (code_length p xs first (suc k) x))
-      (lies_second c.code first code_x (instr l k (s.Jump last) ∷ (code_y ++ instr l k s.Done ∷ code_rest)) lies_from_x) in
+    subst (λ i. Lies c.code i (instr l k (s.Jump last) ∷ (code_y ++ instr l k s.Done ∷ code_rest))) (ap (λ i. first + i) (code_length p xs first (suc k) x))
+    (lies_second c.code first code_x (instr l k (s.Jump last) ∷ (code_y ++ instr l k s.Done ∷ code_rest)) lies_from_x) in
     let lies_from_y : Lies c.code second (code_y ++ instr l k s.Done ∷ code_rest) = subst (λ i. Lies c.code i (code_y ++ instr l k s.Done ∷ code_rest)) (omega arith) lies_jump.1 in
     let lies_y : Lies c.code second code_y = lies_first c.code second code_y (instr l k s.Done ∷ code_rest) lies_from_y in
     let lies_done : Lies c.code last (instr l k s.Done ∷ code_rest) =
-      subst (λ i. Lies c.code i (instr l k s.Done ∷ code_rest)) (ap (λ i. second + i) (code_length p xs second (suc k + place_count x) y))
-      (lies_second c.code second code_y (instr l k s.Done ∷ code_rest) lies_from_y) in
+    subst (λ i. Lies c.code i (instr l k s.Done ∷ code_rest)) (ap (λ i. second + i) (code_length p xs second (suc k + place_count x) y))
+    (lies_second c.code second code_y (instr l k s.Done ∷ code_rest) lies_from_y) in
     let sites_x : Lies c.sites (suc k) (body_sites p xs first x) = lies_first c.sites (suc k) (body_sites p xs first x) (body_sites p xs second y ++ body_sites p xs (suc last) rest) sites.1 in
     let sites_from_y : Lies c.sites (suc k + place_count x) (body_sites p xs second y ++ body_sites p xs (suc last) rest) =
-      subst (λ i. Lies c.sites i (body_sites p xs second y ++ body_sites p xs (suc last) rest)) (ap (λ i. suc k + i) (sites_length p xs first x))
-      (lies_second c.sites (suc k) (body_sites p xs first x) (body_sites p xs second y ++ body_sites p xs (suc last) rest) sites.1) in
+    subst (λ i. Lies c.sites i (body_sites p xs second y ++ body_sites p xs (suc last) rest)) (ap (λ i. suc k + i) (sites_length p xs first x))
+    (lies_second c.sites (suc k) (body_sites p xs first x) (body_sites p xs second y ++ body_sites p xs (suc last) rest) sites.1) in
     let sites_y : Lies c.sites (suc k + place_count x) (body_sites p xs second y) = lies_first c.sites (suc k + place_count x) (body_sites p xs second y) (body_sites p xs (suc last) rest) sites_from_y in
     let sites_rest : Lies c.sites (suc k + place_count x + place_count y) (body_sites p xs (suc last) rest) =
-      subst (λ i. Lies c.sites i (body_sites p xs (suc last) rest)) (ap (λ i. suc k + place_count x + i) (sites_length p xs second y))
-      (lies_second c.sites (suc k + place_count x) (body_sites p xs second y) (body_sites p xs (suc last) rest) sites_from_y) in
+    subst (λ i. Lies c.sites i (body_sites p xs (suc last) rest)) (ap (λ i. suc k + place_count x + i) (sites_length p xs second y))
+    (lies_second c.sites (suc k + place_count x) (body_sites p xs second y) (body_sites p xs (suc last) rest) sites_from_y) in
     let small_e : nodes e ≤ m = omega (arith, small.0, room) in
     let in_x : Each (Keeps c m) first code_x × (depth_before c (first + size p xs x) ≡ Some 0) =
-      body_keeps c m n xs law room first (suc k) x known_x.0 small.1 lies_x sites_x (condition_depth c l k at m second xs e small_e h lies_head) in
+    body_keeps c m n xs law room first (suc k) x known_x.0 small.1 lies_x sites_x (condition_depth c l k at m second xs e small_e h lies_head) in
     let at_second : depth_before c second ≡ Some 0 = depth_at c (suc (first + size p xs x)) second 0 (omega arith) (depth_next c (first + size p xs x) (instr l k (s.Jump last)) 0 lies_jump.0 in_x.1 (omega arith)) in
     let in_y : Each (Keeps c m) second code_y × (depth_before c last ≡ Some 0) = body_keeps c m n xs law room second (suc k + place_count x) y known_y.0 small.2 lies_y sites_y at_second in
     let in_rest : Each (Keeps c m) (suc last) code_rest × (depth_before c (suc last + size p xs rest) ≡ Some 0) =
-      body_keeps c m n xs law room (suc last) (suc k + place_count x + place_count y) rest known_y.1 small.3 lies_done.1 sites_rest (depth_next c last (instr l k s.Done) 0 lies_done.0 in_y.1 (omega arith)) in
-    (each_append (Keeps c m) at first (instrs l k head) _ (ap (λ i. at + i) (condition_length l k before s.Begin jump))
-      (condition_keeps c l k at m second xs e small_e h at_second lies_head)
-      (each_append (Keeps c m) first (first + size p xs x) code_x _ (ap (λ i. first + i) (code_length p xs first (suc k) x))
-      in_x.0
-      ((0, in_x.1, omega arith, (refl, in_y.1)),
-      subst (λ i. Each (Keeps c m) i (code_y ++ instr l k s.Done ∷ code_rest)) (omega arith)
-      (each_append (Keeps c m) second last code_y _ (ap (λ i. second + i) (code_length p xs second (suc k + place_count x) y))
-      in_y.0
-      ((0, in_y.1, omega arith, (omega arith, depth_next c last (instr l k s.Done) 0 lies_done.0 in_y.1 (omega arith))), in_rest.0)))),
-    depth_at c (suc last + size p xs rest) (at + size p xs (if_ l e x y rest)) 0 (omega arith) in_rest.1)
+    body_keeps c m n xs law room (suc last) (suc k + place_count x + place_count y) rest known_y.1 small.3 lies_done.1 sites_rest (depth_next c last (instr l k s.Done) 0 lies_done.0 in_y.1 (omega arith)) in (
+      each_append (Keeps c m) at first (instrs l k head) _ (ap (λ i. at + i) (condition_length l k before s.Begin jump))
+          (condition_keeps c l k at m second xs e small_e h at_second lies_head)
+          (each_append (Keeps c m) first (first + size p xs x) code_x _ (ap (λ i. first + i) (code_length p xs first (suc k) x))
+          in_x.0 (
+            (0, in_x.1, omega arith, (refl, in_y.1)),
+            subst (λ i. Each (Keeps c m) i (code_y ++ instr l k s.Done ∷ code_rest)) (omega arith)
+                (each_append (Keeps c m) second last code_y _ (ap (λ i. second + i) (code_length p xs second (suc k + place_count x) y))
+                in_y.0
+                ((0, in_y.1, omega arith, (omega arith, depth_next c last (instr l k s.Done) 0 lies_done.0 in_y.1 (omega arith))), in_rest.0)),
+          )),
+      depth_at c (suc last + size p xs rest) (at + size p xs (if_ l e x y rest)) 0 (omega arith) in_rest.1,
+    )
 body_keeps c m n xs law room at k (while_ l e x rest) known small lies sites h =
     let p : Source = c.program in
     let before : List Step = operand_steps p xs e in
@@ -222,36 +226,38 @@ body_keeps c m n xs law room at k (while_ l e x rest) known small lies sites h =
     let known_x : (knows_body p xs x ≡ true) × (knows_body p xs rest ≡ true) = both _ _ known_e.1 in
     let lies_begin : Lies c.code at (instrs l k begin) = lies_first c.code at (instrs l k begin) (code_x ++ instr l (suc k) (s.Edge head) ∷ instr l k s.Done ∷ code_rest) lies in
     let lies_from_x : Lies c.code first (code_x ++ instr l (suc k) (s.Edge head) ∷ instr l k s.Done ∷ code_rest) =
-      subst (λ i. Lies c.code i (code_x ++ instr l (suc k) (s.Edge head) ∷ instr l k s.Done ∷ code_rest)) (ap (λ i. at + i) (condition_length l k before s.Begin jump) ∙ same)
-      (lies_second c.code at (instrs l k begin) (code_x ++ instr l (suc k) (s.Edge head) ∷ instr l k s.Done ∷ code_rest) lies) in
+    subst (λ i. Lies c.code i (code_x ++ instr l (suc k) (s.Edge head) ∷ instr l k s.Done ∷ code_rest)) (ap (λ i. at + i) (condition_length l k before s.Begin jump) ∙ same)
+    (lies_second c.code at (instrs l k begin) (code_x ++ instr l (suc k) (s.Edge head) ∷ instr l k s.Done ∷ code_rest) lies) in
     let lies_x : Lies c.code first code_x = lies_first c.code first code_x (instr l (suc k) (s.Edge head) ∷ instr l k s.Done ∷ code_rest) lies_from_x in
     let lies_edge : Lies c.code (first + size p xs x) (instr l (suc k) (s.Edge head) ∷ instr l k s.Done ∷ code_rest) =
-      subst (λ i. Lies c.code i (instr l (suc k) (s.Edge head) ∷ instr l k s.Done ∷ code_rest)) (ap (λ i. first + i) (code_length p xs first (suc (suc k)) x))
-      (lies_second c.code first code_x (instr l (suc k) (s.Edge head) ∷ instr l k s.Done ∷ code_rest) lies_from_x) in
+    subst (λ i. Lies c.code i (instr l (suc k) (s.Edge head) ∷ instr l k s.Done ∷ code_rest)) (ap (λ i. first + i) (code_length p xs first (suc (suc k)) x))
+    (lies_second c.code first code_x (instr l (suc k) (s.Edge head) ∷ instr l k s.Done ∷ code_rest) lies_from_x) in
     let lies_done : Lies c.code last (instr l k s.Done ∷ code_rest) = subst (λ i. Lies c.code i (instr l k s.Done ∷ code_rest)) (omega arith) lies_edge.1 in
     let sites_x : Lies c.sites (suc (suc k)) (body_sites p xs first x) =
-      subst (λ i. Lies c.sites (suc (suc k)) (body_sites p xs i x)) same
-      (lies_first c.sites (suc (suc k)) (body_sites p xs place x) (body_sites p xs (suc (place + (1 + size p xs x))) rest) sites.1.1) in
+    subst (λ i. Lies c.sites (suc (suc k)) (body_sites p xs i x)) same
+    (lies_first c.sites (suc (suc k)) (body_sites p xs place x) (body_sites p xs (suc (place + (1 + size p xs x))) rest) sites.1.1) in
     let sites_rest : Lies c.sites (suc (suc k) + place_count x) (body_sites p xs (suc last) rest) =
-      subst (λ i. Lies c.sites (suc (suc k) + place_count x) (body_sites p xs (suc (i + (1 + size p xs x))) rest)) same
-      (subst (λ i. Lies c.sites i (body_sites p xs (suc (place + (1 + size p xs x))) rest)) (ap (λ i. suc (suc k) + i) (sites_length p xs place x))
-      (lies_second c.sites (suc (suc k)) (body_sites p xs place x) (body_sites p xs (suc (place + (1 + size p xs x))) rest) sites.1.1)) in
+    subst (λ i. Lies c.sites (suc (suc k) + place_count x) (body_sites p xs (suc (i + (1 + size p xs x))) rest)) same
+    (subst (λ i. Lies c.sites i (body_sites p xs (suc (place + (1 + size p xs x))) rest)) (ap (λ i. suc (suc k) + i) (sites_length p xs place x))
+    (lies_second c.sites (suc (suc k)) (body_sites p xs place x) (body_sites p xs (suc (place + (1 + size p xs x))) rest) sites.1.1)) in
     let small_e : nodes e ≤ m = omega (arith, small.0, room) in
     let at_head : depth_before c head ≡ Some 0 = depth_at c (suc at) head 0 (omega arith) (depth_next c at (instr l k s.Begin) 0 lies_begin.0 h (omega arith)) in
     let in_x : Each (Keeps c m) first code_x × (depth_before c (first + size p xs x) ≡ Some 0) =
-      body_keeps c m n xs law room first (suc (suc k)) x known_x.0 small.1 lies_x sites_x (depth_at c place first 0 same (condition_depth c l k at m last xs e small_e h lies_begin)) in
+    body_keeps c m n xs law room first (suc (suc k)) x known_x.0 small.1 lies_x sites_x (depth_at c place first 0 same (condition_depth c l k at m last xs e small_e h lies_begin)) in
     let at_last : depth_before c last ≡ Some 0 = depth_at c (suc (first + size p xs x)) last 0 (omega arith) (depth_next c (first + size p xs x) (instr l (suc k) (s.Edge head)) 0 lies_edge.0 in_x.1 (omega arith)) in
     let behind : depth_before c (suc last) ≡ Some 0 = depth_next c last (instr l k s.Done) 0 lies_done.0 at_last (omega arith) in
     let in_rest : Each (Keeps c m) (suc last) code_rest × (depth_before c (suc last + size p xs rest) ≡ Some 0) =
-      body_keeps c m n xs law room (suc last) (suc (suc k) + place_count x) rest known_x.1 small.2 lies_done.1 sites_rest behind in
-    (each_append (Keeps c m) at first (instrs l k begin) _ (ap (λ i. at + i) (condition_length l k before s.Begin jump) ∙ same)
-      (condition_keeps c l k at m last xs e small_e h at_last lies_begin)
-      (each_append (Keeps c m) first (first + size p xs x) code_x _ (ap (λ i. first + i) (code_length p xs first (suc (suc k)) x))
-      in_x.0
-      ((0, in_x.1, omega arith, (refl, at_head)),
-      subst (λ i. Each (Keeps c m) i (instr l k s.Done ∷ code_rest)) (let f : last ≡ suc (first + size p xs x) = omega arith in f)
-      ((0, at_last, omega arith, (omega arith, behind)), in_rest.0))),
-    depth_at c (suc last + size p xs rest) (at + size p xs (while_ l e x rest)) 0 (omega arith) in_rest.1)
+    body_keeps c m n xs law room (suc last) (suc (suc k) + place_count x) rest known_x.1 small.2 lies_done.1 sites_rest behind in (
+      each_append (Keeps c m) at first (instrs l k begin) _ (ap (λ i. at + i) (condition_length l k before s.Begin jump) ∙ same)
+          (condition_keeps c l k at m last xs e small_e h at_last lies_begin)
+          (each_append (Keeps c m) first (first + size p xs x) code_x _ (ap (λ i. first + i) (code_length p xs first (suc (suc k)) x))
+          in_x.0 (
+            (0, in_x.1, omega arith, (refl, at_head)),
+            subst (λ i. Each (Keeps c m) i (instr l k s.Done ∷ code_rest)) (let f : last ≡ suc (first + size p xs x) = omega arith in f)
+                ((0, at_last, omega arith, (omega arith, behind)), in_rest.0),
+          )),
+      depth_at c (suc last + size p xs rest) (at + size p xs (while_ l e x rest)) 0 (omega arith) in_rest.1,
+    )
 
 -- Functions: each of their instructions, and their starts
 
@@ -278,17 +284,18 @@ functions_keep c m n law room (g ∷ gs) at place l small code sites h =
     let length_is : at + length body ≡ last = ap (λ i. at + i) (code_length p xs at (suc place) g.body) in
     let lies_out : Lies c.code last (out ∷ more) = subst (λ i. Lies c.code i (out ∷ more)) length_is (lies_second c.code at body (out ∷ more) code) in
     let sites_out : Lies c.sites (suc place + length (body_sites p xs at g.body)) (site g.line 0 ∷ others) =
-      lies_second c.sites (suc place) (body_sites p xs at g.body) (site g.line 0 ∷ others) sites.1 in
+    lies_second c.sites (suc place) (body_sites p xs at g.body) (site g.line 0 ∷ others) sites.1 in
     let sites_length_is : length (body_sites p xs at g.body) ≡ place_count g.body = sites_length p xs at g.body in
     let in_body : Each (Keeps c m) at body × (depth_before c last ≡ Some 0) =
-      body_keeps c m n xs law room at (suc place) g.body l.0.known small.0 (lies_first c.code at body (out ∷ more) code)
-      (lies_first c.sites (suc place) (body_sites p xs at g.body) (site g.line 0 ∷ others) sites.1) h in
+    body_keeps c m n xs law room at (suc place) g.body l.0.known small.0 (lies_first c.code at body (out ∷ more) code)
+    (lies_first c.sites (suc place) (body_sites p xs at g.body) (site g.line 0 ∷ others) sites.1) h in
     let again : Each (Keeps c m) (suc last) more × AreStarts c (entrances p (suc last) later gs) =
-      functions_keep c m n law room gs (suc last) later l.1 small.1 lies_out.1
-      (subst (λ i. Lies c.sites i others) (let f : suc (suc place + length (body_sites p xs at g.body)) ≡ later = omega (arith, sites_length_is) in f) sites_out.1)
-      (depth_next c last out 0 lies_out.0 in_body.1 (omega arith)) in
-    (each_append (Keeps c m) at last body (out ∷ more) length_is in_body.0 ((0, in_body.1, omega arith, refl), again.0),
-    starts_more c (record { start = at; place = place; params = length g.params; locals = length xs }) (entrances p (suc last) later gs) h again.1)
+    functions_keep c m n law room gs (suc last) later l.1 small.1 lies_out.1
+    (subst (λ i. Lies c.sites i others) (let f : suc (suc place + length (body_sites p xs at g.body)) ≡ later = omega (arith, sites_length_is) in f) sites_out.1)
+    (depth_next c last out 0 lies_out.0 in_body.1 (omega arith)) in (
+      each_append (Keeps c m) at last body (out ∷ more) length_is in_body.0 ((0, in_body.1, omega arith, refl), again.0),
+      starts_more c (record { start = at; place = place; params = length g.params; locals = length xs }) (entrances p (suc last) later gs) h again.1,
+    )
 
 -- where each expression of the program has at most `n` nodes
 pub lowered_operands : (p : Source) → IsLawful p → (n : ℕ) → IsSmall n p → HasOperands (lowered p) (n + 4)
@@ -296,8 +303,8 @@ lowered_operands p l n small =
     let c : Flat = lowered p in
     let code : List Instr = functions_code p 0 1 p.funcs in
     let all : Each (Keeps c (n + 4)) 0 code × AreStarts c (entrances p 0 1 p.funcs) =
-      functions_keep c (n + 4) n l (omega arith) p.funcs 0 1 l.functions small (lies_whole code)
-      (lies_behind (site 0 0) (functions_sites p 0 p.funcs) 0 (functions_sites p 0 p.funcs) (lies_whole (functions_sites p 0 p.funcs))) refl in
+    functions_keep c (n + 4) n l (omega arith) p.funcs 0 1 l.functions small (lies_whole code)
+    (lies_behind (site 0 0) (functions_sites p 0 p.funcs) 0 (functions_sites p 0 p.funcs) (lies_whole (functions_sites p 0 p.funcs))) refl in
     record {
       starts = all.1;
       instructions = λ at i h. each_at (Keeps c (n + 4)) code 0 code (lies_whole code) all.0 at i (omega arith) (let f : at < length code = slice_get_within code at i h in omega (arith, f)) h;

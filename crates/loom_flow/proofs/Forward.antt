@@ -2,24 +2,22 @@
 use Rattle.std.proofs.Common.{ℕ, suc, zero, ◌+◌, ◌≡◌, ◌≤◌, ◌<◌, List, [], ◌∷◌, ◌++◌, Bool, true, false, Option, Some, None, option_map, refl, sym, ap, subst, ◌∙◌, map, slice_get, length, length-append, le_refl, if◌then◌else◌, ◌==◌, arith}
 use Rattle.std.specs.Cmp.Lexicographic.{pointwise}
 use Rattle.std.proofs.lemmas.Option.{slice_get_within}
-use Rattle.loom_tree.specs.Tree.{Expression, Right, Simple, let_, set, set_cell, return, Body, end, simple, if_, while_, Function, Source}
+use Rattle.loom_tree.specs.Tree.{Expression, Right, Simple, let_, set, Body, end, simple, if_, while_, Function, Source}
 use Rattle.loom_lang.specs.Rules.{locals_of, IsLawful, IsLawfulFunction, AreLawfulFunctions}
 use Rattle.loom_lang.specs.Numbers.{position, function_number}
-use Rattle.loom_flow.specs.declared.code.Target.TheVariants as target
 use Rattle.loom_flow.specs.declared.code.Step.{Step}
 use Rattle.loom_flow.specs.declared.code.Step.TheVariants as s
 use Rattle.loom_flow.specs.declared.code.Instr.{Instr}
-use Rattle.loom_flow.specs.declared.code.Site.{Site}
 use Rattle.loom_flow.specs.declared.code.Entrance.{Entrance}
 use Rattle.loom_flow.specs.Flat.{Flat, resume}
 use Rattle.loom_flow.specs.Lowered.{or_zero, operand_of, operand_steps, call_steps, store_step, simple_steps, resume_of, instr, instrs, size, place_count, body_code, body_sites, entrances, lowered}
-use Rattle.loom_flow.specs.Laws.{start_or, IsInFunction, HasStart, LeadsInto, JumpsForward, KeepsFunctions}
+use Rattle.loom_flow.specs.Laws.{IsInFunction, HasStart, LeadsInto, JumpsForward, KeepsFunctions}
 use Rattle.loom_flow.proofs.Lying.{Lies, lies_first, lies_second}
-use Rattle.loom_flow.proofs.Each.{AllOf, all_append, Each, each_append, each_at, each_instrs, same_element}
-use Rattle.loom_flow.proofs.Plain.{is_plain, CallsRight, CallsSimple, operand_all, simple_all}
+use Rattle.loom_flow.proofs.Each.{all_append, Each, each_append, each_at, each_instrs, same_element}
+use Rattle.loom_flow.proofs.Plain.{is_plain, CallsSimple, operand_all, simple_all}
 use Rattle.loom_flow.proofs.Sizes.{instrs_length, condition_length, code_length, sites_length}
 use Rattle.loom_flow.proofs.Simple.{IsFunction}
-use Rattle.loom_flow.proofs.EachSimple.{IsKnownRight, IsKnownSimple}
+use Rattle.loom_flow.proofs.EachSimple.{IsKnownSimple}
 use Rattle.loom_flow.proofs.Bodies.{IsKnownBody}
 use Rattle.loom_flow.proofs.Known.{body_known}
 use Rattle.loom_flow.proofs.Standing.{function_code, function_length, Stands, stands, covered}
@@ -86,10 +84,11 @@ condition_leads Q c lo hi at l k to xs e q from ahead below =
     let jump : Step = s.JumpIfZero (operand_of xs e) to in
     let within : Inside Q lo to = λ m above under. q m above (omega (arith, under, below)) in
     let n : length (s.Begin ∷ (before ++ jump ∷ [])) ≡ 2 + length before = let d : length (before ++ jump ∷ []) ≡ length before + 1 = length-append before (jump ∷ []) in omega arith in
-    each_instrs (LeadsAt Q c) lo to at l k (s.Begin ∷ (before ++ jump ∷ [])) from (omega (arith, n, ahead))
-    (plain_leads Q c lo to l k within s.Begin refl,
-    all_append (LeadsWithin Q c lo to l k) before (jump ∷ []) (operand_all (LeadsWithin Q c lo to l k) (plain_leads Q c lo to l k within) c.program xs e)
-    ((λ m above under. (within (suc m) (omega (arith, above)) under, under, within to (omega (arith, from, ahead)) (le_refl to))), tt))
+    each_instrs (LeadsAt Q c) lo to at l k (s.Begin ∷ (before ++ jump ∷ [])) from (omega (arith, n, ahead)) (
+      plain_leads Q c lo to l k within s.Begin refl,
+      all_append (LeadsWithin Q c lo to l k) before (jump ∷ []) (operand_all (LeadsWithin Q c lo to l k) (plain_leads Q c lo to l k within) c.program xs e)
+          ((λ m above under. (within (suc m) (omega (arith, above)) under, under, within to (omega (arith, from, ahead)) (le_refl to))), tt),
+    )
 
 body_leads : (Q : ℕ → Type 0) (c : Flat) (lo hi : ℕ) (xs : List (List ℕ)) → Inside Q lo hi → Starts c → (at k : ℕ) (a : Body) → lo ≤ at → at + size c.program xs a ≤ hi
     → Lies c.sites k (body_sites c.program xs at a) → IsKnownBody c.program xs a → Each (LeadsAt Q c) at (body_code c.program xs at k a)
@@ -100,7 +99,7 @@ body_leads Q c lo hi xs q starts at k (simple l x rest) from to sites known =
     let within : at + length steps ≤ hi = omega (arith, to) in
     each_append (LeadsAt Q c) at next (instrs l k steps) _ (ap (λ m. at + m) (instrs_length l k steps))
     (each_instrs (LeadsAt Q c) lo hi at l k steps from within
-      (simple_all (LeadsWithin Q c lo hi l k) (plain_leads Q c lo hi l k q) c.program xs x (calls_lead Q c lo hi l k at xs q starts x known.0 (ap resume sites.0) from within)))
+    (simple_all (LeadsWithin Q c lo hi l k) (plain_leads Q c lo hi l k q) c.program xs x (calls_lead Q c lo hi l k at xs q starts x known.0 (ap resume sites.0) from within)))
     (body_leads Q c lo hi xs q starts next (suc k) rest (omega (arith, from)) (omega (arith, to)) sites.1 known.1)
 body_leads Q c lo hi xs q starts at k (if_ l e a b rest) from to sites known =
     let p : Source = c.program in
@@ -111,22 +110,24 @@ body_leads Q c lo hi xs q starts at k (if_ l e a b rest) from to sites known =
     let jump : Step = s.JumpIfZero (operand_of xs e) second in
     let sites_a : Lies c.sites (suc k) (body_sites p xs first a) = lies_first c.sites (suc k) (body_sites p xs first a) (body_sites p xs second b ++ body_sites p xs (suc last) rest) sites.1 in
     let sites_from_b : Lies c.sites (suc k + place_count a) (body_sites p xs second b ++ body_sites p xs (suc last) rest) =
-      subst (λ i. Lies c.sites i (body_sites p xs second b ++ body_sites p xs (suc last) rest)) (ap (λ i. suc k + i) (sites_length p xs first a))
-      (lies_second c.sites (suc k) (body_sites p xs first a) (body_sites p xs second b ++ body_sites p xs (suc last) rest) sites.1) in
+    subst (λ i. Lies c.sites i (body_sites p xs second b ++ body_sites p xs (suc last) rest)) (ap (λ i. suc k + i) (sites_length p xs first a))
+    (lies_second c.sites (suc k) (body_sites p xs first a) (body_sites p xs second b ++ body_sites p xs (suc last) rest) sites.1) in
     let sites_b : Lies c.sites (suc k + place_count a) (body_sites p xs second b) = lies_first c.sites (suc k + place_count a) (body_sites p xs second b) (body_sites p xs (suc last) rest) sites_from_b in
     let sites_rest : Lies c.sites (suc k + place_count a + place_count b) (body_sites p xs (suc last) rest) =
-      subst (λ i. Lies c.sites i (body_sites p xs (suc last) rest)) (ap (λ i. suc k + place_count a + i) (sites_length p xs second b))
-      (lies_second c.sites (suc k + place_count a) (body_sites p xs second b) (body_sites p xs (suc last) rest) sites_from_b) in
+    subst (λ i. Lies c.sites i (body_sites p xs (suc last) rest)) (ap (λ i. suc k + place_count a + i) (sites_length p xs second b))
+    (lies_second c.sites (suc k + place_count a) (body_sites p xs second b) (body_sites p xs (suc last) rest) sites_from_b) in
     each_append (LeadsAt Q c) at first (instrs l k (s.Begin ∷ (before ++ jump ∷ []))) _ (ap (λ m. at + m) (condition_length l k before s.Begin jump))
     (condition_leads Q c lo hi at l k second xs e q from (omega arith) (omega (arith, to)))
     (each_append (LeadsAt Q c) first (first + size p xs a) (body_code p xs first (suc k) a) _ (ap (λ m. first + m) (code_length p xs first (suc k) a))
-    (body_leads Q c lo hi xs q starts first (suc k) a (omega (arith, from)) (omega (arith, to)) sites_a known.1)
-    ((q (suc (first + size p xs a)) (omega (arith, from)) (omega (arith, to)), omega arith, q last (omega (arith, from)) (omega (arith, to))),
-    subst (λ m. Each (LeadsAt Q c) m (body_code p xs second (suc k + place_count a) b ++ instr l k s.Done ∷ body_code p xs (suc last) (suc k + place_count a + place_count b) rest)) (omega arith)
-    (each_append (LeadsAt Q c) second last (body_code p xs second (suc k + place_count a) b) _ (ap (λ m. second + m) (code_length p xs second (suc k + place_count a) b))
-    (body_leads Q c lo hi xs q starts second (suc k + place_count a) b (omega (arith, from)) (omega (arith, to)) sites_b known.2)
-    (q (suc last) (omega (arith, from)) (omega (arith, to)),
-    body_leads Q c lo hi xs q starts (suc last) (suc k + place_count a + place_count b) rest (omega (arith, from)) (omega (arith, to)) sites_rest known.3))))
+    (body_leads Q c lo hi xs q starts first (suc k) a (omega (arith, from)) (omega (arith, to)) sites_a known.1) (
+      (q (suc (first + size p xs a)) (omega (arith, from)) (omega (arith, to)), omega arith, q last (omega (arith, from)) (omega (arith, to))),
+      subst (λ m. Each (LeadsAt Q c) m (body_code p xs second (suc k + place_count a) b ++ instr l k s.Done ∷ body_code p xs (suc last) (suc k + place_count a + place_count b) rest)) (omega arith)
+          (each_append (LeadsAt Q c) second last (body_code p xs second (suc k + place_count a) b) _ (ap (λ m. second + m) (code_length p xs second (suc k + place_count a) b))
+          (body_leads Q c lo hi xs q starts second (suc k + place_count a) b (omega (arith, from)) (omega (arith, to)) sites_b known.2) (
+            q (suc last) (omega (arith, from)) (omega (arith, to)),
+            body_leads Q c lo hi xs q starts (suc last) (suc k + place_count a + place_count b) rest (omega (arith, from)) (omega (arith, to)) sites_rest known.3,
+          )),
+    ))
 body_leads Q c lo hi xs q starts at k (while_ l e a rest) from to sites known =
     let p : Source = c.program in
     let before : List Step = operand_steps p xs e in
@@ -137,20 +138,23 @@ body_leads Q c lo hi xs q starts at k (while_ l e a rest) from to sites known =
     let same : place ≡ first = omega arith in
     let jump : Step = s.JumpIfZero (operand_of xs e) last in
     let sites_a : Lies c.sites (suc (suc k)) (body_sites p xs first a) =
-      subst (λ i. Lies c.sites (suc (suc k)) (body_sites p xs i a)) same
-      (lies_first c.sites (suc (suc k)) (body_sites p xs place a) (body_sites p xs (suc (place + (1 + size p xs a))) rest) sites.1.1) in
+    subst (λ i. Lies c.sites (suc (suc k)) (body_sites p xs i a)) same
+    (lies_first c.sites (suc (suc k)) (body_sites p xs place a) (body_sites p xs (suc (place + (1 + size p xs a))) rest) sites.1.1) in
     let sites_rest : Lies c.sites (suc (suc k) + place_count a) (body_sites p xs (suc last) rest) =
-      subst (λ i. Lies c.sites (suc (suc k) + place_count a) (body_sites p xs (suc (i + (1 + size p xs a))) rest)) same
-      (subst (λ i. Lies c.sites i (body_sites p xs (suc (place + (1 + size p xs a))) rest)) (ap (λ i. suc (suc k) + i) (sites_length p xs place a))
-      (lies_second c.sites (suc (suc k)) (body_sites p xs place a) (body_sites p xs (suc (place + (1 + size p xs a))) rest) sites.1.1)) in
+    subst (λ i. Lies c.sites (suc (suc k) + place_count a) (body_sites p xs (suc (i + (1 + size p xs a))) rest)) same
+    (subst (λ i. Lies c.sites i (body_sites p xs (suc (place + (1 + size p xs a))) rest)) (ap (λ i. suc (suc k) + i) (sites_length p xs place a))
+    (lies_second c.sites (suc (suc k)) (body_sites p xs place a) (body_sites p xs (suc (place + (1 + size p xs a))) rest) sites.1.1)) in
     each_append (LeadsAt Q c) at first (instrs l k (s.Begin ∷ (before ++ jump ∷ []))) _ (ap (λ m. at + m) (condition_length l k before s.Begin jump) ∙ same)
     (condition_leads Q c lo hi at l k last xs e q from (omega arith) (omega (arith, to)))
     (each_append (LeadsAt Q c) first (first + size p xs a) (body_code p xs first (suc (suc k)) a) _ (ap (λ m. first + m) (code_length p xs first (suc (suc k)) a))
-    (body_leads Q c lo hi xs q starts first (suc (suc k)) a (omega (arith, from)) (omega (arith, to)) sites_a known.1)
-    ((q (suc (first + size p xs a)) (omega (arith, from)) (omega (arith, to)), q head (omega (arith, from)) (omega (arith, to))),
-    (q (suc (suc (first + size p xs a))) (omega (arith, from)) (omega (arith, to)),
-    subst (λ m. Each (LeadsAt Q c) m (body_code p xs (suc last) (suc (suc k) + place_count a) rest)) (omega arith)
-    (body_leads Q c lo hi xs q starts (suc last) (suc (suc k) + place_count a) rest (omega (arith, from)) (omega (arith, to)) sites_rest known.2))))
+    (body_leads Q c lo hi xs q starts first (suc (suc k)) a (omega (arith, from)) (omega (arith, to)) sites_a known.1) (
+      (q (suc (first + size p xs a)) (omega (arith, from)) (omega (arith, to)), q head (omega (arith, from)) (omega (arith, to))),
+      (
+        q (suc (suc (first + size p xs a))) (omega (arith, from)) (omega (arith, to)),
+        subst (λ m. Each (LeadsAt Q c) m (body_code p xs (suc last) (suc (suc k) + place_count a) rest)) (omega arith)
+            (body_leads Q c lo hi xs q starts (suc last) (suc (suc k) + place_count a) rest (omega (arith, from)) (omega (arith, to)) sites_rest known.2),
+      ),
+    ))
 
 -- Functions
 
@@ -162,11 +166,13 @@ entrance_of p (g ∷ gs) x n at place h =
   where
     next : ℕ
     next = suc (at + size p (locals_of g) g.body)
+
     later : ℕ
     later = suc (suc (place + place_count g.body))
+
     by : ((j : ℕ) → position x (map (λ (f : Function). f.name) gs) ≡ Some j → (e : Entrance) × (slice_get (entrances p next later gs) j ≡ Some e))
-      → (b : Bool) (o : Option ℕ) → position x (map (λ (f : Function). f.name) gs) ≡ o → (if b then Some 0 else option_map suc o) ≡ Some n
-      → (e : Entrance) × (slice_get (entrances p at place (g ∷ gs)) n ≡ Some e)
+        → (b : Bool) (o : Option ℕ) → position x (map (λ (f : Function). f.name) gs) ≡ o → (if b then Some 0 else option_map suc o) ≡ Some n
+        → (e : Entrance) × (slice_get (entrances p at place (g ∷ gs)) n ≡ Some e)
     by again true o d f = subst (λ m. (e : Entrance) × (slice_get (entrances p at place (g ∷ gs)) m ≡ Some e)) (same_element 0 n f) (record { start = at; place = place; params = length g.params; locals = length (locals_of g) }, refl)
     by again false None d f = cc
     by again false (Some j) d f = subst (λ m. (e : Entrance) × (slice_get (entrances p at place (g ∷ gs)) m ≡ Some e)) (same_element (suc j) n f) (again j d)
@@ -191,7 +197,7 @@ function_leads p n g e l there has h =
     each_append (LeadsAt (IsInFunction c n) c) e.start hi (body_code p (locals_of g) e.start (suc e.place) g.body) _
     (ap (λ m. e.start + m) (code_length p (locals_of g) e.start (suc e.place) g.body))
     (body_leads (IsInFunction c n) c e.start hi (locals_of g) inside (starts_of p) e.start (suc e.place) g.body (le_refl e.start) (le_refl hi) h.sites
-      (body_known p (locals_of g) g.body l (lawful_at p p.funcs n g l.functions there).known))
+    (body_known p (locals_of g) g.body l (lawful_at p p.funcs n g l.functions there).known))
     (tt, tt)
 
 instruction_leads : (p : Source) → IsLawful p → (n at : ℕ) (i : Instr) → IsInFunction (lowered p) n at → slice_get (lowered p).code at ≡ Some i → LeadsAt (IsInFunction (lowered p) n) (lowered p) at i

@@ -41,16 +41,18 @@ pub record IsInFunction (c : Flat) (n at : ℕ) : Type 0 where
 -- Places
 
 -- The place of an instruction of function `n`: the loop's back edge, the end of the function, or the statement's own place.
-abbrev pub IsAtPlace : Source → ℕ → Instr → Step → Type 0
-IsAtPlace p n i (s.Edge to) = place_at p i.place ≡ Some (back_edge i.line)
-IsAtPlace p n i s.Out = place_at p i.place ≡ Some (out n)
-IsAtPlace p n i _ = place_at p i.place ≡ Some (inside i.line)
+abbrev pub place_of : ℕ → ℕ → Step → Place
+place_of n line (s.Edge to) = back_edge line
+place_of n line s.Out = out n
+place_of n line _ = inside line
 
+-- Each instruction has its place and the line of that, and each entrance has its place.
 pub record HasInstructionPlaces (c : Flat) (p : Source) : Type 0 where
-  pub entrances : (n : ℕ) (e : Entrance) → slice_get c.entrances n ≡ Some e → place_at p e.place ≡ Some (entry n)
   -- each instruction is one of a function
   pub functions : (at : ℕ) → at < length c.code → (n : ℕ) × IsInFunction c n at
-  pub instructions : (n at : ℕ) (i : Instr) → IsInFunction c n at → slice_get c.code at ≡ Some i → IsAtPlace p n i i.step
+  pub instructions : (n at : ℕ) (i : Instr) → IsInFunction c n at → slice_get c.code at ≡ Some i
+      → (place_at p i.place ≡ Some (place_of n i.line i.step)) × (line_of_place p (place_of n i.line i.step) ≡ i.line)
+  pub entrances : (n : ℕ) (e : Entrance) → slice_get c.entrances n ≡ Some e → place_at p e.place ≡ Some (entry n)
 
 -- Where an instruction leads
 

@@ -16,7 +16,7 @@ use Rattle.loom_flow.specs.Laws.{KeepsDepth, HasOperands}
 use Rattle.loom_flow.proofs.Lying.{Lies, lies_first, lies_second, lies_behind, lies_whole}
 use Rattle.loom_flow.proofs.Straight.{lies_front}
 use Rattle.loom_flow.proofs.Each.{AllOf, all_append, Each, each_append, each_at, same_element}
-use Rattle.loom_flow.proofs.Plain.{is_plain, CallsSimple, operand_all, simple_all}
+use Rattle.loom_flow.proofs.Plain.{is_plain, CallsRight, CallsSimple, operand_all, simple_all}
 use Rattle.loom_flow.proofs.Sizes.{instrs_length, condition_length, code_length, sites_length}
 use Rattle.loom_flow.proofs.Balanced.{Fits, fits_takes, Balanced, both, four_arguments, call_balanced, condition_balanced, simple_balanced}
 
@@ -53,67 +53,49 @@ depth_over c l k at m d e (x ∷ xs) h b lies =
     depth_at c (suc at + length xs) (at + suc (length xs)) e (omega arith)
     (depth_over c l k (suc at) m (d - takes_off x + puts_on x) e xs (depth_next c at (instr l k x) d lies.0 h (fits_takes d x b.0)) b.2 lies.1)
 
--- where else a step of place `k` leads
-abbrev Elsewhere : Flat → ℕ → Step → Type 0
-Elsewhere c k (s.Call f n) = depth_before c (resume (slice_get c.sites k)) ≡ Some 1
-Elsewhere c k (s.Edge to) = depth_before c to ≡ Some 0
-Elsewhere c k (s.Jump to) = depth_before c to ≡ Some 0
-Elsewhere c k (s.JumpIfZero a to) = depth_before c to ≡ Some 0
-Elsewhere c k _ = Unit {0}
+-- where a jump or a back edge leads
+abbrev Elsewhere : Flat → Step → Type 0
+Elsewhere c (s.Edge to) = depth_before c to ≡ Some 0
+Elsewhere c (s.Jump to) = depth_before c to ≡ Some 0
+Elsewhere c (s.JumpIfZero a to) = depth_before c to ≡ Some 0
+Elsewhere c _ = Unit {0}
 
-plain_elsewhere : (c : Flat) (k : ℕ) (x : Step) → is_plain x ≡ true → Elsewhere c k x
-plain_elsewhere c k (s.Call f n) h = cc
-plain_elsewhere c k (s.Edge to) h = cc
-plain_elsewhere c k (s.Jump to) h = cc
-plain_elsewhere c k (s.JumpIfZero a to) h = cc
-plain_elsewhere c k _ h = tt
+plain_elsewhere : (c : Flat) (x : Step) → is_plain x ≡ true → Elsewhere c x
+plain_elsewhere c (s.Edge to) h = cc
+plain_elsewhere c (s.Jump to) h = cc
+plain_elsewhere c (s.JumpIfZero a to) h = cc
+plain_elsewhere c _ h = tt
+
+right_elsewhere : (c : Flat) (r : Right Expression) → CallsRight (Elsewhere c) c.program r
+right_elsewhere c (Right.value e) = tt
+right_elsewhere c (Right.call f es) = tt
+right_elsewhere c (Right.spawn f es) = tt
+
+calls_elsewhere : (c : Flat) (x : Simple Expression) → CallsSimple (Elsewhere c) c.program x
+calls_elsewhere c (let_ x r) = right_elsewhere c r
+calls_elsewhere c (set x r) = right_elsewhere c r
+calls_elsewhere c _ = tt
 
 abbrev Keeps : Flat → ℕ → ℕ → Instr → Type 0
-Keeps c m at i = (d : ℕ) × (depth_before c at ≡ Some d) × (d ≤ m) × KeepsDepth c at d i i.step
+Keeps c m at i = (d : ℕ) × (depth_before c at ≡ Some d) × (d ≤ m) × KeepsDepth c at d i.step
 
-step_keeps : (c : Flat) (l k at d : ℕ) (x : Step) → slice_get c.code at ≡ Some (instr l k x) → depth_before c at ≡ Some d → Fits d x → Elsewhere c k x → KeepsDepth c at d (instr l k x) x
+step_keeps : (c : Flat) (l k at d : ℕ) (x : Step) → slice_get c.code at ≡ Some (instr l k x) → depth_before c at ≡ Some d → Fits d x → Elsewhere c x → KeepsDepth c at d x
 step_keeps c l k at d (s.Jump to) h e fits other = (fits, other)
 step_keeps c l k at d (s.JumpIfZero a to) h e fits other =
     (fits, depth_next c at (instr l k (s.JumpIfZero a to)) d h e (omega (arith, fits)) ∙ ap {B = Option ℕ} Some (let f : d - taken a + 0 ≡ 0 = omega (arith, fits) in f), other)
 step_keeps c l k at d (s.Edge to) h e fits other = (fits, other)
-step_keeps c l k at d (s.Call f n) h e fits other = (fits, other)
+step_keeps c l k at d (s.Call f n) h e fits other =
+    (fits, depth_next c at (instr l k (s.Call f n)) d h e (omega (arith, fits)) ∙ ap {B = Option ℕ} Some (let g : d - n + 1 ≡ 1 = omega (arith, fits) in g))
 step_keeps c l k at d (s.Return a) h e fits other = fits
 step_keeps c l k at d s.Out h e fits other = fits
 step_keeps c l k at d x h e fits other = (fits, depth_next c at (instr l k x) d h e fits)
 
-steps_keep : (c : Flat) (l k at m d e : ℕ) (xs : List Step) → depth_before c at ≡ Some d → Balanced m d xs e → Lies c.code at (instrs l k xs) → AllOf (Elsewhere c k) xs → Each (Keeps c m) at (instrs l k xs)
+steps_keep : (c : Flat) (l k at m d e : ℕ) (xs : List Step) → depth_before c at ≡ Some d → Balanced m d xs e → Lies c.code at (instrs l k xs) → AllOf (Elsewhere c) xs → Each (Keeps c m) at (instrs l k xs)
 steps_keep c l k at m d e [] h b lies other = tt
 steps_keep c l k at m d e (x ∷ xs) h b lies other = (
   (d, h, b.1, step_keeps c l k at d x lies.0 h b.0 other.0),
   steps_keep c l k (suc at) m (d - takes_off x + puts_on x) e xs (depth_next c at (instr l k x) d lies.0 h (fits_takes d x b.0)) b.2 lies.1 other.1,
 )
-
--- Behind a call there is its result.
-
-call_resumed : (c : Flat) (l k at m n : ℕ) (xs : List (List ℕ)) (f : List ℕ) (es : List Expression) (rest : List Step) → AreSmall n es → length es + n ≤ m → depth_before c at ≡ Some 0
-    → Lies c.code at (instrs l k (s.Begin ∷ (call_steps c.program xs f es ++ rest))) → resume (slice_get c.sites k) ≡ at + (1 + length (call_steps c.program xs f es)) → depth_before c (resume (slice_get c.sites k)) ≡ Some 1
-call_resumed c l k at m n xs f es rest small room h lies site =
-    let begun : List Step = s.Begin ∷ call_steps c.program xs f es in
-    depth_at c (at + length begun) (resume (slice_get c.sites k)) 1 (omega (arith, site))
-    (depth_over c l k at m 0 1 begun h (omega arith, omega arith, call_balanced c.program xs m n f es small room) (lies_front c l k at begun rest lies))
-
-calls_resumed : (c : Flat) (l k at m n : ℕ) (xs : List (List ℕ)) (x : Simple Expression) → IsLawful c.program → n + 4 ≤ m → knows_simple c.program xs x ≡ true → IsSmallSimple n x → depth_before c at ≡ Some 0
-    → Lies c.code at (instrs l k (simple_steps c.program xs x)) → resume (slice_get c.sites k) ≡ resume_of c.program xs at x → CallsSimple (Elsewhere c k) c.program x
-calls_resumed c l k at m n xs (let_ x (Right.value e)) law room known small h lies site = tt
-calls_resumed c l k at m n xs (let_ x (Right.call f es)) law room known small h lies site =
-    let store : Step = store_step c.program x (position x xs) in
-    call_resumed c l k at m n xs f es (store ∷ s.Done ∷ []) small (omega (arith, room, four_arguments c.program xs f es law (both (is_in x xs) _ known).1)) h
-    (subst (λ ys. Lies c.code at (instrs l k (s.Begin ∷ ys))) (append_assoc (call_steps c.program xs f es) (store ∷ []) (s.Done ∷ [])) lies) site
-calls_resumed c l k at m n xs (let_ x (Right.spawn f es)) law room known small h lies site = tt
-calls_resumed c l k at m n xs (set x (Right.value e)) law room known small h lies site = tt
-calls_resumed c l k at m n xs (set x (Right.call f es)) law room known small h lies site =
-    let store : Step = store_step c.program x (position x xs) in
-    call_resumed c l k at m n xs f es (store ∷ s.Done ∷ []) small (omega (arith, room, four_arguments c.program xs f es law (both (is_in x xs) _ known).1)) h
-    (subst (λ ys. Lies c.code at (instrs l k (s.Begin ∷ ys))) (append_assoc (call_steps c.program xs f es) (store ∷ []) (s.Done ∷ [])) lies) site
-calls_resumed c l k at m n xs (set x (Right.spawn f es)) law room known small h lies site = tt
-calls_resumed c l k at m n xs (Simple.call f es) law room known small h lies site =
-    call_resumed c l k at m n xs f es (s.Discard ∷ s.Done ∷ []) small (omega (arith, room, four_arguments c.program xs f es law known)) h lies site
-calls_resumed c l k at m n xs _ law room known small h lies site = tt
 
 -- a statement's beginning and its condition
 condition_keeps : (c : Flat) (l k at m to : ℕ) (xs : List (List ℕ)) (e : Expression) → nodes e ≤ m → depth_before c at ≡ Some 0 → depth_before c to ≡ Some 0
@@ -121,7 +103,7 @@ condition_keeps : (c : Flat) (l k at m to : ℕ) (xs : List (List ℕ)) (e : Exp
     → Each (Keeps c m) at (instrs l k (s.Begin ∷ (operand_steps c.program xs e ++ s.JumpIfZero (operand_of xs e) to ∷ [])))
 condition_keeps c l k at m to xs e small h there lies =
     steps_keep c l k at m 0 0 (s.Begin ∷ (operand_steps c.program xs e ++ s.JumpIfZero (operand_of xs e) to ∷ [])) h (condition_balanced c.program xs m to e small) lies
-    (tt, all_append (Elsewhere c k) (operand_steps c.program xs e) _ (operand_all (Elsewhere c k) (plain_elsewhere c k) c.program xs e) (there, tt))
+    (tt, all_append (Elsewhere c) (operand_steps c.program xs e) _ (operand_all (Elsewhere c) (plain_elsewhere c) c.program xs e) (there, tt))
 
 condition_depth : (c : Flat) (l k at m to : ℕ) (xs : List (List ℕ)) (e : Expression) → nodes e ≤ m → depth_before c at ≡ Some 0
     → Lies c.code at (instrs l k (s.Begin ∷ (operand_steps c.program xs e ++ s.JumpIfZero (operand_of xs e) to ∷ [])))
@@ -136,10 +118,10 @@ condition_depth c l k at m to xs e small h lies =
 -- Statements: each of their instructions, and the number behind them
 
 body_keeps : (c : Flat) (m n : ℕ) (xs : List (List ℕ)) → IsLawful c.program → n + 4 ≤ m → (at k : ℕ) (a : Body) → knows_body c.program xs a ≡ true → IsSmallBody n a
-    → Lies c.code at (body_code c.program xs at k a) → Lies c.sites k (body_sites c.program xs at a) → depth_before c at ≡ Some 0
+    → Lies c.code at (body_code c.program xs at k a) → depth_before c at ≡ Some 0
     → Each (Keeps c m) at (body_code c.program xs at k a) × (depth_before c (at + size c.program xs a) ≡ Some 0)
-body_keeps c m n xs law room at k end known small lies sites h = (tt, depth_at c at (at + 0) 0 (omega arith) h)
-body_keeps c m n xs law room at k (simple l x rest) known small lies sites h =
+body_keeps c m n xs law room at k end known small lies h = (tt, depth_at c at (at + 0) 0 (omega arith) h)
+body_keeps c m n xs law room at k (simple l x rest) known small lies h =
     let p : Source = c.program in
     let steps : List Step = simple_steps p xs x in
     let next : ℕ = at + length steps in
@@ -149,14 +131,14 @@ body_keeps c m n xs law room at k (simple l x rest) known small lies sites h =
     subst (λ i. Lies c.code i (body_code p xs next (suc k) rest)) (ap (λ i. at + i) (instrs_length l k steps)) (lies_second c.code at (instrs l k steps) (body_code p xs next (suc k) rest) lies) in
     let balanced : Balanced m 0 steps 0 = simple_balanced p xs m n x law room both_known.0 small.0 in
     let others : Each (Keeps c m) next (body_code p xs next (suc k) rest) × (depth_before c (next + size p xs rest) ≡ Some 0) =
-    body_keeps c m n xs law room next (suc k) rest both_known.1 small.1 lies_rest sites.1 (depth_over c l k at m 0 0 steps h balanced lies_first_is) in (
+    body_keeps c m n xs law room next (suc k) rest both_known.1 small.1 lies_rest (depth_over c l k at m 0 0 steps h balanced lies_first_is) in (
       each_append (Keeps c m) at next (instrs l k steps) _ (ap (λ i. at + i) (instrs_length l k steps))
           (steps_keep c l k at m 0 0 steps h balanced lies_first_is
-          (simple_all (Elsewhere c k) (plain_elsewhere c k) p xs x (calls_resumed c l k at m n xs x law room both_known.0 small.0 h lies_first_is (ap resume sites.0))))
+          (simple_all (Elsewhere c) (plain_elsewhere c) p xs x (calls_elsewhere c x)))
           others.0,
       depth_at c (next + size p xs rest) (at + size p xs (simple l x rest)) 0 (omega arith) others.1,
     )
-body_keeps c m n xs law room at k (if_ l e x y rest) known small lies sites h =
+body_keeps c m n xs law room at k (if_ l e x y rest) known small lies h =
     let p : Source = c.program in
     let before : List Step = operand_steps p xs e in
     let first : ℕ = at + (2 + length before) in
@@ -183,21 +165,13 @@ body_keeps c m n xs law room at k (if_ l e x y rest) known small lies sites h =
     let lies_done : Lies c.code last (instr l k s.Done ∷ code_rest) =
     subst (λ i. Lies c.code i (instr l k s.Done ∷ code_rest)) (ap (λ i. second + i) (code_length p xs second (suc k + place_count x) y))
     (lies_second c.code second code_y (instr l k s.Done ∷ code_rest) lies_from_y) in
-    let sites_x : Lies c.sites (suc k) (body_sites p xs first x) = lies_first c.sites (suc k) (body_sites p xs first x) (body_sites p xs second y ++ body_sites p xs (suc last) rest) sites.1 in
-    let sites_from_y : Lies c.sites (suc k + place_count x) (body_sites p xs second y ++ body_sites p xs (suc last) rest) =
-    subst (λ i. Lies c.sites i (body_sites p xs second y ++ body_sites p xs (suc last) rest)) (ap (λ i. suc k + i) (sites_length p xs first x))
-    (lies_second c.sites (suc k) (body_sites p xs first x) (body_sites p xs second y ++ body_sites p xs (suc last) rest) sites.1) in
-    let sites_y : Lies c.sites (suc k + place_count x) (body_sites p xs second y) = lies_first c.sites (suc k + place_count x) (body_sites p xs second y) (body_sites p xs (suc last) rest) sites_from_y in
-    let sites_rest : Lies c.sites (suc k + place_count x + place_count y) (body_sites p xs (suc last) rest) =
-    subst (λ i. Lies c.sites i (body_sites p xs (suc last) rest)) (ap (λ i. suc k + place_count x + i) (sites_length p xs second y))
-    (lies_second c.sites (suc k + place_count x) (body_sites p xs second y) (body_sites p xs (suc last) rest) sites_from_y) in
     let small_e : nodes e ≤ m = omega (arith, small.0, room) in
     let in_x : Each (Keeps c m) first code_x × (depth_before c (first + size p xs x) ≡ Some 0) =
-    body_keeps c m n xs law room first (suc k) x known_x.0 small.1 lies_x sites_x (condition_depth c l k at m second xs e small_e h lies_head) in
+    body_keeps c m n xs law room first (suc k) x known_x.0 small.1 lies_x (condition_depth c l k at m second xs e small_e h lies_head) in
     let at_second : depth_before c second ≡ Some 0 = depth_at c (suc (first + size p xs x)) second 0 (omega arith) (depth_next c (first + size p xs x) (instr l k (s.Jump last)) 0 lies_jump.0 in_x.1 (omega arith)) in
-    let in_y : Each (Keeps c m) second code_y × (depth_before c last ≡ Some 0) = body_keeps c m n xs law room second (suc k + place_count x) y known_y.0 small.2 lies_y sites_y at_second in
+    let in_y : Each (Keeps c m) second code_y × (depth_before c last ≡ Some 0) = body_keeps c m n xs law room second (suc k + place_count x) y known_y.0 small.2 lies_y at_second in
     let in_rest : Each (Keeps c m) (suc last) code_rest × (depth_before c (suc last + size p xs rest) ≡ Some 0) =
-    body_keeps c m n xs law room (suc last) (suc k + place_count x + place_count y) rest known_y.1 small.3 lies_done.1 sites_rest (depth_next c last (instr l k s.Done) 0 lies_done.0 in_y.1 (omega arith)) in (
+    body_keeps c m n xs law room (suc last) (suc k + place_count x + place_count y) rest known_y.1 small.3 lies_done.1 (depth_next c last (instr l k s.Done) 0 lies_done.0 in_y.1 (omega arith)) in (
       each_append (Keeps c m) at first (instrs l k head) _ (ap (λ i. at + i) (condition_length l k before s.Begin jump))
           (condition_keeps c l k at m second xs e small_e h at_second lies_head)
           (each_append (Keeps c m) first (first + size p xs x) code_x _ (ap (λ i. first + i) (code_length p xs first (suc k) x))
@@ -210,7 +184,7 @@ body_keeps c m n xs law room at k (if_ l e x y rest) known small lies sites h =
           )),
       depth_at c (suc last + size p xs rest) (at + size p xs (if_ l e x y rest)) 0 (omega arith) in_rest.1,
     )
-body_keeps c m n xs law room at k (while_ l e x rest) known small lies sites h =
+body_keeps c m n xs law room at k (while_ l e x rest) known small lies h =
     let p : Source = c.program in
     let before : List Step = operand_steps p xs e in
     let head : ℕ = at + 1 in
@@ -233,21 +207,14 @@ body_keeps c m n xs law room at k (while_ l e x rest) known small lies sites h =
     subst (λ i. Lies c.code i (instr l (suc k) (s.Edge head) ∷ instr l k s.Done ∷ code_rest)) (ap (λ i. first + i) (code_length p xs first (suc (suc k)) x))
     (lies_second c.code first code_x (instr l (suc k) (s.Edge head) ∷ instr l k s.Done ∷ code_rest) lies_from_x) in
     let lies_done : Lies c.code last (instr l k s.Done ∷ code_rest) = subst (λ i. Lies c.code i (instr l k s.Done ∷ code_rest)) (omega arith) lies_edge.1 in
-    let sites_x : Lies c.sites (suc (suc k)) (body_sites p xs first x) =
-    subst (λ i. Lies c.sites (suc (suc k)) (body_sites p xs i x)) same
-    (lies_first c.sites (suc (suc k)) (body_sites p xs place x) (body_sites p xs (suc (place + (1 + size p xs x))) rest) sites.1.1) in
-    let sites_rest : Lies c.sites (suc (suc k) + place_count x) (body_sites p xs (suc last) rest) =
-    subst (λ i. Lies c.sites (suc (suc k) + place_count x) (body_sites p xs (suc (i + (1 + size p xs x))) rest)) same
-    (subst (λ i. Lies c.sites i (body_sites p xs (suc (place + (1 + size p xs x))) rest)) (ap (λ i. suc (suc k) + i) (sites_length p xs place x))
-    (lies_second c.sites (suc (suc k)) (body_sites p xs place x) (body_sites p xs (suc (place + (1 + size p xs x))) rest) sites.1.1)) in
     let small_e : nodes e ≤ m = omega (arith, small.0, room) in
     let at_head : depth_before c head ≡ Some 0 = depth_at c (suc at) head 0 (omega arith) (depth_next c at (instr l k s.Begin) 0 lies_begin.0 h (omega arith)) in
     let in_x : Each (Keeps c m) first code_x × (depth_before c (first + size p xs x) ≡ Some 0) =
-    body_keeps c m n xs law room first (suc (suc k)) x known_x.0 small.1 lies_x sites_x (depth_at c place first 0 same (condition_depth c l k at m last xs e small_e h lies_begin)) in
+    body_keeps c m n xs law room first (suc (suc k)) x known_x.0 small.1 lies_x (depth_at c place first 0 same (condition_depth c l k at m last xs e small_e h lies_begin)) in
     let at_last : depth_before c last ≡ Some 0 = depth_at c (suc (first + size p xs x)) last 0 (omega arith) (depth_next c (first + size p xs x) (instr l (suc k) (s.Edge head)) 0 lies_edge.0 in_x.1 (omega arith)) in
     let behind : depth_before c (suc last) ≡ Some 0 = depth_next c last (instr l k s.Done) 0 lies_done.0 at_last (omega arith) in
     let in_rest : Each (Keeps c m) (suc last) code_rest × (depth_before c (suc last + size p xs rest) ≡ Some 0) =
-    body_keeps c m n xs law room (suc last) (suc (suc k) + place_count x) rest known_x.1 small.2 lies_done.1 sites_rest behind in (
+    body_keeps c m n xs law room (suc last) (suc (suc k) + place_count x) rest known_x.1 small.2 lies_done.1 behind in (
       each_append (Keeps c m) at first (instrs l k begin) _ (ap (λ i. at + i) (condition_length l k before s.Begin jump) ∙ same)
           (condition_keeps c l k at m last xs e small_e h at_last lies_begin)
           (each_append (Keeps c m) first (first + size p xs x) code_x _ (ap (λ i. first + i) (code_length p xs first (suc (suc k)) x))
@@ -269,10 +236,10 @@ starts_more c e es h f zero d g = subst (λ (q : Entrance). depth_before c q.sta
 starts_more c e es h f (suc n) d g = f n d g
 
 functions_keep : (c : Flat) (m n : ℕ) → IsLawful c.program → n + 4 ≤ m → (fs : List Function) (at place : ℕ) → AreLawfulFunctions c.program fs → AreSmallFunctions n fs
-    → Lies c.code at (functions_code c.program at place fs) → Lies c.sites place (functions_sites c.program at fs) → depth_before c at ≡ Some 0
+    → Lies c.code at (functions_code c.program at place fs) → depth_before c at ≡ Some 0
     → Each (Keeps c m) at (functions_code c.program at place fs) × AreStarts c (entrances c.program at place fs)
-functions_keep c m n law room [] at place l small code sites h = (tt, λ k e g. cc)
-functions_keep c m n law room (g ∷ gs) at place l small code sites h =
+functions_keep c m n law room [] at place l small code h = (tt, λ k e g. cc)
+functions_keep c m n law room (g ∷ gs) at place l small code h =
     let p : Source = c.program in
     let xs : List (List ℕ) = locals_of g in
     let last : ℕ = at + size p xs g.body in
@@ -280,18 +247,12 @@ functions_keep c m n law room (g ∷ gs) at place l small code sites h =
     let body : List Instr = body_code p xs at (suc place) g.body in
     let out : Instr = instr g.line (suc place + place_count g.body) s.Out in
     let more : List Instr = functions_code p (suc last) later gs in
-    let others : List Site = functions_sites p (suc last) gs in
     let length_is : at + length body ≡ last = ap (λ i. at + i) (code_length p xs at (suc place) g.body) in
     let lies_out : Lies c.code last (out ∷ more) = subst (λ i. Lies c.code i (out ∷ more)) length_is (lies_second c.code at body (out ∷ more) code) in
-    let sites_out : Lies c.sites (suc place + length (body_sites p xs at g.body)) (site g.line 0 ∷ others) =
-    lies_second c.sites (suc place) (body_sites p xs at g.body) (site g.line 0 ∷ others) sites.1 in
-    let sites_length_is : length (body_sites p xs at g.body) ≡ place_count g.body = sites_length p xs at g.body in
     let in_body : Each (Keeps c m) at body × (depth_before c last ≡ Some 0) =
-    body_keeps c m n xs law room at (suc place) g.body l.0.known small.0 (lies_first c.code at body (out ∷ more) code)
-    (lies_first c.sites (suc place) (body_sites p xs at g.body) (site g.line 0 ∷ others) sites.1) h in
+    body_keeps c m n xs law room at (suc place) g.body l.0.known small.0 (lies_first c.code at body (out ∷ more) code) h in
     let again : Each (Keeps c m) (suc last) more × AreStarts c (entrances p (suc last) later gs) =
     functions_keep c m n law room gs (suc last) later l.1 small.1 lies_out.1
-    (subst (λ i. Lies c.sites i others) (let f : suc (suc place + length (body_sites p xs at g.body)) ≡ later = omega (arith, sites_length_is) in f) sites_out.1)
     (depth_next c last out 0 lies_out.0 in_body.1 (omega arith)) in (
       each_append (Keeps c m) at last body (out ∷ more) length_is in_body.0 ((0, in_body.1, omega arith, refl), again.0),
       starts_more c (record { start = at; place = place; params = length g.params; locals = length xs }) (entrances p (suc last) later gs) h again.1,
@@ -303,8 +264,7 @@ lowered_operands p l n small =
     let c : Flat = lowered p in
     let code : List Instr = functions_code p 0 1 p.funcs in
     let all : Each (Keeps c (n + 4)) 0 code × AreStarts c (entrances p 0 1 p.funcs) =
-    functions_keep c (n + 4) n l (omega arith) p.funcs 0 1 l.functions small (lies_whole code)
-    (lies_behind (site 0 0) (functions_sites p 0 p.funcs) 0 (functions_sites p 0 p.funcs) (lies_whole (functions_sites p 0 p.funcs))) refl in
+    functions_keep c (n + 4) n l (omega arith) p.funcs 0 1 l.functions small (lies_whole code) refl in
     record {
       starts = all.1;
       instructions = λ at i h. each_at (Keeps c (n + 4)) code 0 code (lies_whole code) all.0 at i (omega arith) (let f : at < length code = slice_get_within code at i h in omega (arith, f)) h;

@@ -43,3 +43,8 @@ pub each_instrs : (P : ℕ → Instr → Type 0) (lo hi at l k : ℕ) (xs : List
 each_instrs P lo hi at l k [] from to f = tt
 each_instrs P lo hi at l k (x ∷ xs) from to f =
     (f.0 at from (omega (arith, to)), each_instrs P lo hi (suc at) l k xs (omega (arith, from)) (let d : suc at + length xs ≤ hi = omega (arith, to) in d) f.1)
+
+-- and of steps behind others
+pub each_steps : (P : ℕ → Instr → Type 0) (at l k : ℕ) (xs ys : List Step) → Each P at (instrs l k xs) → Each P (at + length xs) (instrs l k ys) → Each P at (instrs l k (xs ++ ys))
+each_steps P at l k [] ys f g = subst (λ n. Each P n (instrs l k ys)) (let e : at + 0 ≡ at = omega arith in e) g
+each_steps P at l k (x ∷ xs) ys f g = (f.0, each_steps P (suc at) l k xs ys f.1 (subst (λ n. Each P n (instrs l k ys)) (let e : at + suc (length xs) ≡ suc at + length xs = omega arith in e) g))

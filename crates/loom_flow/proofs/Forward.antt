@@ -1,5 +1,5 @@
 -- Where each instruction leads.
-use Rattle.std.proofs.Common.{ℕ, suc, zero, ◌+◌, ◌≡◌, ◌≤◌, ◌<◌, List, [], ◌∷◌, ◌++◌, Bool, true, false, Option, Some, None, option_map, refl, sym, ap, subst, ◌∙◌, map, slice_get, length, length-append, le_refl, if◌then◌else◌, ◌==◌, arith}
+use Rattle.std.proofs.Common.{ℕ, suc, zero, ◌+◌, ◌≡◌, ◌≤◌, ◌<◌, List, [], ◌∷◌, ◌++◌, Bool, true, false, Option, Some, None, option_map, refl, sym, ap, subst, ◌∙◌, map, slice_get, length, length-append, append_assoc, le_refl, if◌then◌else◌, ◌==◌, arith}
 use Rattle.std.specs.Cmp.Lexicographic.{pointwise}
 use Rattle.std.proofs.lemmas.Option.{slice_get_within}
 use Rattle.loom_tree.specs.Tree.{Expression, Right, Simple, let_, set, Body, end, simple, if_, while_, Function, Source}
@@ -10,11 +10,11 @@ use Rattle.loom_flow.specs.declared.code.Step.TheVariants as s
 use Rattle.loom_flow.specs.declared.code.Instr.{Instr}
 use Rattle.loom_flow.specs.declared.code.Entrance.{Entrance}
 use Rattle.loom_flow.specs.Flat.{Flat, resume}
-use Rattle.loom_flow.specs.Lowered.{or_zero, operand_of, operand_steps, call_steps, store_step, simple_steps, resume_of, instr, instrs, size, place_count, body_code, body_sites, entrances, lowered}
+use Rattle.loom_flow.specs.Lowered.{or_zero, operand_of, operand_steps, argument_steps, call_steps, store_step, set_steps, simple_steps, resume_of, instr, instrs, size, place_count, body_code, body_sites, entrances, lowered}
 use Rattle.loom_flow.specs.Laws.{IsInFunction, HasStart, LeadsInto, JumpsForward, KeepsFunctions}
 use Rattle.loom_flow.proofs.Lying.{Lies, lies_first, lies_second}
-use Rattle.loom_flow.proofs.Each.{all_append, Each, each_append, each_at, each_instrs, same_element}
-use Rattle.loom_flow.proofs.Plain.{is_plain, CallsSimple, operand_all, simple_all}
+use Rattle.loom_flow.proofs.Each.{all_append, Each, each_append, each_at, each_instrs, each_steps, same_element}
+use Rattle.loom_flow.proofs.Plain.{is_plain, CallsSimple, operand_all, arguments_all, simple_all}
 use Rattle.loom_flow.proofs.Sizes.{instrs_length, condition_length, code_length, sites_length}
 use Rattle.loom_flow.proofs.Simple.{IsFunction}
 use Rattle.loom_flow.proofs.EachSimple.{IsKnownSimple}
@@ -49,32 +49,59 @@ plain_leads Q c lo hi l k q s.Out e m from to = cc
 plain_leads Q c lo hi l k q (s.Return a) e m from to = tt
 plain_leads Q c lo hi l k q _ e m from to = q (suc m) (omega (arith, from)) to
 
--- where the frame goes on behind a call
-resumes : (Q : ℕ → Type 0) (c : Flat) (lo hi k at n : ℕ) → Inside Q lo hi → resume (slice_get c.sites k) ≡ at + n → lo ≤ at → at + n ≤ hi → Q (resume (slice_get c.sites k))
-resumes Q c lo hi k at n q e from to = subst Q (sym e) (q (at + n) (omega (arith, from)) to)
+-- a call, with what stands before and behind it
+call_leads : (Q : ℕ → Type 0) (c : Flat) (lo hi l k at : ℕ) (xs : List (List ℕ)) (f : List ℕ) (es : List Expression) (x : Step) (ys : List Step) → Inside Q lo hi → Starts c → IsFunction c.program f → is_plain x ≡ true
+    → ys ≡ argument_steps c.program xs es ++ s.Call (or_zero (function_number c.program f)) (length es) ∷ x ∷ s.Done ∷ []
+    → resume (slice_get c.sites k) ≡ at + (1 + length (call_steps c.program xs f es)) → lo ≤ at → at + suc (length ys) ≤ hi → Each (LeadsAt Q c) at (instrs l k (s.Begin ∷ ys))
+call_leads Q c lo hi l k at xs f es x ys q starts known plain same site from to =
+    let before : List Step = argument_steps c.program xs es in
+    let call : Step = s.Call (or_zero (function_number c.program f)) (length es) in
+    let m : ℕ = at + suc (length before) in
+    let n : length ys ≡ length before + 3 = ap length same ∙ length-append before (call ∷ x ∷ s.Done ∷ []) in
+    let d : length (call_steps c.program xs f es) ≡ length before + 1 = length-append before (call ∷ []) in
+    let resumes : resume (slice_get c.sites k) ≡ suc m = omega (arith, site, d) in
+    subst (λ zs. Each (LeadsAt Q c) at (instrs l k (s.Begin ∷ zs))) (sym same)
+    (each_steps (LeadsAt Q c) at l k (s.Begin ∷ before) (call ∷ x ∷ s.Done ∷ [])
+    (each_instrs (LeadsAt Q c) lo hi at l k (s.Begin ∷ before) from (omega (arith, n, to))
+    (plain_leads Q c lo hi l k q s.Begin refl, arguments_all (LeadsWithin Q c lo hi l k) (plain_leads Q c lo hi l k q) c.program xs es))
+    ((q (suc m) (omega (arith, from)) (omega (arith, n, to)), starts f known, resumes),
+    (plain_leads Q c lo hi l k q x plain (suc m) (omega (arith, from)) (omega (arith, n, to)),
+    (plain_leads Q c lo hi l k q s.Done refl (suc (suc m)) (omega (arith, from)) (omega (arith, n, to)), tt))))
 
-set_length : (xs : List Step) (x y z : Step) → length (x ∷ ((xs ++ y ∷ []) ++ z ∷ [])) ≡ 3 + length xs
-set_length xs x y z = let e : length (xs ++ y ∷ []) ≡ length xs + 1 = length-append xs (y ∷ []) in let f : length ((xs ++ y ∷ []) ++ z ∷ []) ≡ length (xs ++ y ∷ []) + 1 = length-append (xs ++ y ∷ []) (z ∷ []) in omega arith
+store_plain : (p : Source) (x : List ℕ) (a : Option ℕ) → is_plain (store_step p x a) ≡ true
+store_plain p x None = refl
+store_plain p x (Some j) = refl
 
-call_length : (xs : List Step) (x y z : Step) → length (x ∷ (xs ++ y ∷ z ∷ [])) ≡ 3 + length xs
-call_length xs x y z = let e : length (xs ++ y ∷ z ∷ []) ≡ length xs + 2 = length-append xs (y ∷ z ∷ []) in omega arith
+set_call_leads : (Q : ℕ → Type 0) (c : Flat) (lo hi l k at : ℕ) (xs : List (List ℕ)) (x f : List ℕ) (es : List Expression) → Inside Q lo hi → Starts c → IsFunction c.program f
+    → resume (slice_get c.sites k) ≡ at + (1 + length (call_steps c.program xs f es)) → lo ≤ at → at + length (simple_steps c.program xs (set x (Right.call f es))) ≤ hi
+    → Each (LeadsAt Q c) at (instrs l k (simple_steps c.program xs (set x (Right.call f es))))
+set_call_leads Q c lo hi l k at xs x f es q starts known site from to =
+    let before : List Step = argument_steps c.program xs es in
+    let call : Step = s.Call (or_zero (function_number c.program f)) (length es) in
+    let store : Step = store_step c.program x (position x xs) in
+    call_leads Q c lo hi l k at xs f es store (set_steps c.program xs x (Right.call f es) ++ s.Done ∷ []) q starts known (store_plain c.program x (position x xs))
+    (append_assoc (before ++ call ∷ []) (store ∷ []) (s.Done ∷ []) ∙ append_assoc before (call ∷ []) (store ∷ s.Done ∷ [])) site from to
 
-calls_lead : (Q : ℕ → Type 0) (c : Flat) (lo hi l k at : ℕ) (xs : List (List ℕ)) → Inside Q lo hi → Starts c → (x : Simple Expression) → IsKnownSimple c.program xs x
-    → resume (slice_get c.sites k) ≡ resume_of c.program xs at x → lo ≤ at → at + length (simple_steps c.program xs x) ≤ hi → CallsSimple (LeadsWithin Q c lo hi l k) c.program x
-calls_lead Q c lo hi l k at xs q starts (let_ x (Right.value e)) known site from to = tt
-calls_lead Q c lo hi l k at xs q starts (let_ x (Right.call f es)) known site from to =
-    let n : length (simple_steps c.program xs (let_ x (Right.call f es))) ≡ 3 + length (call_steps c.program xs f es) = set_length (call_steps c.program xs f es) s.Begin (store_step c.program x (position x xs)) s.Done in
-    λ m above below. (q (suc m) (omega (arith, above)) below, starts f known.1.0, resumes Q c lo hi k at (1 + length (call_steps c.program xs f es)) q site from (omega (arith, n, to)))
-calls_lead Q c lo hi l k at xs q starts (let_ x (Right.spawn f es)) known site from to = λ m above below. (q (suc m) (omega (arith, above)) below, starts f known.1.0)
-calls_lead Q c lo hi l k at xs q starts (set x (Right.value e)) known site from to = tt
-calls_lead Q c lo hi l k at xs q starts (set x (Right.call f es)) known site from to =
-    let n : length (simple_steps c.program xs (set x (Right.call f es))) ≡ 3 + length (call_steps c.program xs f es) = set_length (call_steps c.program xs f es) s.Begin (store_step c.program x (position x xs)) s.Done in
-    λ m above below. (q (suc m) (omega (arith, above)) below, starts f known.1.0, resumes Q c lo hi k at (1 + length (call_steps c.program xs f es)) q site from (omega (arith, n, to)))
-calls_lead Q c lo hi l k at xs q starts (set x (Right.spawn f es)) known site from to = λ m above below. (q (suc m) (omega (arith, above)) below, starts f known.1.0)
-calls_lead Q c lo hi l k at xs q starts (Simple.call f es) known site from to =
-    let n : length (simple_steps c.program xs (Simple.call f es)) ≡ 3 + length (call_steps c.program xs f es) = call_length (call_steps c.program xs f es) s.Begin s.Discard s.Done in
-    λ m above below. (q (suc m) (omega (arith, above)) below, starts f known.0, resumes Q c lo hi k at (1 + length (call_steps c.program xs f es)) q site from (omega (arith, n, to)))
-calls_lead Q c lo hi l k at xs q starts _ known site from to = tt
+-- a statement without a call
+other_leads : (Q : ℕ → Type 0) (c : Flat) (lo hi l k at : ℕ) (xs : List (List ℕ)) (x : Simple Expression) → Inside Q lo hi → CallsSimple (LeadsWithin Q c lo hi l k) c.program x
+    → lo ≤ at → at + length (simple_steps c.program xs x) ≤ hi → Each (LeadsAt Q c) at (instrs l k (simple_steps c.program xs x))
+other_leads Q c lo hi l k at xs x q calls from to =
+    each_instrs (LeadsAt Q c) lo hi at l k (simple_steps c.program xs x) from to (simple_all (LeadsWithin Q c lo hi l k) (plain_leads Q c lo hi l k q) c.program xs x calls)
+
+simple_leads : (Q : ℕ → Type 0) (c : Flat) (lo hi l k at : ℕ) (xs : List (List ℕ)) → Inside Q lo hi → Starts c → (x : Simple Expression) → IsKnownSimple c.program xs x
+    → resume (slice_get c.sites k) ≡ resume_of c.program xs at x → lo ≤ at → at + length (simple_steps c.program xs x) ≤ hi → Each (LeadsAt Q c) at (instrs l k (simple_steps c.program xs x))
+simple_leads Q c lo hi l k at xs q starts (let_ x (Right.call f es)) known site from to = set_call_leads Q c lo hi l k at xs x f es q starts known.1.0 site from to
+simple_leads Q c lo hi l k at xs q starts (let_ x (Right.value e)) known site from to = other_leads Q c lo hi l k at xs (let_ x (Right.value e)) q tt from to
+simple_leads Q c lo hi l k at xs q starts (let_ x (Right.spawn f es)) known site from to =
+    other_leads Q c lo hi l k at xs (let_ x (Right.spawn f es)) q (λ m above below. (q (suc m) (omega (arith, above)) below, starts f known.1.0)) from to
+simple_leads Q c lo hi l k at xs q starts (set x (Right.call f es)) known site from to = set_call_leads Q c lo hi l k at xs x f es q starts known.1.0 site from to
+simple_leads Q c lo hi l k at xs q starts (set x (Right.value e)) known site from to = other_leads Q c lo hi l k at xs (set x (Right.value e)) q tt from to
+simple_leads Q c lo hi l k at xs q starts (set x (Right.spawn f es)) known site from to =
+    other_leads Q c lo hi l k at xs (set x (Right.spawn f es)) q (λ m above below. (q (suc m) (omega (arith, above)) below, starts f known.1.0)) from to
+simple_leads Q c lo hi l k at xs q starts (Simple.call f es) known site from to =
+    call_leads Q c lo hi l k at xs f es s.Discard (call_steps c.program xs f es ++ s.Discard ∷ s.Done ∷ []) q starts known.0 refl
+    (append_assoc (argument_steps c.program xs es) (s.Call (or_zero (function_number c.program f)) (length es) ∷ []) (s.Discard ∷ s.Done ∷ [])) site from to
+simple_leads Q c lo hi l k at xs q starts x known site from to = other_leads Q c lo hi l k at xs x q tt from to
 
 -- a statement's beginning and its condition
 condition_leads : (Q : ℕ → Type 0) (c : Flat) (lo hi at l k to : ℕ) (xs : List (List ℕ)) (e : Expression) → Inside Q lo hi → lo ≤ at → at + (2 + length (operand_steps c.program xs e)) ≤ to → to ≤ hi
@@ -98,8 +125,7 @@ body_leads Q c lo hi xs q starts at k (simple l x rest) from to sites known =
     let next : ℕ = at + length steps in
     let within : at + length steps ≤ hi = omega (arith, to) in
     each_append (LeadsAt Q c) at next (instrs l k steps) _ (ap (λ m. at + m) (instrs_length l k steps))
-    (each_instrs (LeadsAt Q c) lo hi at l k steps from within
-    (simple_all (LeadsWithin Q c lo hi l k) (plain_leads Q c lo hi l k q) c.program xs x (calls_lead Q c lo hi l k at xs q starts x known.0 (ap resume sites.0) from within)))
+    (simple_leads Q c lo hi l k at xs q starts x known.0 (ap resume sites.0) from within)
     (body_leads Q c lo hi xs q starts next (suc k) rest (omega (arith, from)) (omega (arith, to)) sites.1 known.1)
 body_leads Q c lo hi xs q starts at k (if_ l e a b rest) from to sites known =
     let p : Source = c.program in
@@ -224,7 +250,7 @@ leads_into : (Q R : ℕ → Type 0) (c : Flat) (at : ℕ) (i : Instr) → ((m : 
 leads_into Q R c at i f (s.Jump to) h = (f (suc at) h.0, h.1, f to h.2)
 leads_into Q R c at i f (s.JumpIfZero a to) h = (f (suc at) h.0, h.1, f to h.2)
 leads_into Q R c at i f (s.Edge to) h = (f (suc at) h.0, f to h.1)
-leads_into Q R c at i f (s.Call g n) h = (f (suc at) h.0, h.1, f (resume (slice_get c.sites i.place)) h.2)
+leads_into Q R c at i f (s.Call g n) h = (f (suc at) h.0, h.1, h.2)
 leads_into Q R c at i f (s.Spawn g n d) h = (f (suc at) h.0, h.1)
 leads_into Q R c at i f (s.Return a) h = tt
 leads_into Q R c at i f s.Out h = tt

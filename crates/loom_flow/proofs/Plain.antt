@@ -46,7 +46,7 @@ steps_all P plain p xs d (bin o a b) =
 pub operand_all : (P : Step → Type 0) → ((x : Step) → is_plain x ≡ true → P x) → (p : Source) (xs : List (List ℕ)) (e : Expression) → AllOf P (operand_steps p xs e)
 operand_all P plain p xs e = unless_all P (operand_of xs e) _ (steps_all P plain p xs target.Push e)
 
-arguments_all : (P : Step → Type 0) → ((x : Step) → is_plain x ≡ true → P x) → (p : Source) (xs : List (List ℕ)) (es : List Expression) → AllOf P (argument_steps p xs es)
+pub arguments_all : (P : Step → Type 0) → ((x : Step) → is_plain x ≡ true → P x) → (p : Source) (xs : List (List ℕ)) (es : List Expression) → AllOf P (argument_steps p xs es)
 arguments_all P plain p xs [] = tt
 arguments_all P plain p xs (e ∷ es) = all_append P (steps_to p xs target.Push e) _ (steps_all P plain p xs target.Push e) (arguments_all P plain p xs es)
 

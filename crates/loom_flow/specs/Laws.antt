@@ -61,18 +61,18 @@ abbrev pub HasStart : Flat → ℕ → Type 0
 HasStart c f = (e : Entrance) × (slice_get c.entrances f ≡ Some e) × (e.start < length c.code)
 
 -- Instruction `at` leads into `Q` alone: to the next instruction, and by a jump to one behind it, by a back edge to any. A call or a spawn
--- begins at the start of a function, and behind a call its frame goes on in `Q`.
+-- begins at the start of a function, and behind a call the frame goes on at the next instruction.
 abbrev pub LeadsInto : (ℕ → Type 0) → Flat → ℕ → Instr → Step → Type 0
 LeadsInto Q c at i (s.Jump to) = Q (suc at) × (at < to) × Q to
 LeadsInto Q c at i (s.JumpIfZero a to) = Q (suc at) × (at < to) × Q to
 LeadsInto Q c at i (s.Edge to) = Q (suc at) × Q to
-LeadsInto Q c at i (s.Call f n) = Q (suc at) × HasStart c f × Q (resume (slice_get c.sites i.place))
+LeadsInto Q c at i (s.Call f n) = Q (suc at) × HasStart c f × (resume (slice_get c.sites i.place) ≡ suc at)
 LeadsInto Q c at i (s.Spawn f n d) = Q (suc at) × HasStart c f
 LeadsInto Q c at i (s.Return a) = Unit {0}
 LeadsInto Q c at i s.Out = Unit {0}
 LeadsInto Q c at i _ = Q (suc at)
 
--- No instruction leads out of the code, and only back edges lead back.
+-- No instruction leads out of the code, and in a frame only back edges lead back.
 abbrev pub JumpsForward : Flat → Type 0
 JumpsForward c = (at : ℕ) (i : Instr) → slice_get c.code at ≡ Some i → LeadsInto (λ to. to < length c.code) c at i i.step
 
@@ -86,16 +86,16 @@ pub record KeepsFunctions (c : Flat) : Type 0 where
 
 -- With `d` values before it, an instruction takes off no more than these, and wherever it leads as many wait as are foreseen there. What
 -- jumps, calls or returns takes off all of them: a frame begins with no values, and goes on behind a call with the result alone.
-abbrev pub KeepsDepth : Flat → ℕ → ℕ → Instr → Step → Type 0
-KeepsDepth c at d i (s.Jump to) = (d ≡ 0) × (depth_before c to ≡ Some 0)
-KeepsDepth c at d i (s.JumpIfZero a to) = (d ≡ taken a) × (depth_before c (suc at) ≡ Some 0) × (depth_before c to ≡ Some 0)
-KeepsDepth c at d i (s.Edge to) = (d ≡ 0) × (depth_before c to ≡ Some 0)
-KeepsDepth c at d i (s.Call f n) = (d ≡ n) × (depth_before c (resume (slice_get c.sites i.place)) ≡ Some 1)
-KeepsDepth c at d i (s.Return a) = d ≡ taken a
-KeepsDepth c at d i s.Out = d ≡ 0
-KeepsDepth c at d i x = (takes_off x ≤ d) × (depth_before c (suc at) ≡ Some (d - takes_off x + puts_on x))
+abbrev pub KeepsDepth : Flat → ℕ → ℕ → Step → Type 0
+KeepsDepth c at d (s.Jump to) = (d ≡ 0) × (depth_before c to ≡ Some 0)
+KeepsDepth c at d (s.JumpIfZero a to) = (d ≡ taken a) × (depth_before c (suc at) ≡ Some 0) × (depth_before c to ≡ Some 0)
+KeepsDepth c at d (s.Edge to) = (d ≡ 0) × (depth_before c to ≡ Some 0)
+KeepsDepth c at d (s.Call f n) = (d ≡ n) × (depth_before c (suc at) ≡ Some 1)
+KeepsDepth c at d (s.Return a) = d ≡ taken a
+KeepsDepth c at d s.Out = d ≡ 0
+KeepsDepth c at d x = (takes_off x ≤ d) × (depth_before c (suc at) ≡ Some (d - takes_off x + puts_on x))
 
 -- No instruction finds too few values, on whatever way it is reached, or more than `most`.
 pub record HasOperands (c : Flat) (most : ℕ) : Type 0 where
   pub starts : (n : ℕ) (e : Entrance) → slice_get c.entrances n ≡ Some e → depth_before c e.start ≡ Some 0
-  pub instructions : (at : ℕ) (i : Instr) → slice_get c.code at ≡ Some i → (d : ℕ) × (depth_before c at ≡ Some d) × (d ≤ most) × KeepsDepth c at d i i.step
+  pub instructions : (at : ℕ) (i : Instr) → slice_get c.code at ≡ Some i → (d : ℕ) × (depth_before c at ≡ Some d) × (d ≤ most) × KeepsDepth c at d i.step

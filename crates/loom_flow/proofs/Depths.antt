@@ -1,24 +1,21 @@
 -- How many values there are before each instruction.
-use Rattle.std.proofs.Common.{ℕ, suc, zero, ◌+◌, ◌-◌, ◌≡◌, ◌≤◌, ◌<◌, List, [], ◌∷◌, ◌++◌, true, false, ◌&&◌, Option, Some, None, refl, sym, ap, subst, ◌∙◌, map, take, slice_get, length, length-append, append_assoc, if◌then◌else◌, nat_le, le-leb, arith}
+use Rattle.std.proofs.Common.{ℕ, suc, zero, ◌+◌, ◌-◌, ◌≡◌, ◌≤◌, ◌<◌, List, [], ◌∷◌, ◌++◌, true, false, ◌&&◌, Option, Some, None, refl, sym, ap, subst, ◌∙◌, map, take, slice_get, length, length-append, if◌then◌else◌, nat_le, le-leb, arith}
 use Rattle.std.proofs.lemmas.Option.{slice_get_within}
 use Rattle.loom_tree.specs.Tree.{Expression, Right, Simple, let_, set, Body, end, simple, if_, while_, Function, Source}
-use Rattle.loom_lang.specs.Rules.{knows, knows_simple, knows_body, locals_of, is_in, IsLawful, AreLawfulFunctions}
-use Rattle.loom_lang.specs.Numbers.{position}
+use Rattle.loom_lang.specs.Rules.{knows, knows_simple, knows_body, locals_of, IsLawful, AreLawfulFunctions}
 use Rattle.loom_flow.specs.declared.code.Step.{Step}
 use Rattle.loom_flow.specs.declared.code.Step.TheVariants as s
 use Rattle.loom_flow.specs.declared.code.Instr.{Instr}
-use Rattle.loom_flow.specs.declared.code.Site.{Site}
 use Rattle.loom_flow.specs.declared.code.Entrance.{Entrance}
-use Rattle.loom_flow.specs.Flat.{Flat, resume}
-use Rattle.loom_flow.specs.Lowered.{operand_of, operand_steps, call_steps, store_step, simple_steps, resume_of, instr, instrs, size, place_count, body_code, body_sites, site, functions_code, functions_sites, entrances, lowered}
-use Rattle.loom_flow.specs.Depth.{taken, takes_off, puts_on, depth_after, depth_before, nodes, AreSmall, IsSmallSimple, IsSmallBody, AreSmallFunctions, IsSmall}
+use Rattle.loom_flow.specs.Flat.{Flat}
+use Rattle.loom_flow.specs.Lowered.{operand_of, operand_steps, simple_steps, instr, instrs, size, place_count, body_code, functions_code, entrances, lowered}
+use Rattle.loom_flow.specs.Depth.{taken, takes_off, puts_on, depth_after, depth_before, nodes, IsSmallBody, AreSmallFunctions, IsSmall}
 use Rattle.loom_flow.specs.Laws.{KeepsDepth, HasOperands}
-use Rattle.loom_flow.proofs.Lying.{Lies, lies_first, lies_second, lies_behind, lies_whole}
-use Rattle.loom_flow.proofs.Straight.{lies_front}
+use Rattle.loom_flow.proofs.Lying.{Lies, lies_first, lies_second, lies_whole}
 use Rattle.loom_flow.proofs.Each.{AllOf, all_append, Each, each_append, each_at, same_element}
 use Rattle.loom_flow.proofs.Plain.{is_plain, CallsRight, CallsSimple, operand_all, simple_all}
-use Rattle.loom_flow.proofs.Sizes.{instrs_length, condition_length, code_length, sites_length}
-use Rattle.loom_flow.proofs.Balanced.{Fits, fits_takes, Balanced, both, four_arguments, call_balanced, condition_balanced, simple_balanced}
+use Rattle.loom_flow.proofs.Sizes.{instrs_length, condition_length, code_length}
+use Rattle.loom_flow.proofs.Balanced.{Fits, fits_takes, Balanced, both, condition_balanced, simple_balanced}
 
 -- From an instruction to the next
 

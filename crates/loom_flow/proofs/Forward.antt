@@ -63,10 +63,13 @@ call_leads Q c lo hi l k at xs f es x ys q starts known plain same site from to 
     subst (λ zs. Each (LeadsAt Q c) at (instrs l k (s.Begin ∷ zs))) (sym same)
     (each_steps (LeadsAt Q c) at l k (s.Begin ∷ before) (call ∷ x ∷ s.Done ∷ [])
     (each_instrs (LeadsAt Q c) lo hi at l k (s.Begin ∷ before) from (omega (arith, n, to))
-    (plain_leads Q c lo hi l k q s.Begin refl, arguments_all (LeadsWithin Q c lo hi l k) (plain_leads Q c lo hi l k q) c.program xs es))
-    ((q (suc m) (omega (arith, from)) (omega (arith, n, to)), starts f known, resumes),
-    (plain_leads Q c lo hi l k q x plain (suc m) (omega (arith, from)) (omega (arith, n, to)),
-    (plain_leads Q c lo hi l k q s.Done refl (suc (suc m)) (omega (arith, from)) (omega (arith, n, to)), tt))))
+    (plain_leads Q c lo hi l k q s.Begin refl, arguments_all (LeadsWithin Q c lo hi l k) (plain_leads Q c lo hi l k q) c.program xs es)) (
+      (q (suc m) (omega (arith, from)) (omega (arith, n, to)), starts f known, resumes),
+      (
+        plain_leads Q c lo hi l k q x plain (suc m) (omega (arith, from)) (omega (arith, n, to)),
+        (plain_leads Q c lo hi l k q s.Done refl (suc (suc m)) (omega (arith, from)) (omega (arith, n, to)), tt),
+      ),
+    ))
 
 store_plain : (p : Source) (x : List ℕ) (a : Option ℕ) → is_plain (store_step p x a) ≡ true
 store_plain p x None = refl

@@ -21,7 +21,7 @@ either true b h = inl refl
 either false b h = inr h
 
 -- a call has as many arguments as a function has parameters
-few_in : (p : Source) (fs : List Function) (x : List ℕ) (n : ℕ) → AreLawfulFunctions p fs → takes fs x n ≡ true → n ≤ 4
+pub few_in : (p : Source) (fs : List Function) (x : List ℕ) (n : ℕ) → AreLawfulFunctions p fs → takes fs x n ≡ true → n ≤ 4
 few_in p [] x n l h = cc
 few_in p (f ∷ fs) x n l h =
     let few = l.0.params in

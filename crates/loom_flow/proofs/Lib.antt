@@ -1,25 +1,32 @@
 mod Arguments
+mod Balanced
 pub mod Bodies
 pub mod CallSets
 pub mod Counts
+pub mod Depths
+mod Each
 mod EachSimple
 mod Effects
 mod Expressions
+pub mod Forward
 mod Frames
 pub mod Jumps
 pub mod Kept
 pub mod Known
 mod Locals
+pub mod Located
 pub mod Lookups
 mod Lying
 mod Meeting
 mod Placed
 pub mod Places
+mod Plain
 mod Relations
 mod Roles
 mod Running
 mod Simple
 pub mod Sizes
+mod Standing
 mod Statements
 mod Steps
 mod Straight

@@ -64,7 +64,7 @@ ever_runner c t = record {
 -- Conditions
 
 -- with what begins it and jumps behind it
-condition_length : (l k : ℕ) (xs : List Step) (x y : Step) → length (instrs l k (x ∷ (xs ++ y ∷ []))) ≡ 2 + length xs
+pub condition_length : (l k : ℕ) (xs : List Step) (x y : Step) → length (instrs l k (x ∷ (xs ++ y ∷ []))) ≡ 2 + length xs
 condition_length l k xs x y = instrs_length l k (x ∷ (xs ++ y ∷ [])) ∙ (let e : length (xs ++ y ∷ []) ≡ length xs + 1 = length-append xs (y ∷ []) in omega arith)
 
 -- steps one behind another, and then any step

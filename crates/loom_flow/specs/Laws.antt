@@ -1,11 +1,16 @@
--- What flat code keeps of a program.
-use Rattle.std.specs.Prelude.{slice_get, Contains, IsBitSet, ℕ, ◌≡◌, ◌↔◌, ℤ, List, Option, Some, None, map}
+-- What flat code keeps of a program, and what its instructions keep to.
+use Rattle.std.specs.Prelude.{slice_get, Contains, IsBitSet, ℕ, suc, ◌+◌, ◌-◌, ◌≡◌, ◌≤◌, ◌<◌, ◌↔◌, ℤ, List, Option, Some, None, map, length}
 use Rattle.loom_tree.specs.Tree.{Function, Source}
-use Rattle.loom_lang.specs.Places.{Place, places, line_of_place}
+use Rattle.loom_lang.specs.Places.{Place, entry, inside, back_edge, out, places, place_at, line_of_place}
 use Rattle.loom_lang.specs.Trace.{Item, Outcome, IsTrace}
+use Rattle.loom_flow.specs.declared.code.Step.{Step}
+use Rattle.loom_flow.specs.declared.code.Step.TheVariants as s
+use Rattle.loom_flow.specs.declared.code.Instr.{Instr}
 use Rattle.loom_flow.specs.declared.code.Site.{Site}
-use Rattle.loom_flow.specs.Flat.{Flat, IsFlatTrace}
+use Rattle.loom_flow.specs.declared.code.Entrance.{Entrance}
+use Rattle.loom_flow.specs.Flat.{Flat, resume, IsFlatTrace}
 use Rattle.loom_flow.specs.Lowered.{or_zero, calls_body}
+use Rattle.loom_flow.specs.Depth.{taken, takes_off, puts_on, depth_before}
 
 -- The flat code has the traces of the tree, for every function and all arguments.
 abbrev pub HasTraces : Flat → Source → Type 0
@@ -18,3 +23,79 @@ HasPlaces c p = map (λ (s : Site). s.line) c.sites ≡ map (line_of_place p) (p
 -- Bit `g` of the set of function `f` is set exactly where a call of `g` stands in the body of `f`.
 abbrev pub HasCalls : Flat → Source → Type 0
 HasCalls c p = (f : ℕ) (h : Function) (g : ℕ) → slice_get p.funcs f ≡ Some h → IsBitSet (or_zero (slice_get c.calls f)) g ↔ Contains (calls_body p h.body) g
+
+-- Functions
+
+abbrev pub start_or : ℕ → Option Entrance → ℕ
+start_or n None = n
+start_or n (Some e) = e.start
+
+-- Instruction `at` is one of function `n`: it stands from the function's start on, and before the start of the next one or the end of the
+-- code.
+pub record IsInFunction (c : Flat) (n at : ℕ) : Type 0 where
+  pub entrance : Entrance
+  pub there : slice_get c.entrances n ≡ Some entrance
+  pub from : entrance.start ≤ at
+  pub before : at < start_or (length c.code) (slice_get c.entrances (suc n))
+
+-- Places
+
+-- The place of an instruction of function `n`: the loop's back edge, the end of the function, or the statement's own place.
+abbrev pub place_of : ℕ → ℕ → Step → Place
+place_of n line (s.Edge to) = back_edge line
+place_of n line s.Out = out n
+place_of n line _ = inside line
+
+-- Each instruction has its place and the line of that, and each entrance has its place.
+pub record HasInstructionPlaces (c : Flat) (p : Source) : Type 0 where
+  -- each instruction is one of a function
+  pub functions : (at : ℕ) → at < length c.code → (n : ℕ) × IsInFunction c n at
+  pub instructions : (n at : ℕ) (i : Instr) → IsInFunction c n at → slice_get c.code at ≡ Some i
+      → (place_at p i.place ≡ Some (place_of n i.line i.step)) × (line_of_place p (place_of n i.line i.step) ≡ i.line)
+  pub entrances : (n : ℕ) (e : Entrance) → slice_get c.entrances n ≡ Some e → place_at p e.place ≡ Some (entry n)
+
+-- Where an instruction leads
+
+-- The function has an entrance, and an instruction stands there.
+abbrev pub HasStart : Flat → ℕ → Type 0
+HasStart c f = (e : Entrance) × (slice_get c.entrances f ≡ Some e) × (e.start < length c.code)
+
+-- Instruction `at` leads into `Q` alone: to the next instruction, and by a jump to one behind it, by a back edge to any. A call or a spawn
+-- begins at the start of a function, and behind a call the frame goes on at the next instruction.
+abbrev pub LeadsInto : (ℕ → Type 0) → Flat → ℕ → Instr → Step → Type 0
+LeadsInto Q c at i (s.Jump to) = Q (suc at) × (at < to) × Q to
+LeadsInto Q c at i (s.JumpIfZero a to) = Q (suc at) × (at < to) × Q to
+LeadsInto Q c at i (s.Edge to) = Q (suc at) × Q to
+LeadsInto Q c at i (s.Call f n) = Q (suc at) × HasStart c f × (resume (slice_get c.sites i.place) ≡ suc at)
+LeadsInto Q c at i (s.Spawn f n d) = Q (suc at) × HasStart c f
+LeadsInto Q c at i (s.Return a) = Unit {0}
+LeadsInto Q c at i s.Out = Unit {0}
+LeadsInto Q c at i _ = Q (suc at)
+
+-- No instruction leads out of the code, and in a frame only back edges lead back.
+abbrev pub JumpsForward : Flat → Type 0
+JumpsForward c = (at : ℕ) (i : Instr) → slice_get c.code at ≡ Some i → LeadsInto (λ to. to < length c.code) c at i i.step
+
+-- None leads out of its function.
+pub record KeepsFunctions (c : Flat) : Type 0 where
+  pub inside : (n at : ℕ) → IsInFunction c n at → at < length c.code
+  pub starts : (n : ℕ) (e : Entrance) → slice_get c.entrances n ≡ Some e → IsInFunction c n e.start
+  pub instructions : (n at : ℕ) (i : Instr) → IsInFunction c n at → slice_get c.code at ≡ Some i → LeadsInto (IsInFunction c n) c at i i.step
+
+-- Values
+
+-- With `d` values before it, an instruction takes off no more than these, and wherever it leads as many wait as are foreseen there. What
+-- jumps, calls or returns takes off all of them: a frame begins with no values, and goes on behind a call with the result alone.
+abbrev pub KeepsDepth : Flat → ℕ → ℕ → Step → Type 0
+KeepsDepth c at d (s.Jump to) = (d ≡ 0) × (depth_before c to ≡ Some 0)
+KeepsDepth c at d (s.JumpIfZero a to) = (d ≡ taken a) × (depth_before c (suc at) ≡ Some 0) × (depth_before c to ≡ Some 0)
+KeepsDepth c at d (s.Edge to) = (d ≡ 0) × (depth_before c to ≡ Some 0)
+KeepsDepth c at d (s.Call f n) = (d ≡ n) × (depth_before c (suc at) ≡ Some 1)
+KeepsDepth c at d (s.Return a) = d ≡ taken a
+KeepsDepth c at d s.Out = d ≡ 0
+KeepsDepth c at d x = (takes_off x ≤ d) × (depth_before c (suc at) ≡ Some (d - takes_off x + puts_on x))
+
+-- No instruction finds too few values, on whatever way it is reached, or more than `most`.
+pub record HasOperands (c : Flat) (most : ℕ) : Type 0 where
+  pub starts : (n : ℕ) (e : Entrance) → slice_get c.entrances n ≡ Some e → depth_before c e.start ≡ Some 0
+  pub instructions : (at : ℕ) (i : Instr) → slice_get c.code at ≡ Some i → (d : ℕ) × (depth_before c at ≡ Some d) × (d ≤ most) × KeepsDepth c at d i.step

@@ -1,5 +1,6 @@
 pub mod Flat
 pub mod Lowered
+pub mod Depth
 pub mod Laws
 pub mod Counted
 pub mod Code

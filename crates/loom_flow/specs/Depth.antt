@@ -1,0 +1,103 @@
+-- How many values there are before and behind instructions.
+use Rattle.std.specs.Prelude.{ℕ, suc, ◌+◌, ◌-◌, ◌≤◌, nat_le, List, [], ◌∷◌, Option, Some, None, map, take, if◌then◌else◌}
+use Rattle.loom_tree.specs.Tree.{Expression, num, var, cell, neg, inverse, bin, Right, Simple, let_, set, set_cell, return, Body, end, simple, if_, while_, Function, Source}
+use Rattle.loom_tree.specs.Tree as tree
+use Rattle.loom_flow.specs.declared.code.Operand.{Operand}
+use Rattle.loom_flow.specs.declared.code.Operand.TheVariants as o
+use Rattle.loom_flow.specs.declared.code.Target.{Target}
+use Rattle.loom_flow.specs.declared.code.Target.TheVariants as t
+use Rattle.loom_flow.specs.declared.code.Step.{Step}
+use Rattle.loom_flow.specs.declared.code.Step.TheVariants as s
+use Rattle.loom_flow.specs.declared.code.Instr.{Instr}
+use Rattle.loom_flow.specs.Flat.{Flat}
+
+-- how many values an operand takes off, and how many a target puts on
+abbrev pub taken : Operand → ℕ
+taken o.Top = 1
+taken _ = 0
+
+abbrev pub put : Target → ℕ
+put t.Push = 1
+put (t.Local x) = 0
+
+abbrev pub takes_off : Step → ℕ
+takes_off (s.Move a d) = taken a
+takes_off (s.ReadCell a n d) = taken n
+takes_off (s.Negate a d) = taken a
+takes_off (s.Invert a d) = taken a
+takes_off (s.Apply o a b d) = taken a + taken b
+takes_off (s.Write w a) = taken a
+takes_off (s.WriteCell a n b) = taken n + taken b
+takes_off (s.Join a) = taken a
+takes_off (s.Print a) = taken a
+takes_off (s.Spawn f n d) = n
+takes_off (s.Call f n) = n
+takes_off s.Discard = 1
+takes_off (s.Return a) = taken a
+takes_off (s.JumpIfZero a to) = taken a
+takes_off _ = 0
+
+-- a call puts on its result
+abbrev pub puts_on : Step → ℕ
+puts_on (s.Move a d) = put d
+puts_on (s.Read w d) = put d
+puts_on (s.ReadCell a n d) = put d
+puts_on (s.Negate a d) = put d
+puts_on (s.Invert a d) = put d
+puts_on (s.Apply o a b d) = put d
+puts_on (s.Spawn f n d) = put d
+puts_on (s.Call f n) = 1
+puts_on _ = 0
+
+-- how many values there are behind these steps, where none takes off more than there are
+abbrev pub depth_after : ℕ → List Step → Option ℕ
+depth_after d [] = Some d
+depth_after d (x ∷ xs) = if nat_le (takes_off x) d then depth_after (d - takes_off x + puts_on x) xs else None
+
+-- how many there are before the instruction of this number, where the code is gone through from its first instruction to its last
+abbrev pub depth_before : Flat → ℕ → Option ℕ
+depth_before c at = depth_after 0 (map (λ (i : Instr). i.step) (take at c.code))
+
+-- Expressions
+
+abbrev pub nodes : Expression → ℕ
+nodes (num n) = 1
+nodes (var x) = 1
+nodes (cell x i) = suc (nodes i)
+nodes (neg a) = suc (nodes a)
+nodes (inverse a) = suc (nodes a)
+nodes (bin o a b) = suc (nodes a + nodes b)
+
+-- Each expression of a program has at most so many nodes.
+
+abbrev pub AreSmall : ℕ → List Expression → Type 0
+AreSmall n [] = Unit {0}
+AreSmall n (e ∷ es) = (nodes e ≤ n) × AreSmall n es
+
+abbrev pub IsSmallRight : ℕ → Right Expression → Type 0
+IsSmallRight n (Right.value e) = nodes e ≤ n
+IsSmallRight n (Right.call f es) = AreSmall n es
+IsSmallRight n (Right.spawn f es) = AreSmall n es
+
+abbrev pub IsSmallSimple : ℕ → Simple Expression → Type 0
+IsSmallSimple n (let_ x r) = IsSmallRight n r
+IsSmallSimple n (set x r) = IsSmallRight n r
+IsSmallSimple n (set_cell x i e) = (nodes i ≤ n) × (nodes e ≤ n)
+IsSmallSimple n (Simple.call f es) = AreSmall n es
+IsSmallSimple n (return (Some e)) = nodes e ≤ n
+IsSmallSimple n (tree.join e) = nodes e ≤ n
+IsSmallSimple n (tree.print e) = nodes e ≤ n
+IsSmallSimple n _ = Unit {0}
+
+abbrev pub IsSmallBody : ℕ → Body → Type 0
+IsSmallBody n end = Unit {0}
+IsSmallBody n (simple l x rest) = IsSmallSimple n x × IsSmallBody n rest
+IsSmallBody n (if_ l e a b rest) = (nodes e ≤ n) × IsSmallBody n a × IsSmallBody n b × IsSmallBody n rest
+IsSmallBody n (while_ l e a rest) = (nodes e ≤ n) × IsSmallBody n a × IsSmallBody n rest
+
+abbrev pub AreSmallFunctions : ℕ → List Function → Type 0
+AreSmallFunctions n [] = Unit {0}
+AreSmallFunctions n (f ∷ fs) = IsSmallBody n f.body × AreSmallFunctions n fs
+
+abbrev pub IsSmall : ℕ → Source → Type 0
+IsSmall n p = AreSmallFunctions n p.funcs

@@ -6,3 +6,4 @@ pub mod Lookups
 pub mod Known
 pub mod Bodies
 pub mod Jumps
+pub mod Functions

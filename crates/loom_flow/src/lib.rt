@@ -6,5 +6,6 @@ mod calls;
 pub mod code;
 mod expression;
 pub mod flow;
+pub mod lower;
 mod numbers;
 mod statement;

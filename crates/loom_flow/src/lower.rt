@@ -1,0 +1,59 @@
+//! From a program to its flat code.
+ghost use Rattle.std.specs.Prelude.{◌≡◌, ◌<◌, ◌≤◌, ◌+◌, ◌∷◌, ◌++◌, [], true, OnOk, IfOk, length};
+ghost use Rattle.loom_tree.specs.Tree.{body_of, function_of};
+ghost use Rattle.loom_lang.specs.Rules.{IsLawfulFunction, locals_of};
+ghost use Rattle.loom_flow.specs.Laws.{HasPlaces, HasCalls};
+ghost use Rattle.loom_flow.specs.Lowered.{place_count, functions_code, functions_sites};
+
+use crate::block::body;
+use crate::calls::with_body;
+use crate::code::{Entrance, Instr, Site, Step};
+use crate::expression::push;
+use crate::flow::Flow;
+use crate::numbers::Scope;
+use crate::statement::{next, put_site, spot_of};
+use loom_lang::program::Program;
+use loom_lang::walk::locals;
+use loom_tree::name::NoMemory;
+use loom_tree::statement::{Func, Names};
+use std::alloc::Global;
+
+/// Where the function stands that is put next.
+fn entrance(
+    code: &[Instr],
+    sites: &[Site],
+    scope: &Scope,
+    f: &Func,
+) -> Result<Entrance, NoMemory>
+    requires room { length sites.now < 65536 }
+    requires params { length f.now.params ≤ 4 }
+    ensures { IfOk result (λ e. e ≡ record { start = length code.now; place = length sites.now; params = length f.now.params; locals = length scope.now.locals }) }
+{
+    Ok(Entrance {
+        start: next(code)?,
+        place: sites.len() as u16,
+        params: f.params.0.len() as u8,
+        locals: scope.locals.0.len() as u8,
+    })
+}
+
+/// The instructions and the places of a function.
+fn put_function(
+    code: &mut Vec<Instr>,
+    sites: &mut Vec<Site>,
+    scope: &Scope,
+    f: &Func,
+) -> Result<(), NoMemory>
+    requires locals { scope.now.locals ≡ locals_of (function_of f.now) }
+    requires lawful { IsLawfulFunction scope.now.program (function_of f.now) }
+    requires room { length sites.old.items + (2 + place_count (body_of f.now.body)) ≤ 65536 }
+    ensures code { OnOk result (code.new.items ≡ code.old.items ++ functions_code scope.now.program (length code.old.items) (length sites.old.items) (function_of f.now ∷ [])) }
+    ensures sites { OnOk result (sites.new.items ≡ sites.old.items ++ functions_sites scope.now.program (length code.old.items) (function_of f.now ∷ [])) }
+{
+    put_site(sites, f.line, 0)?;
+    body(code, sites, scope, &f.body)?;
+    let out = spot_of(sites, f.line);
+    push(code, out, Step::Out)?;
+    put_site(sites, f.line, 0)?;
+    Ok(())
+}

@@ -3,7 +3,7 @@ ghost use Rattle.std.specs.Prelude.{◌≡◌, ◌<◌, ◌≤◌, ◌+◌, ◌�
 ghost use Rattle.loom_tree.specs.Tree.{body_of, function_of};
 ghost use Rattle.loom_lang.specs.Rules.{IsLawfulFunction, locals_of};
 ghost use Rattle.loom_flow.specs.Laws.{HasPlaces, HasCalls};
-ghost use Rattle.loom_flow.specs.Lowered.{place_count, functions_code, functions_sites};
+ghost use Rattle.loom_flow.specs.Lowered.{place_count, functions_code, functions_sites, entrances, calls_body, set_of};
 
 use crate::block::body;
 use crate::calls::with_body;
@@ -55,5 +55,37 @@ fn put_function(
     let out = spot_of(sites, f.line);
     push(code, out, Step::Out)?;
     put_site(sites, f.line, 0)?;
+    Ok(())
+}
+
+/// The lists of flat code, as far as they are made.
+#[derive(Drop)]
+struct Made {
+    code: Vec<Instr>,
+    sites: Vec<Site>,
+    entrances: Vec<Entrance>,
+    calls: Vec<u64>,
+}
+
+/// The next function.
+fn put(
+    alloc: Global,
+    made: &mut Made,
+    scope: &mut Scope,
+    f: &Func,
+) -> Result<(), NoMemory>
+    requires lawful { IsLawfulFunction scope.old.program (function_of f.now) }
+    requires room { length made.old.sites.items + (2 + place_count (body_of f.now.body)) ≤ 65536 }
+    ensures program { OnOk result (scope.new.program ≡ scope.old.program) }
+    ensures code { OnOk result (made.new.code.items ≡ made.old.code.items ++ functions_code scope.old.program (length made.old.code.items) (length made.old.sites.items) (function_of f.now ∷ [])) }
+    ensures sites { OnOk result (made.new.sites.items ≡ made.old.sites.items ++ functions_sites scope.old.program (length made.old.code.items) (function_of f.now ∷ [])) }
+    ensures entrances { OnOk result (made.new.entrances.items ≡ made.old.entrances.items ++ entrances scope.old.program (length made.old.code.items) (length made.old.sites.items) (function_of f.now ∷ [])) }
+    ensures calls { OnOk result (made.new.calls.items ≡ made.old.calls.items ++ set_of 0 (calls_body scope.old.program (body_of f.now.body)) ∷ []) }
+{
+    scope.locals = locals(alloc, f)?;
+    made.calls.push(with_body(scope, 0, &f.body))?;
+    let entrance = entrance(&made.code, &made.sites, scope, f)?;
+    made.entrances.push(entrance)?;
+    put_function(&mut made.code, &mut made.sites, scope, f)?;
     Ok(())
 }

@@ -1,9 +1,9 @@
 //! From a program to its flat code.
 ghost use Rattle.std.specs.Prelude.{◌≡◌, ◌<◌, ◌≤◌, ◌+◌, ◌∷◌, ◌++◌, [], true, OnOk, IfOk, length};
-ghost use Rattle.loom_tree.specs.Tree.{body_of, function_of};
-ghost use Rattle.loom_lang.specs.Rules.{IsLawfulFunction, locals_of};
+ghost use Rattle.loom_tree.specs.Tree.{body_of, function_of, functions_of};
+ghost use Rattle.loom_lang.specs.Rules.{IsLawful, IsLawfulFunction, locals_of};
 ghost use Rattle.loom_flow.specs.Laws.{HasPlaces, HasCalls};
-ghost use Rattle.loom_flow.specs.Lowered.{place_count, functions_code, functions_sites, entrances, calls_body, set_of};
+ghost use Rattle.loom_flow.specs.Lowered.{place_count, functions_code, functions_sites, entrances, calls_body, set_of, lowered};
 
 use crate::block::body;
 use crate::calls::with_body;
@@ -88,4 +88,26 @@ fn put(
     made.entrances.push(entrance)?;
     put_function(&mut made.code, &mut made.sites, scope, f)?;
     Ok(())
+}
+
+fn put_all(alloc: Global, scope: &mut Scope, funcs: &[Func]) -> Result<Made, NoMemory>
+    requires funcs { functions_of funcs.now ≡ scope.old.program.funcs }
+    requires lawful { IsLawful scope.old.program }
+    ensures program { OnOk result (scope.new.program ≡ scope.old.program) }
+    ensures code { IfOk result (λ m. m.code.items ≡ (lowered scope.old.program).code) }
+    ensures sites { IfOk result (λ m. m.sites.items ≡ (lowered scope.old.program).sites) }
+    ensures entrances { IfOk result (λ m. m.entrances.items ≡ (lowered scope.old.program).entrances) }
+    ensures calls { IfOk result (λ m. m.calls.items ≡ (lowered scope.old.program).calls) }
+{
+    let mut made = Made {
+        code: Vec::new(alloc),
+        sites: Vec::new(alloc),
+        entrances: Vec::new(alloc),
+        calls: Vec::new(alloc),
+    };
+    put_site(&mut made.sites, 0, 0)?;
+    'put: for f in funcs {
+        put(alloc, &mut made, scope, f)?;
+    }
+    Ok(made)
 }

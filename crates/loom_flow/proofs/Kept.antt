@@ -19,6 +19,16 @@ has_places c h = let P : Flat → Type 0 = λ z. HasPlaces z c.program in subst 
 pub has_calls : (c : Flat) → IsLowered c → HasCalls c c.program
 has_calls c h = let P : Flat → Type 0 = λ z. HasCalls z c.program in subst P (sym h.is) (lowered_calls c.program)
 
+-- the same, at a program that is that of the flat code
+
+pub places_of : (c : Flat) (p : Source) → IsLowered c → c.program ≡ p → HasPlaces c p
+places_of c p h e = let P : Source → Type 0 = λ q. HasPlaces c q in subst P e (has_places c h)
+
+pub calls_of : (c : Flat) (p : Source) → IsLowered c → c.program ≡ p → HasCalls c p
+calls_of c p h e = let P : Source → Type 0 = λ q. HasCalls c q in subst P e (has_calls c h)
+
+-- the accessors of `Flow`
+
 pub as_many_sites : (c : Flat) → IsLowered c → length c.sites ≡ length (places c.program)
 as_many_sites c h = sym (length-map c.sites (λ (s : Site). s.line)) ∙ ap length (has_places c h) ∙ length-map (places c.program) (line_of_place c.program)
 

@@ -41,7 +41,8 @@ impl Flow {
         calls: Vec<u64>,
     ) -> Flow
         requires { IsLowered (record { program = program; code = code.items; sites = sites.items; entrances = entrances.items; calls = calls.items }) }
-        ensures { result ≡ record { program = program; code = code.items; sites = sites.items; entrances = entrances.items; calls = calls.items } }
+        ensures flat { result ≡ record { program = program; code = code.items; sites = sites.items; entrances = entrances.items; calls = calls.items } }
+        ensures lowered { IsLowered result }
     {
         Flow {
             program,

@@ -111,3 +111,23 @@ fn put_all(alloc: Global, scope: &mut Scope, funcs: &[Func]) -> Result<Made, NoM
     }
     Ok(made)
 }
+
+/// The flat code of a program. It has the places of the program, and the calls of its functions. An `Err` is want of memory.
+#[tactic(auto, using(crate::proofs::Kept::places_of, crate::proofs::Kept::calls_of))]
+pub fn lower(alloc: Global, p: &Program) -> Result<Flow, NoMemory>
+    ensures program { IfOk result (λ c. c.program ≡ p.now) }
+    ensures places { IfOk result (λ c. HasPlaces c p.now) }
+    ensures calls { IfOk result (λ c. HasCalls c p.now) }
+{
+    let mut scope = Scope {
+        program: p.copied(alloc)?,
+        locals: Names(Vec::new(alloc)),
+    };
+    let Made {
+        code,
+        sites,
+        entrances,
+        calls,
+    } = put_all(alloc, &mut scope, &p.funcs().0)?;
+    Ok(Flow::new(scope.program, code, sites, entrances, calls))
+}

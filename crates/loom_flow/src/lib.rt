@@ -1,4 +1,6 @@
 //! Flat code of programs.
+//!
+//! `lower` makes it, and `Flow` holds it with its program. What it means stands in `specs/Flat.antt`.
 #![tactic(auto)]
 
 mod block;
@@ -9,3 +11,5 @@ pub mod flow;
 pub mod lower;
 mod numbers;
 mod statement;
+#[cfg(test)]
+mod tests;

@@ -19,12 +19,7 @@ use loom_tree::statement::{Func, Names};
 use std::alloc::Global;
 
 /// Where the function stands that is put next.
-fn entrance(
-    code: &[Instr],
-    sites: &[Site],
-    scope: &Scope,
-    f: &Func,
-) -> Result<Entrance, NoMemory>
+fn entrance(code: &[Instr], sites: &[Site], scope: &Scope, f: &Func) -> Result<Entrance, NoMemory>
     requires room { length sites.now < 65536 }
     requires params { length f.now.params ≤ 4 }
     ensures { IfOk result (λ e. e ≡ record { start = length code.now; place = length sites.now; params = length f.now.params; locals = length scope.now.locals }) }
@@ -68,12 +63,7 @@ struct Made {
 }
 
 /// The next function.
-fn put(
-    alloc: Global,
-    made: &mut Made,
-    scope: &mut Scope,
-    f: &Func,
-) -> Result<(), NoMemory>
+fn put(alloc: Global, made: &mut Made, scope: &mut Scope, f: &Func) -> Result<(), NoMemory>
     requires lawful { IsLawfulFunction scope.old.program (function_of f.now) }
     requires room { length made.old.sites.items + (2 + place_count (body_of f.now.body)) ≤ 65536 }
     ensures program { OnOk result (scope.new.program ≡ scope.old.program) }

@@ -27,8 +27,8 @@ moved_code p names b at at' place place' h g = ap (λ n. body_code p names n pla
 simple_splits : (p : Source) (names : List (List ℕ)) (l : ℕ) (x : Simple Expression) (rest : Body) → Splits p names (simple l x end) rest (simple l x rest)
 simple_splits p names l x rest = record {
   code = λ at place.
-    ap (λ z. instrs l place (simple_steps p names x) ++ z) (moved_code p names rest (at + length (simple_steps p names x)) (at + (length (simple_steps p names x) + 0)) (suc place) (place + 1) (omega arith) (omega arith))
-    ∙ ap (λ z. z ++ body_code p names (at + (length (simple_steps p names x) + 0)) (place + 1) rest) (sym (append-nil (instrs l place (simple_steps p names x))));
+      ap (λ z. instrs l place (simple_steps p names x) ++ z) (moved_code p names rest (at + length (simple_steps p names x)) (at + (length (simple_steps p names x) + 0)) (suc place) (place + 1) (omega arith) (omega arith))
+      ∙ ap (λ z. z ++ body_code p names (at + (length (simple_steps p names x) + 0)) (place + 1) rest) (sym (append-nil (instrs l place (simple_steps p names x))));
   sites = λ at. ap (λ n. body_sites p names at (simple l x end) ++ body_sites p names n rest) (let P : at + length (simple_steps p names x) ≡ at + (length (simple_steps p names x) + 0) = omega arith in P);
   count = omega arith;
   some = omega arith;
@@ -57,23 +57,23 @@ while_count l e a rest = let one = length-append (body_places a) (body_places re
 if_splits : (p : Source) (names : List (List ℕ)) (l : ℕ) (e : Expression) (a b rest : Body) → Splits p names (if_ l e a b end) rest (if_ l e a b rest)
 if_splits p names l e a b rest = record {
   code = λ at place.
-    let first : ℕ = at + (2 + length (operand_steps p names e)) in
-    let second : ℕ = first + (1 + size p names a) in
-    let done : ℕ = second + size p names b in
-    let test : List Instr = instrs l place (s.Begin ∷ (operand_steps p names e ++ s.JumpIfZero (operand_of names e) second ∷ [])) in
-    let cs : List Instr = body_code p names first (suc place) a in
-    let bs : List Instr = body_code p names second (suc place + place_count a) b in
-    let many = if_count l e a b end in
-    let places : suc place + place_count a + place_count b ≡ place + place_count (if_ l e a b end) = omega arith in
-    ap (λ z. test ++ (cs ++ instr l place (s.Jump done) ∷ (bs ++ instr l place s.Done ∷ z))) (moved_code p names rest (suc done) (at + size p names (if_ l e a b end)) _ _ (omega arith) places)
-    ∙ choice_split test cs bs (body_code p names (at + size p names (if_ l e a b end)) (place + place_count (if_ l e a b end)) rest) (instr l place (s.Jump done)) (instr l place s.Done);
+      let first : ℕ = at + (2 + length (operand_steps p names e)) in
+      let second : ℕ = first + (1 + size p names a) in
+      let done : ℕ = second + size p names b in
+      let test : List Instr = instrs l place (s.Begin ∷ (operand_steps p names e ++ s.JumpIfZero (operand_of names e) second ∷ [])) in
+      let cs : List Instr = body_code p names first (suc place) a in
+      let bs : List Instr = body_code p names second (suc place + place_count a) b in
+      let many = if_count l e a b end in
+      let places : suc place + place_count a + place_count b ≡ place + place_count (if_ l e a b end) = omega arith in
+      ap (λ z. test ++ (cs ++ instr l place (s.Jump done) ∷ (bs ++ instr l place s.Done ∷ z))) (moved_code p names rest (suc done) (at + size p names (if_ l e a b end)) _ _ (omega arith) places)
+      ∙ choice_split test cs bs (body_code p names (at + size p names (if_ l e a b end)) (place + place_count (if_ l e a b end)) rest) (instr l place (s.Jump done)) (instr l place s.Done);
   sites = λ at.
-    let first : ℕ = at + (2 + length (operand_steps p names e)) in
-    let second : ℕ = first + (1 + size p names a) in
-    let done : ℕ = second + size p names b in
-    let behind : suc done ≡ at + size p names (if_ l e a b end) = omega arith in
-    ap (λ n. site l 0 ∷ (body_sites p names first a ++ (body_sites p names second b ++ body_sites p names n rest))) behind
-    ∙ ap (λ z. site l 0 ∷ z) (two_split (body_sites p names first a) (body_sites p names second b) (body_sites p names (at + size p names (if_ l e a b end)) rest));
+      let first : ℕ = at + (2 + length (operand_steps p names e)) in
+      let second : ℕ = first + (1 + size p names a) in
+      let done : ℕ = second + size p names b in
+      let behind : suc done ≡ at + size p names (if_ l e a b end) = omega arith in
+      ap (λ n. site l 0 ∷ (body_sites p names first a ++ (body_sites p names second b ++ body_sites p names n rest))) behind
+      ∙ ap (λ z. site l 0 ∷ z) (two_split (body_sites p names first a) (body_sites p names second b) (body_sites p names (at + size p names (if_ l e a b end)) rest));
   count = let whole = if_count l e a b rest in let alone = if_count l e a b end in omega arith;
   some = omega arith;
 }
@@ -81,21 +81,21 @@ if_splits p names l e a b rest = record {
 while_splits : (p : Source) (names : List (List ℕ)) (l : ℕ) (e : Expression) (a rest : Body) → Splits p names (while_ l e a end) rest (while_ l e a rest)
 while_splits p names l e a rest = record {
   code = λ at place.
-    let head : ℕ = at + 1 in
-    let first : ℕ = head + (1 + length (operand_steps p names e)) in
-    let done : ℕ = first + (1 + size p names a) in
-    let test : List Instr = instrs l place (s.Begin ∷ (operand_steps p names e ++ s.JumpIfZero (operand_of names e) done ∷ [])) in
-    let cs : List Instr = body_code p names first (suc (suc place)) a in
-    let many = while_count l e a end in
-    let places : suc (suc place) + place_count a ≡ place + place_count (while_ l e a end) = omega arith in
-    ap (λ z. test ++ (cs ++ instr l (suc place) (s.Edge head) ∷ instr l place s.Done ∷ z)) (moved_code p names rest (suc done) (at + size p names (while_ l e a end)) _ _ (omega arith) places)
-    ∙ loop_split test cs (body_code p names (at + size p names (while_ l e a end)) (place + place_count (while_ l e a end)) rest) (instr l (suc place) (s.Edge head)) (instr l place s.Done);
+      let head : ℕ = at + 1 in
+      let first : ℕ = head + (1 + length (operand_steps p names e)) in
+      let done : ℕ = first + (1 + size p names a) in
+      let test : List Instr = instrs l place (s.Begin ∷ (operand_steps p names e ++ s.JumpIfZero (operand_of names e) done ∷ [])) in
+      let cs : List Instr = body_code p names first (suc (suc place)) a in
+      let many = while_count l e a end in
+      let places : suc (suc place) + place_count a ≡ place + place_count (while_ l e a end) = omega arith in
+      ap (λ z. test ++ (cs ++ instr l (suc place) (s.Edge head) ∷ instr l place s.Done ∷ z)) (moved_code p names rest (suc done) (at + size p names (while_ l e a end)) _ _ (omega arith) places)
+      ∙ loop_split test cs (body_code p names (at + size p names (while_ l e a end)) (place + place_count (while_ l e a end)) rest) (instr l (suc place) (s.Edge head)) (instr l place s.Done);
   sites = λ at.
-    let first : ℕ = at + (2 + length (operand_steps p names e)) in
-    let done : ℕ = first + (1 + size p names a) in
-    let behind : suc done ≡ at + size p names (while_ l e a end) = omega arith in
-    ap (λ n. site l 0 ∷ site l 0 ∷ (body_sites p names first a ++ body_sites p names n rest)) behind
-    ∙ ap (λ z. site l 0 ∷ site l 0 ∷ (z ++ body_sites p names (at + size p names (while_ l e a end)) rest)) (sym (append-nil (body_sites p names first a)));
+      let first : ℕ = at + (2 + length (operand_steps p names e)) in
+      let done : ℕ = first + (1 + size p names a) in
+      let behind : suc done ≡ at + size p names (while_ l e a end) = omega arith in
+      ap (λ n. site l 0 ∷ site l 0 ∷ (body_sites p names first a ++ body_sites p names n rest)) behind
+      ∙ ap (λ z. site l 0 ∷ site l 0 ∷ (z ++ body_sites p names (at + size p names (while_ l e a end)) rest)) (sym (append-nil (body_sites p names first a)));
   count = let whole = while_count l e a rest in let alone = while_count l e a end in omega arith;
   some = omega arith;
 }

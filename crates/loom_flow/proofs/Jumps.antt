@@ -127,7 +127,7 @@ if_code p names l place e a b o at over second done first_place second_place old
     let ran_long : length ran ≡ length tested + size p names a = behind_code p names a first (suc place) tested ran ran_is in
     let jumps_long : length jumps ≡ length ran + 1 = pushed ran jumps (over_to 0) h7 in
     let aimed_is : aimed ≡ (front ++ jump second ∷ cs) ++ over_to 0 ∷ [] =
-      aimed_once front cs (jump 0) (jump second) (over_to 0) at tested ran jumps aimed tested_is ran_is h7 (at_front l place at steps begun h3) (h9 ∙ ap (λ z. slice_set jumps at (instr l place (s.JumpIfZero z second))) h4) in
+    aimed_once front cs (jump 0) (jump second) (over_to 0) at tested ran jumps aimed tested_is ran_is h7 (at_front l place at steps begun h3) (h9 ∙ ap (λ z. slice_set jumps at (instr l place (s.JumpIfZero z second))) h4) in
     let longer : length (front ++ jump second ∷ cs) ≡ length front + (1 + size p names a) = length-append front (jump second ∷ cs) ∙ ap (λ n. length front + suc n) (code_length p names a first (suc place)) ∙ omega arith in
     let aimed_long : length aimed ≡ length (front ++ jump second ∷ cs) + 1 = pushed (front ++ jump second ∷ cs) aimed (over_to 0) aimed_is in
     let next_is : length aimed ≡ next = omega arith in
@@ -135,7 +135,7 @@ if_code p names l place e a b o at over second done first_place second_place old
     let otherwise_long : length otherwise ≡ length aimed + size p names b = behind_code p names b next (suc place + place_count a) aimed otherwise otherwise_is in
     let over_is : over ≡ length (front ++ jump second ∷ cs) = omega arith in
     let new_is : new ≡ (front ++ jump second ∷ cs) ++ over_to done ∷ (bs ++ instr l place s.Done ∷ []) =
-      aimed_twice (front ++ jump second ∷ cs) bs (over_to 0) (over_to done) (instr l place s.Done) over aimed otherwise over_it new aimed_is otherwise_is over_is h12 h13 in
+    aimed_twice (front ++ jump second ∷ cs) bs (over_to 0) (over_to done) (instr l place s.Done) over aimed otherwise over_it new aimed_is otherwise_is over_is h12 h13 in
     let second_is : second ≡ next = omega arith in
     let done_is : done ≡ next + size p names b = omega arith in
     new_is
@@ -174,7 +174,7 @@ while_code p names l place e a o head at done first_place old begun tested ran j
     let ran_long : length ran ≡ length tested + size p names a = behind_code p names a first (suc (suc place)) tested ran ran_is in
     let jumps_long : length jumps ≡ length ran + 1 = pushed ran jumps (back head) h7 in
     let aimed_is : aimed ≡ (front ++ jump done ∷ cs) ++ back head ∷ [] =
-      aimed_once front cs (jump 0) (jump done) (back head) at tested ran jumps aimed tested_is ran_is h7 (at_front l place at steps begun h4) (h9 ∙ ap (λ z. slice_set jumps at (instr l place (s.JumpIfZero z done))) h5) in
+    aimed_once front cs (jump 0) (jump done) (back head) at tested ran jumps aimed tested_is ran_is h7 (at_front l place at steps begun h4) (h9 ∙ ap (λ z. slice_set jumps at (instr l place (s.JumpIfZero z done))) h5) in
     let done_is : done ≡ first + (1 + size p names a) = omega arith in
     let head_is : head ≡ length old + 1 = h2 ∙ pushed old begun (instr l place s.Begin) h1 in
     let flat : ((front ++ jump done ∷ cs) ++ back head ∷ []) ++ instr l place s.Done ∷ [] ≡ front ++ jump done ∷ (cs ++ back head ∷ instr l place s.Done ∷ []) = simp append_assoc in

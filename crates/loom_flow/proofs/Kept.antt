@@ -7,17 +7,41 @@ use Rattle.loom_tree.specs.Tree.{Function, Source}
 use Rattle.loom_lang.specs.Places.{Place, places, place_at, line_of_place}
 use Rattle.loom_flow.specs.declared.code.Site.{Site}
 use Rattle.loom_flow.specs.Flat.{Flat}
-use Rattle.loom_flow.specs.Laws.{HasPlaces, HasCalls}
+use Rattle.loom_flow.specs.Laws.{HasTraces, HasPlaces, HasInstructionPlaces, HasCalls}
 use Rattle.loom_flow.specs.Lowered.{lowered, or_zero, calls_body, set_of}
 use Rattle.loom_flow.specs.Code.{IsLowered}
 use Rattle.loom_flow.proofs.Places.{lowered_places, few_places}
 use Rattle.loom_flow.proofs.CallSets.{lowered_calls}
+use Rattle.loom_flow.proofs.Located as located
+use Rattle.loom_flow.proofs.Traces.{lowered_traces}
 
 pub has_places : (c : Flat) → IsLowered c → HasPlaces c c.program
 has_places c h = let P : Flat → Type 0 = λ z. HasPlaces z c.program in subst P (sym h.is) (lowered_places c.program)
 
 pub has_calls : (c : Flat) → IsLowered c → HasCalls c c.program
 has_calls c h = let P : Flat → Type 0 = λ z. HasCalls z c.program in subst P (sym h.is) (lowered_calls c.program)
+
+-- the same, at a program that is that of the flat code
+
+pub places_of : (c : Flat) (p : Source) → IsLowered c → c.program ≡ p → HasPlaces c p
+places_of c p h e = let P : Source → Type 0 = λ q. HasPlaces c q in subst P e (has_places c h)
+
+pub calls_of : (c : Flat) (p : Source) → IsLowered c → c.program ≡ p → HasCalls c p
+calls_of c p h e = let P : Source → Type 0 = λ q. HasCalls c q in subst P e (has_calls c h)
+
+pub traces_of : (c : Flat) (p : Source) → IsLowered c → c.program ≡ p → HasTraces c p
+traces_of c p h e =
+    let P : Flat → Type 0 = λ z. HasTraces z c.program in
+    let Q : Source → Type 0 = λ q. HasTraces c q in
+    subst Q e (subst P (sym h.is) (lowered_traces c.program h.lawful))
+
+pub instructions_of : (c : Flat) (p : Source) → IsLowered c → c.program ≡ p → HasInstructionPlaces c p
+instructions_of c p h e =
+    let P : Flat → Type 0 = λ z. HasInstructionPlaces z c.program in
+    let Q : Source → Type 0 = λ q. HasInstructionPlaces c q in
+    subst Q e (subst P (sym h.is) (located.lowered_places c.program))
+
+-- the accessors of `Flow`
 
 pub as_many_sites : (c : Flat) → IsLowered c → length c.sites ≡ length (places c.program)
 as_many_sites c h = sym (length-map c.sites (λ (s : Site). s.line)) ∙ ap length (has_places c h) ∙ length-map (places c.program) (line_of_place c.program)

@@ -10,6 +10,7 @@ mod Effects
 mod Expressions
 pub mod Forward
 mod Frames
+pub mod Functions
 pub mod Jumps
 pub mod Kept
 pub mod Known

@@ -1,6 +1,7 @@
 -- What flat code keeps of a program, and what its instructions keep to.
 use Rattle.std.specs.Prelude.{slice_get, Contains, IsBitSet, ℕ, suc, ◌+◌, ◌-◌, ◌≡◌, ◌≤◌, ◌<◌, ◌↔◌, ℤ, List, Option, Some, None, map, length}
 use Rattle.loom_tree.specs.Tree.{Function, Source}
+use Rattle.loom_lang.specs.Rules.{IsLawful}
 use Rattle.loom_lang.specs.Places.{Place, entry, inside, back_edge, out, places, place_at, line_of_place}
 use Rattle.loom_lang.specs.Trace.{Item, Outcome, IsTrace}
 use Rattle.loom_flow.specs.declared.code.Step.{Step}
@@ -9,8 +10,8 @@ use Rattle.loom_flow.specs.declared.code.Instr.{Instr}
 use Rattle.loom_flow.specs.declared.code.Site.{Site}
 use Rattle.loom_flow.specs.declared.code.Entrance.{Entrance}
 use Rattle.loom_flow.specs.Flat.{Flat, resume, IsFlatTrace}
-use Rattle.loom_flow.specs.Lowered.{or_zero, calls_body}
-use Rattle.loom_flow.specs.Depth.{taken, takes_off, puts_on, depth_before}
+use Rattle.loom_flow.specs.Lowered.{or_zero, calls_body, lowered}
+use Rattle.loom_flow.specs.Depth.{taken, takes_off, puts_on, depth_before, IsSmall}
 
 -- The flat code has the traces of the tree, for every function and all arguments.
 abbrev pub HasTraces : Flat → Source → Type 0
@@ -99,3 +100,15 @@ KeepsDepth c at d x = (takes_off x ≤ d) × (depth_before c (suc at) ≡ Some (
 pub record HasOperands (c : Flat) (most : ℕ) : Type 0 where
   pub starts : (n : ℕ) (e : Entrance) → slice_get c.entrances n ≡ Some e → depth_before c e.start ≡ Some 0
   pub instructions : (at : ℕ) (i : Instr) → slice_get c.code at ≡ Some i → (d : ℕ) × (depth_before c at ≡ Some d) × (d ≤ most) × KeepsDepth c at d i.step
+
+-- What an interpreter rests on, of the flat code of every program
+
+abbrev pub AllJumpForward : Type 0
+AllJumpForward = (p : Source) → IsLawful p → JumpsForward (lowered p)
+
+abbrev pub AllKeepFunctions : Type 0
+AllKeepFunctions = (p : Source) → IsLawful p → KeepsFunctions (lowered p)
+
+-- where no expression has more nodes than these
+abbrev pub AllHaveOperands : Type 0
+AllHaveOperands = (p : Source) → IsLawful p → (n : ℕ) → IsSmall n p → HasOperands (lowered p) (n + 4)

@@ -33,6 +33,26 @@ impl Model for Flow {
 }
 
 impl Flow {
+    pub(crate) fn new(
+        program: Program,
+        code: Vec<Instr>,
+        sites: Vec<Site>,
+        entrances: Vec<Entrance>,
+        calls: Vec<u64>,
+    ) -> Flow
+        requires { IsLowered (record { program = program; code = code.items; sites = sites.items; entrances = entrances.items; calls = calls.items }) }
+        ensures flat { result ≡ record { program = program; code = code.items; sites = sites.items; entrances = entrances.items; calls = calls.items } }
+        ensures lowered { IsLowered result }
+    {
+        Flow {
+            program,
+            code,
+            sites,
+            entrances,
+            calls,
+        }
+    }
+
     /// The program.
     pub fn program(&self) -> &Program
         ensures program { result.now ≡ self.now.program }

@@ -1,4 +1,6 @@
 //! Flat code of programs.
+//!
+//! `lower` makes it, and `Flow` holds it with its program. What it means stands in `specs/Flat.antt`.
 #![tactic(auto)]
 
 mod block;
@@ -6,5 +8,9 @@ mod calls;
 pub mod code;
 mod expression;
 pub mod flow;
+pub mod laws;
+pub mod lower;
 mod numbers;
 mod statement;
+#[cfg(test)]
+mod tests;

@@ -108,6 +108,6 @@ body-walk-preserved t c =
       known = known_rest c.args.scope.now.program c.args.scope.now.locals _ _ _ _ is c.walk.invariant.known;
       room = omega arith;
       code = code_step c.args.scope.now.program c.args.scope.now.locals c.spot_of-spot.result.line c.deref-in-More-2.result.now.kind _ _ _ _ _ _ is
-        (c.in_ok-statement.ensures.code ∙ ap (λ n. c.walk.code.items ++ body_code c.args.scope.now.program c.args.scope.now.locals (length c.walk.code.items) n (behind c.spot_of-spot.result.line c.deref-in-More-2.result.now.kind end)) place) c.in_ok-statement.ensures.sites ∙ c.walk.invariant.code;
+          (c.in_ok-statement.ensures.code ∙ ap (λ n. c.walk.code.items ++ body_code c.args.scope.now.program c.args.scope.now.locals (length c.walk.code.items) n (behind c.spot_of-spot.result.line c.deref-in-More-2.result.now.kind end)) place) c.in_ok-statement.ensures.sites ∙ c.walk.invariant.code;
       sites = sites_step c.args.scope.now.program c.args.scope.now.locals c.spot_of-spot.result.line c.spot_of-spot.result.place c.deref-in-More-2.result.now.kind _ _ _ _ _ _ is c.in_ok-statement.ensures.code c.in_ok-statement.ensures.sites ∙ c.walk.invariant.sites;
     }

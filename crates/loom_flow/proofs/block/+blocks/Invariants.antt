@@ -24,9 +24,9 @@ invariant-body-walk l = record {
   known : takes_body l.scope.program (body_of l.at) ≡ true;
   room : length l.sites.items + place_count (body_of l.at) ≤ 65536;
   code :
-    l.code.items ++ body_code l.scope.program l.scope.locals (length l.code.items) (length l.sites.items) (body_of l.at)
-    ≡ l.fn.code.items ++ body_code l.scope.program l.scope.locals (length l.fn.code.items) (length l.fn.sites.items) (body_of l.body);
+      l.code.items ++ body_code l.scope.program l.scope.locals (length l.code.items) (length l.sites.items) (body_of l.at)
+      ≡ l.fn.code.items ++ body_code l.scope.program l.scope.locals (length l.fn.code.items) (length l.fn.sites.items) (body_of l.body);
   sites :
-    l.sites.items ++ body_sites l.scope.program l.scope.locals (length l.code.items) (body_of l.at)
-    ≡ l.fn.sites.items ++ body_sites l.scope.program l.scope.locals (length l.fn.code.items) (body_of l.body);
+      l.sites.items ++ body_sites l.scope.program l.scope.locals (length l.code.items) (body_of l.at)
+      ≡ l.fn.sites.items ++ body_sites l.scope.program l.scope.locals (length l.fn.code.items) (body_of l.body);
 }

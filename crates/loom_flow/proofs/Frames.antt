@@ -17,7 +17,7 @@ use Rattle.loom_flow.proofs.Running.{ever}
 use Rattle.loom_flow.proofs.Lying.{Lies}
 use Rattle.loom_flow.proofs.Straight.{meets_instr}
 use Rattle.loom_flow.proofs.Simple.{CallsMeet}
-use Rattle.loom_flow.proofs.Bodies.{Runner, IsKnownBody, body_meets, runs_runner, ever_runner}
+use Rattle.loom_flow.proofs.Meeting.{Runner, IsKnownBody, body_meets, runs_runner, ever_runner}
 
 -- Locals of a new frame
 

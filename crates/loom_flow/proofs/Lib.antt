@@ -1,19 +1,27 @@
-mod Relations
-mod Steps
-mod Running
-mod Lying
-mod Straight
-mod Locals
-mod Expressions
-mod Trees
 mod Arguments
-mod Statements
-mod Simple
-mod Effects
+pub mod Bodies
+pub mod CallSets
+pub mod Counts
 mod EachSimple
-mod Sizes
-mod Bodies
+mod Effects
+mod Expressions
 mod Frames
-mod Known
+pub mod Jumps
+pub mod Kept
+pub mod Known
+mod Locals
+pub mod Lookups
+mod Lying
+mod Meeting
 mod Placed
+pub mod Places
+mod Relations
+mod Roles
+mod Running
+mod Simple
+pub mod Sizes
+mod Statements
+mod Steps
+mod Straight
 pub mod Traces
+mod Trees

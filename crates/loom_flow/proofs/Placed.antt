@@ -10,8 +10,8 @@ use Rattle.loom_flow.specs.Flat.{Flat}
 use Rattle.loom_flow.specs.Lowered.{instr, size, place_count, body_code, body_sites, site, functions_code, functions_sites, entrances, lowered}
 use Rattle.loom_flow.proofs.Lying.{Lies, lies_first, lies_second, lies_behind, lies_whole}
 use Rattle.loom_flow.proofs.Sizes.{code_length, sites_length}
-use Rattle.loom_flow.proofs.Bodies.{IsKnownBody}
-use Rattle.loom_flow.proofs.Known.{body_known}
+use Rattle.loom_flow.proofs.Meeting.{IsKnownBody}
+use Rattle.loom_flow.proofs.Roles.{body_known}
 use Rattle.loom_flow.proofs.Frames.{IsPlaced, IsFunctionPlaced, ArePlaced}
 
 -- the functions from one on, whose first instruction and first place have these numbers
@@ -28,7 +28,7 @@ placed_from c (g ∷ gs) at place l ls code sites zero =
       params = refl;
       locals = refl;
       code = lies_first c.code at (body_code p xs at (suc place) g.body) rest code;
-      last = ap (λ n. slice_get c.code (at + n)) (sym (code_length p xs at (suc place) g.body)) ∙ last.0;
+      last = ap (λ n. slice_get c.code (at + n)) (sym (code_length p xs g.body at (suc place))) ∙ last.0;
       sites = lies_first c.sites (suc place) (body_sites p xs at g.body) (site g.line 0 ∷ functions_sites p (suc (at + size p xs g.body)) gs) sites.1;
       known = body_known p xs g.body l ls.0.known;
     })
@@ -43,8 +43,8 @@ placed_from c (g ∷ gs) at place l ls code sites (suc f) =
       lies_second c.code at (body_code p xs at (suc place) g.body) (instr g.line (suc place + place_count g.body) s.Out ∷ more) code in
     let sites_last : Lies c.sites (suc place + length (body_sites p xs at g.body)) (site g.line 0 ∷ others) =
       lies_second c.sites (suc place) (body_sites p xs at g.body) (site g.line 0 ∷ others) sites.1 in
-    let code_length_is : length (body_code p xs at (suc place) g.body) ≡ size p xs g.body = code_length p xs at (suc place) g.body in
-    let sites_length_is : length (body_sites p xs at g.body) ≡ place_count g.body = sites_length p xs at g.body in
+    let code_length_is : length (body_code p xs at (suc place) g.body) ≡ size p xs g.body = code_length p xs g.body at (suc place) in
+    let sites_length_is : length (body_sites p xs at g.body) ≡ place_count g.body = sites_length p xs g.body at in
     placed_from c gs next later l ls.1
     (subst (λ n. Lies c.code n more) (omega arith) code_last.1)
     (subst (λ n. Lies c.sites n others) (omega arith) sites_last.1) f

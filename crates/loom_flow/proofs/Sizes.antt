@@ -1,67 +1,157 @@
 -- How long flat code is.
-use Rattle.std.proofs.Common.{ℕ, suc, zero, ◌+◌, ◌≡◌, List, [], ◌∷◌, ◌++◌, refl, sym, ap, ◌∙◌, length, length-append, arith}
-use Rattle.loom_tree.specs.Tree.{Expression, Body, end, simple, if_, while_, Source}
+use Rattle.std.proofs.Common.{ℕ, suc, ◌+◌, ◌≡◌, List, [], ◌∷◌, ◌++◌, length, refl, ap, Result, Ok, Err, OnOk, sym, ◌∙◌, subst, append_assoc, arith, length-append}
+use Rattle.loom_tree.specs.declared.expression.Expr.{Expr}
+use Rattle.loom_tree.specs.Tree.{expression_of, expressions_of, Body, end, simple, if_, while_, Source}
 use Rattle.loom_lang.specs.Places.{body_places}
 use Rattle.loom_flow.specs.declared.code.Step.{Step}
+use Rattle.loom_flow.specs.declared.code.Target.TheVariants as t
+use Rattle.loom_flow.specs.declared.code.Instr.{Instr}
+use Rattle.loom_flow.specs.declared.code.Site.{Site}
 use Rattle.loom_flow.specs.declared.code.Step.TheVariants as s
-use Rattle.loom_flow.specs.Lowered.{operand_of, operand_steps, simple_steps, instrs, size, place_count, body_code, body_sites}
+use Rattle.loom_flow.specs.Lowered.{steps_to, argument_steps, operand_of, operand_steps, simple_steps, instrs, instr, size, place_count, body_code, body_sites, site}
 
-pub instrs_length : (l k : ℕ) (xs : List Step) → length (instrs l k xs) ≡ length xs
-instrs_length l k [] = refl
-instrs_length l k (x ∷ xs) = ap suc (instrs_length l k xs)
+pub instrs_length : (l place : ℕ) (xs : List Step) → length (instrs l place xs) ≡ length xs
+instrs_length l place [] = refl
+instrs_length l place (x ∷ xs) = ap suc (instrs_length l place xs)
 
--- a condition, and what begins it and jumps behind it
-pub condition_length : (l k : ℕ) (xs : List Step) (x y : Step) → length (instrs l k (x ∷ (xs ++ y ∷ []))) ≡ 2 + length xs
-condition_length l k xs x y = instrs_length l k (x ∷ (xs ++ y ∷ [])) ∙ (let e : length (xs ++ y ∷ []) ≡ length xs + 1 = length-append xs (y ∷ []) in omega arith)
+-- the steps of a test have one more before and one behind
+test_length : (l place : ℕ) (xs : List Step) (x y : Step) → length (instrs l place (x ∷ (xs ++ y ∷ []))) ≡ length xs + 2
+test_length l place xs x y =
+    let is = instrs_length l place (x ∷ (xs ++ y ∷ [])) in
+    let two = length-append xs (y ∷ []) in
+    omega (arith, is, two)
 
-pub code_length : (p : Source) (xs : List (List ℕ)) (at k : ℕ) (a : Body) → length (body_code p xs at k a) ≡ size p xs a
-code_length p xs at k end = refl
-code_length p xs at k (simple l x rest) =
-    let e : length (instrs l k (simple_steps p xs x)) ≡ length (simple_steps p xs x) = instrs_length l k (simple_steps p xs x) in
-    let f : length (body_code p xs (at + length (simple_steps p xs x)) (suc k) rest) ≡ size p xs rest = code_length p xs (at + length (simple_steps p xs x)) (suc k) rest in
-    length-append (instrs l k (simple_steps p xs x)) (body_code p xs (at + length (simple_steps p xs x)) (suc k) rest) ∙ omega arith
-code_length p xs at k (if_ l e a b rest) =
-    let first : ℕ = at + (2 + length (operand_steps p xs e)) in
-    let second : ℕ = first + (1 + size p xs a) in
-    let done : ℕ = second + size p xs b in
-    let head : ℕ = length (instrs l k (s.Begin ∷ (operand_steps p xs e ++ s.JumpIfZero (operand_of xs e) second ∷ []))) in
-    let h : head ≡ 2 + length (operand_steps p xs e) = condition_length l k (operand_steps p xs e) s.Begin (s.JumpIfZero (operand_of xs e) second) in
-    let ha : length (body_code p xs first (suc k) a) ≡ size p xs a = code_length p xs first (suc k) a in
-    let hb : length (body_code p xs second (suc k + place_count a) b) ≡ size p xs b = code_length p xs second (suc k + place_count a) b in
-    let hr : length (body_code p xs (suc done) (suc k + place_count a + place_count b) rest) ≡ size p xs rest = code_length p xs (suc done) (suc k + place_count a + place_count b) rest in
-    length-append (instrs l k (s.Begin ∷ (operand_steps p xs e ++ s.JumpIfZero (operand_of xs e) second ∷ []))) _
-    ∙ ap (λ n. head + n) (length-append (body_code p xs first (suc k) a) _
-      ∙ ap (λ n. length (body_code p xs first (suc k) a) + suc n) (length-append (body_code p xs second (suc k + place_count a) b) _))
-    ∙ omega arith
-code_length p xs at k (while_ l e a rest) =
-    let first : ℕ = at + 1 + (1 + length (operand_steps p xs e)) in
-    let done : ℕ = first + (1 + size p xs a) in
-    let head : ℕ = length (instrs l k (s.Begin ∷ (operand_steps p xs e ++ s.JumpIfZero (operand_of xs e) done ∷ []))) in
-    let h : head ≡ 2 + length (operand_steps p xs e) = condition_length l k (operand_steps p xs e) s.Begin (s.JumpIfZero (operand_of xs e) done) in
-    let ha : length (body_code p xs first (suc (suc k)) a) ≡ size p xs a = code_length p xs first (suc (suc k)) a in
-    let hr : length (body_code p xs (suc done) (suc (suc k) + place_count a) rest) ≡ size p xs rest = code_length p xs (suc done) (suc (suc k) + place_count a) rest in
-    length-append (instrs l k (s.Begin ∷ (operand_steps p xs e ++ s.JumpIfZero (operand_of xs e) done ∷ []))) _
-    ∙ ap (λ n. head + n) (length-append (body_code p xs first (suc (suc k)) a) _)
-    ∙ omega arith
+choice_length : (xs cs bs rest : List Instr) (i j : Instr) → length (xs ++ (cs ++ i ∷ (bs ++ j ∷ rest))) ≡ length xs + length cs + length bs + length rest + 2
+choice_length xs cs bs rest i j =
+    let one = length-append xs (cs ++ i ∷ (bs ++ j ∷ rest)) in
+    let two = length-append cs (i ∷ (bs ++ j ∷ rest)) in
+    let three = length-append bs (j ∷ rest) in
+    omega arith
 
-pub sites_length : (p : Source) (xs : List (List ℕ)) (at : ℕ) (a : Body) → length (body_sites p xs at a) ≡ place_count a
-sites_length p xs at end = refl
-sites_length p xs at (simple l x rest) = ap suc (sites_length p xs (at + length (simple_steps p xs x)) rest)
-sites_length p xs at (if_ l e a b rest) =
-    let first : ℕ = at + (2 + length (operand_steps p xs e)) in
-    let second : ℕ = first + (1 + size p xs a) in
-    let done : ℕ = second + size p xs b in
-    let ha : length (body_sites p xs first a) ≡ length (body_places a) = sites_length p xs first a in
-    let hb : length (body_sites p xs second b) ≡ length (body_places b) = sites_length p xs second b in
-    let hr : length (body_sites p xs (suc done) rest) ≡ length (body_places rest) = sites_length p xs (suc done) rest in
-    ap suc (length-append (body_sites p xs first a) _ ∙ ap (λ n. length (body_sites p xs first a) + n) (length-append (body_sites p xs second b) _)
-      ∙ (let g : length (body_sites p xs first a) + (length (body_sites p xs second b) + length (body_sites p xs (suc done) rest)) ≡ length (body_places a) + (length (body_places b) + length (body_places rest)) = omega arith in g)
-      ∙ sym (length-append (body_places a) _ ∙ ap (λ n. length (body_places a) + n) (length-append (body_places b) (body_places rest))))
-sites_length p xs at (while_ l e a rest) =
-    let first : ℕ = at + (2 + length (operand_steps p xs e)) in
-    let done : ℕ = first + (1 + size p xs a) in
-    let ha : length (body_sites p xs first a) ≡ length (body_places a) = sites_length p xs first a in
-    let hr : length (body_sites p xs (suc done) rest) ≡ length (body_places rest) = sites_length p xs (suc done) rest in
-    ap (λ n. suc (suc n)) (length-append (body_sites p xs first a) _
-      ∙ (let g : length (body_sites p xs first a) + length (body_sites p xs (suc done) rest) ≡ length (body_places a) + length (body_places rest) = omega arith in g)
-      ∙ sym (length-append (body_places a) (body_places rest)))
+loop_length : (xs cs rest : List Instr) (i j : Instr) → length (xs ++ (cs ++ i ∷ j ∷ rest)) ≡ length xs + length cs + length rest + 2
+loop_length xs cs rest i j =
+    let one = length-append xs (cs ++ i ∷ j ∷ rest) in
+    let two = length-append cs (i ∷ j ∷ rest) in
+    omega arith
+
+pub code_length : (p : Source) (names : List (List ℕ)) (b : Body) (at place : ℕ) → length (body_code p names at place b) ≡ size p names b
+code_length p names end at place = refl
+code_length p names (simple l x rest) at place =
+    let first = instrs_length l place (simple_steps p names x) in
+    let behind = code_length p names rest (at + length (simple_steps p names x)) (suc place) in
+    let whole = length-append (instrs l place (simple_steps p names x)) (body_code p names (at + length (simple_steps p names x)) (suc place) rest) in
+    omega arith
+code_length p names (if_ l e a b rest) at place =
+    let first : ℕ = at + (2 + length (operand_steps p names e)) in
+    let second : ℕ = first + (1 + size p names a) in
+    let done : ℕ = second + size p names b in
+    let test = test_length l place (operand_steps p names e) s.Begin (s.JumpIfZero (operand_of names e) second) in
+    let cs = code_length p names a first (suc place) in
+    let bs = code_length p names b second (suc place + place_count a) in
+    let behind = code_length p names rest (suc done) (suc place + place_count a + place_count b) in
+    let whole = choice_length (instrs l place (s.Begin ∷ (operand_steps p names e ++ s.JumpIfZero (operand_of names e) second ∷ []))) (body_code p names first (suc place) a) (body_code p names second (suc place + place_count a) b) (body_code p names (suc done) (suc place + place_count a + place_count b) rest) (instr l place (s.Jump done)) (instr l place s.Done) in
+    omega arith
+code_length p names (while_ l e a rest) at place =
+    let head : ℕ = at + 1 in
+    let first : ℕ = head + (1 + length (operand_steps p names e)) in
+    let done : ℕ = first + (1 + size p names a) in
+    let test = test_length l place (operand_steps p names e) s.Begin (s.JumpIfZero (operand_of names e) done) in
+    let cs = code_length p names a first (suc (suc place)) in
+    let behind = code_length p names rest (suc done) (suc (suc place) + place_count a) in
+    let whole = loop_length (instrs l place (s.Begin ∷ (operand_steps p names e ++ s.JumpIfZero (operand_of names e) done ∷ []))) (body_code p names first (suc (suc place)) a) (body_code p names (suc done) (suc (suc place) + place_count a) rest) (instr l (suc place) (s.Edge head)) (instr l place s.Done) in
+    omega arith
+
+sum_length : {A : Type 0} (cs bs rest : List A) → length (cs ++ (bs ++ rest)) ≡ length cs + (length bs + length rest)
+sum_length cs bs rest =
+    let one = length-append cs (bs ++ rest) in
+    let two = length-append bs rest in
+    omega arith
+
+pub sites_length : (p : Source) (names : List (List ℕ)) (b : Body) (at : ℕ) → length (body_sites p names at b) ≡ place_count b
+sites_length p names end at = refl
+sites_length p names (simple l x rest) at = ap suc (sites_length p names rest _)
+sites_length p names (if_ l e a b rest) at =
+    let first : ℕ = at + (2 + length (operand_steps p names e)) in
+    let second : ℕ = first + (1 + size p names a) in
+    let done : ℕ = second + size p names b in
+    let cs = sites_length p names a first in
+    let bs = sites_length p names b second in
+    let behind = sites_length p names rest (suc done) in
+    let whole = sum_length (body_sites p names first a) (body_sites p names second b) (body_sites p names (suc done) rest) in
+    let places = sum_length (body_places a) (body_places b) (body_places rest) in
+    omega arith
+sites_length p names (while_ l e a rest) at =
+    let first : ℕ = at + (2 + length (operand_steps p names e)) in
+    let done : ℕ = first + (1 + size p names a) in
+    let cs = sites_length p names a first in
+    let behind = sites_length p names rest (suc done) in
+    let whole = length-append (body_sites p names first a) (body_sites p names (suc done) rest) in
+    let places = length-append (body_places a) (body_places rest) in
+    omega arith
+
+pub instrs_append : (l place : ℕ) (xs ys : List Step) → instrs l place (xs ++ ys) ≡ instrs l place xs ++ instrs l place ys
+instrs_append l place [] ys = refl
+instrs_append l place (x ∷ xs) ys = ap (λ z. instr l place x ∷ z) (instrs_append l place xs ys)
+
+-- one step more
+pub step_is : (l place : ℕ) (xs : List Step) (x : Step) (old now new : List Instr) → now ≡ old ++ instrs l place xs → new ≡ now ++ instr l place x ∷ [] → new ≡ old ++ instrs l place (xs ++ x ∷ [])
+step_is l place xs x old now new h g = g ∙ ap (λ z. z ++ instr l place x ∷ []) h ∙ append_assoc old (instrs l place xs) (instr l place x ∷ []) ∙ ap (λ z. old ++ z) (sym (instrs_append l place xs (x ∷ [])))
+
+-- where memory suffices
+pub step_more : {A E : Type 0} (r : Result A E) (l place : ℕ) (xs : List Step) (x : Step) (old now new : List Instr) → now ≡ old ++ instrs l place xs → OnOk r (new ≡ now ++ instr l place x ∷ []) → OnOk r (new ≡ old ++ instrs l place (xs ++ x ∷ []))
+step_more (Ok v) l place xs x old now new h g = step_is l place xs x old now new h g
+step_more (Err e) l place xs x old now new h g = g
+
+pub step_behind : {A E : Type 0} (r : Result A E) (l place : ℕ) (xs ys : List Step) (x : Step) (old mid now new : List Instr) → mid ≡ old ++ instrs l place xs → now ≡ mid ++ instrs l place ys → OnOk r (new ≡ now ++ instr l place x ∷ []) → OnOk r (new ≡ old ++ instrs l place (xs ++ (ys ++ x ∷ [])))
+step_behind r l place xs ys x old mid now new h g k =
+    let is : now ≡ old ++ instrs l place (xs ++ ys) = g ∙ ap (λ z. z ++ instrs l place ys) h ∙ append_assoc old (instrs l place xs) (instrs l place ys) ∙ ap (λ z. old ++ z) (sym (instrs_append l place xs ys)) in
+    let P : List Step → Type 0 = λ z. OnOk r (new ≡ old ++ instrs l place z) in
+    subst P (append_assoc xs ys (x ∷ [])) (step_more r l place (xs ++ ys) x old now new is k)
+
+-- one argument more
+pub arguments_step : (p : Source) (names : List (List ℕ)) (l place : ℕ) (e : Expr) (es rest : List Expr) (code more : List Instr) → es ≡ e ∷ rest → more ≡ code ++ instrs l place (steps_to p names t.Push (expression_of e)) → more ++ instrs l place (argument_steps p names (expressions_of rest)) ≡ code ++ instrs l place (argument_steps p names (expressions_of es))
+arguments_step p names l place e es rest code more h g =
+    ap (λ z. z ++ instrs l place (argument_steps p names (expressions_of rest))) g
+    ∙ append_assoc code (instrs l place (steps_to p names t.Push (expression_of e))) (instrs l place (argument_steps p names (expressions_of rest)))
+    ∙ ap (λ z. code ++ z) (sym (instrs_append l place (steps_to p names t.Push (expression_of e)) (argument_steps p names (expressions_of rest))))
+    ∙ ap (λ (z : List Expr). code ++ instrs l place (argument_steps p names (expressions_of z))) (sym h)
+
+-- statements from their beginning to their end
+
+pub statement_is : (l place : ℕ) (ys : List Step) (z : Step) (old a b new : List Instr) → a ≡ old ++ instr l place s.Begin ∷ [] → b ≡ a ++ instrs l place ys → new ≡ b ++ instr l place z ∷ [] → new ≡ old ++ instr l place s.Begin ∷ instrs l place (ys ++ z ∷ [])
+statement_is l place ys z old a b new h g k =
+    k ∙ ap (λ w. w ++ instr l place z ∷ []) (g ∙ ap (λ w. w ++ instrs l place ys) h)
+    ∙ append_assoc (old ++ instr l place s.Begin ∷ []) (instrs l place ys) (instr l place z ∷ [])
+    ∙ append_assoc old (instr l place s.Begin ∷ []) (instrs l place ys ++ instr l place z ∷ [])
+    ∙ ap (λ w. old ++ instr l place s.Begin ∷ w) (sym (instrs_append l place ys (z ∷ [])))
+
+-- the number behind these steps, which stand behind the first instruction of a statement
+pub number_behind : (l place : ℕ) (xs : List Step) (old new : List Instr) (n at : ℕ) → n ≡ length new → new ≡ old ++ instrs l place xs → length old ≡ at + 1 → n ≡ at + (1 + length xs)
+number_behind l place xs old new n at h g k =
+    let many = ap length g in
+    let both = length-append old (instrs l place xs) in
+    let steps = instrs_length l place xs in
+    omega arith
+
+pub statement_ends : (l place : ℕ) (ys : List Step) (y z : Step) (old a b d new : List Instr) → a ≡ old ++ instr l place s.Begin ∷ [] → b ≡ a ++ instrs l place ys → d ≡ b ++ instr l place y ∷ [] → new ≡ d ++ instr l place z ∷ [] → new ≡ old ++ instr l place s.Begin ∷ instrs l place (ys ++ y ∷ z ∷ [])
+statement_ends l place ys y z old a b d new h g k m =
+    let is : new ≡ old ++ instrs l place (s.Begin ∷ ((ys ++ y ∷ []) ++ z ∷ [])) = statement_is l place (ys ++ y ∷ []) z old a d new h (step_is l place ys y a b d g k) m in
+    is ∙ ap (λ w. old ++ instrs l place (s.Begin ∷ w)) (append_assoc ys (y ∷ []) (z ∷ []))
+
+pub cell_is : (l place : ℕ) (xs ys : List Step) (y z : Step) (old a b d e new : List Instr) → a ≡ old ++ instr l place s.Begin ∷ [] → b ≡ a ++ instrs l place xs → d ≡ b ++ instrs l place ys → e ≡ d ++ instr l place y ∷ [] → new ≡ e ++ instr l place z ∷ [] → new ≡ old ++ instr l place s.Begin ∷ instrs l place (xs ++ (ys ++ y ∷ z ∷ []))
+cell_is l place xs ys y z old a b d e new h f g k m =
+    let both : d ≡ a ++ instrs l place (xs ++ ys) = g ∙ ap (λ w. w ++ instrs l place ys) f ∙ append_assoc a (instrs l place xs) (instrs l place ys) ∙ ap (λ w. a ++ w) (sym (instrs_append l place xs ys)) in
+    statement_ends l place (xs ++ ys) y z old a d e new h both k m ∙ ap (λ w. old ++ instrs l place (s.Begin ∷ w)) (append_assoc xs ys (y ∷ z ∷ []))
+
+-- the place of a statement that calls
+pub call_site : (line l place n : ℕ) (x : Step) (xs : List Step) (old now new : List Instr) (before after : List Site) → after ≡ before ++ site line n ∷ [] → n ≡ length new → new ≡ now ++ instrs l place xs → now ≡ old ++ instr l place x ∷ [] → after ≡ before ++ site line (length old + (1 + length xs)) ∷ []
+call_site line l place n x xs old now new before after e h g k =
+    let one : length now ≡ length old + 1 = ap length k ∙ length-append old (instr l place x ∷ []) in
+    e ∙ ap (λ z. before ++ site line z ∷ []) (number_behind l place xs now new n (length old) h g one)
+
+pub length_behind : (l place : ℕ) (xs : List Step) (old new : List Instr) (n : ℕ) → new ≡ old ++ instrs l place xs → n ≡ length new → n ≡ length old + length xs
+length_behind l place xs old new n h g =
+    let many = ap length h in
+    let both = length-append old (instrs l place xs) in
+    let steps = instrs_length l place xs in
+    omega arith

@@ -11,7 +11,7 @@ use Rattle.loom_flow.specs.Lowered.{lowered}
 use Rattle.loom_flow.specs.Laws.{HasTraces}
 use Rattle.loom_flow.proofs.Relations.{Within, meets_emit, meets_same, meets_on}
 use Rattle.loom_flow.proofs.Running.{ever}
-use Rattle.loom_flow.proofs.Bodies.{runs_runner, ever_runner}
+use Rattle.loom_flow.proofs.Meeting.{runs_runner, ever_runner}
 use Rattle.loom_flow.proofs.Frames.{IsPlaced, IsFunctionPlaced, ArePlaced, first_frame, ever_behind}
 use Rattle.loom_flow.proofs.Placed.{are_placed}
 

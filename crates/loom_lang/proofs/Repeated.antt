@@ -28,6 +28,9 @@ lets_names (while_ l e a rest) = both_parts (lets_at a) (lets_at rest) _ _ (lets
 pub locals_names : (f : Function) → names_of (locals_at f) ≡ locals_of f
 locals_names f = both_parts (at_line f.line f.params) (lets_at f.body) _ _ (at_line_names f.line f.params) (lets_names f.body)
 
+pub found_names : (f : Function) (none names : List (List ℕ)) (start found got : List Local) → start ≡ [] → found ≡ start ++ locals_at f → got ≡ found → none ≡ [] → names ≡ none ++ names_of got → names ≡ locals_of f
+found_names f none names start found got a b c d e = e ∙ ap (λ z. z ++ names_of got) d ∙ ap names_of (c ∙ b ∙ ap (λ z. z ++ locals_at f) a) ∙ locals_names f
+
 repeated_same : (ds : List Local) (xs ys : List (List ℕ)) → AreSame xs ys → repeated xs ds ≡ repeated ys ds
 repeated_same [] xs ys h = refl
 repeated_same (d ∷ ds) xs ys h =

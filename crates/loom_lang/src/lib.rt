@@ -8,6 +8,7 @@ mod gather;
 pub mod laws;
 mod limits;
 mod local;
+pub mod locals;
 mod names;
 mod note;
 pub mod parse;

@@ -1,10 +1,12 @@
 //! Programs.
-ghost use Rattle.std.specs.Prelude.{◌≡◌};
+ghost use Rattle.std.specs.Prelude.{◌≡◌, IfOk};
 ghost use Rattle.loom_tree.specs.Tree.{functions_of};
 ghost use Rattle.loom_lang.specs.Rules.{IsLawful};
 
 use crate::declarations::Declarations;
 use loom_tree::item::{Funcs, Mutexes, Semas, Words};
+use loom_tree::name::NoMemory;
+use std::alloc::Global;
 use std::marker::Model;
 
 /// A program, which keeps the rules on names and the limits.
@@ -79,5 +81,17 @@ impl Program {
         ensures rules { IsLawful self.now }
     {
         &self.funcs
+    }
+
+    /// A copy of the program. An `Err` is want of memory.
+    pub fn copied(&self, alloc: Global) -> Result<Program, NoMemory>
+        ensures { IfOk result (λ q. q ≡ self.now) }
+    {
+        Ok(Program {
+            words: self.words.copied(alloc)?,
+            mutexes: self.mutexes.copied(alloc)?,
+            semas: self.semas.copied(alloc)?,
+            funcs: self.funcs.copied(alloc)?,
+        })
     }
 }

@@ -3,3 +3,4 @@ pub mod Code
 pub mod Token
 pub mod Decimal
 pub mod Lines
+pub mod Chain

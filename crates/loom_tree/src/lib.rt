@@ -3,6 +3,7 @@
 //! The definitions of the grammar stand in `specs/`, on trees without pointers.
 #![tactic(auto)]
 
+mod copy;
 pub mod expression;
 pub mod item;
 pub mod name;

@@ -1,0 +1,314 @@
+//! The instructions and the place of a statement without a block. An `Err` is want of memory throughout.
+ghost use Rattle.std.specs.Prelude.{ℕ, ◌≡◌, ◌<◌, ◌+◌, ◌∷◌, ◌++◌, [], Some, true, OnOk, IfOk, length};
+ghost use Rattle.loom_tree.specs.Tree.{Simple, expression_of, expressions_of, right_of, returned_of};
+ghost use Rattle.loom_tree.specs.Tree as tree;
+ghost use Rattle.loom_lang.specs.Numbers.{position};
+ghost use Rattle.loom_lang.specs.Rules.{takes};
+ghost use Rattle.loom_flow.specs.Counted.{takes_right};
+ghost use Rattle.loom_flow.specs.declared.code.Step.TheVariants as s;
+ghost use Rattle.loom_flow.specs.Lowered.{instr, instrs, call_steps, spawn_steps, store_step, value_steps, set_steps, simple_steps, resume_of, site};
+
+use crate::code::{Instr, Operand, Site, Step, Target};
+use crate::expression::{Spot, arguments, expression, operand, push};
+use crate::numbers::Scope;
+use loom_tree::expression::{Expr, Exprs};
+use loom_tree::name::{Name, NoMemory};
+use loom_tree::statement::Right;
+
+/// The number of the next instruction. A list of more of them than a `u32` counts is none that memory holds.
+pub fn next(code: &[Instr]) -> Result<u32, NoMemory>
+    ensures { IfOk result (λ n. n ≡ length code.now) }
+{
+    if code.len() > u32::MAX as usize {
+        return Err(NoMemory);
+    }
+    Ok(code.len() as u32)
+}
+
+/// Where the instructions of a statement stand whose place is the next.
+pub fn spot_of(sites: &[Site], line: u32) -> Spot
+    requires { length sites.now < 65536 }
+    ensures { result ≡ record { line = line; place = length sites.now } }
+{
+    Spot {
+        line,
+        place: sites.len() as u16,
+    }
+}
+
+/// One place more.
+pub fn put_site(sites: &mut Vec<Site>, line: u32, resume: u32) -> Result<(), NoMemory>
+    ensures { OnOk result (sites.new.items ≡ sites.old.items ++ site line resume ∷ []) }
+{
+    sites.push(Site { line, resume })?;
+    Ok(())
+}
+
+/// How many arguments a call has.
+#[tactic(auto, using(crate::proofs::Known::few_arguments))]
+fn count(scope: &Scope, f: &Name, es: &Exprs) -> u8
+    requires { takes scope.now.program.funcs f.now (length (expressions_of es.now)) ≡ true }
+    ensures { result ≡ length (expressions_of es.now) }
+{
+    let _rules = scope.program.funcs();
+    es.0.len() as u8
+}
+
+/// A call. The answer is the number of the instruction behind it.
+#[tactic(auto, using(crate::proofs::Sizes::step_is))]
+fn call(
+    code: &mut Vec<Instr>,
+    scope: &Scope,
+    spot: Spot,
+    f: &Name,
+    es: &Exprs,
+) -> Result<u32, NoMemory>
+    requires { takes scope.now.program.funcs f.now (length (expressions_of es.now)) ≡ true }
+    ensures code { OnOk result (code.new.items ≡ code.old.items ++ instrs spot.line spot.place (call_steps scope.now.program scope.now.locals f.now (expressions_of es.now))) }
+    ensures resume { IfOk result (λ n. n ≡ length code.new.items) }
+{
+    arguments(code, scope, spot, es)?;
+    let count = count(scope, f, es);
+    push(code, spot, Step::Call(scope.function(f), count))?;
+    let resume = next(code)?;
+    Ok(resume)
+}
+
+#[tactic(auto, using(crate::proofs::Sizes::step_more))]
+fn spawn(
+    code: &mut Vec<Instr>,
+    scope: &Scope,
+    spot: Spot,
+    f: &Name,
+    es: &Exprs,
+) -> Result<(), NoMemory>
+    requires { takes scope.now.program.funcs f.now (length (expressions_of es.now)) ≡ true }
+    ensures { OnOk result (code.new.items ≡ code.old.items ++ instrs spot.line spot.place (spawn_steps scope.now.program scope.now.locals f.now (expressions_of es.now))) }
+{
+    arguments(code, scope, spot, es)?;
+    let count = count(scope, f, es);
+    push(
+        code,
+        spot,
+        Step::Spawn(scope.function(f), count, Target::Push),
+    )
+}
+
+/// What is on top goes into a name.
+fn store(code: &mut Vec<Instr>, scope: &Scope, spot: Spot, x: &Name) -> Result<(), NoMemory>
+    ensures { OnOk result (code.new.items ≡ code.old.items ++ instr spot.line spot.place (store_step scope.now.program x.now (position x.now scope.now.locals)) ∷ []) }
+{
+    match scope.local(x) {
+        Some(local) => push(code, spot, Step::Move(Operand::Top, Target::Local(local))),
+        None => push(code, spot, Step::Write(scope.word(x), Operand::Top)),
+    }
+}
+
+/// The value of an expression goes into a name.
+#[tactic(auto, using(crate::proofs::Sizes::step_more))]
+fn value(
+    code: &mut Vec<Instr>,
+    scope: &Scope,
+    spot: Spot,
+    x: &Name,
+    e: &Expr,
+) -> Result<(), NoMemory>
+    ensures { OnOk result (code.new.items ≡ code.old.items ++ instrs spot.line spot.place (value_steps scope.now.program scope.now.locals x.now (expression_of e.now) (position x.now scope.now.locals))) }
+{
+    match scope.local(x) {
+        Some(local) => expression(code, scope, spot, Target::Local(local), e),
+        None => {
+            let value = operand(code, scope, spot, e)?;
+            push(code, spot, Step::Write(scope.word(x), value))
+        }
+    }
+}
+
+/// What stands at the right of `=` goes into a name. The answer is the number of the instruction behind the call, or 0.
+#[tactic(auto, using(crate::proofs::Sizes::step_is))]
+fn set(
+    code: &mut Vec<Instr>,
+    scope: &Scope,
+    spot: Spot,
+    x: &Name,
+    right: &Right,
+) -> Result<u32, NoMemory>
+    requires { takes_right scope.now.program (right_of right.now) ≡ true }
+    ensures code { OnOk result (code.new.items ≡ code.old.items ++ instrs spot.line spot.place (set_steps scope.now.program scope.now.locals x.now (right_of right.now))) }
+    ensures resume { IfOk result (λ n. (at : ℕ) → length code.old.items ≡ at + 1 → n ≡ resume_of scope.now.program scope.now.locals at (tree.set x.now (right_of right.now))) }
+{
+    match right {
+        Right::Value(e) => {
+            value(code, scope, spot, x, e)?;
+            Ok(0)
+        }
+        Right::Call(f, es) => {
+            let resume = call(code, scope, spot, f, es)?;
+            store(code, scope, spot, x)?;
+            Ok(resume)
+        }
+        Right::Spawn(f, es) => {
+            spawn(code, scope, spot, f, es)?;
+            store(code, scope, spot, x)?;
+            Ok(0)
+        }
+    }
+}
+
+/// A `let` or another write to a name.
+#[tactic(auto, using(crate::proofs::Sizes::statement_is))]
+pub fn assign(
+    code: &mut Vec<Instr>,
+    sites: &mut Vec<Site>,
+    scope: &Scope,
+    spot: Spot,
+    x: &Name,
+    right: &Right,
+) -> Result<(), NoMemory>
+    requires { takes_right scope.now.program (right_of right.now) ≡ true }
+    ensures code { OnOk result (code.new.items ≡ code.old.items ++ instrs spot.line spot.place (simple_steps scope.now.program scope.now.locals (tree.set x.now (right_of right.now)))) }
+    ensures sites { OnOk result (sites.new.items ≡ sites.old.items ++ site spot.line (resume_of scope.now.program scope.now.locals (length code.old.items) (tree.set x.now (right_of right.now))) ∷ []) }
+{
+    push(code, spot, Step::Begin)?;
+    let resume = set(code, scope, spot, x, right)?;
+    push(code, spot, Step::Done)?;
+    put_site(sites, spot.line, resume)?;
+    Ok(())
+}
+
+/// A write to a cell: the index, then the value.
+#[tactic(auto, using(crate::proofs::Sizes::cell_is))]
+pub fn set_cell(
+    code: &mut Vec<Instr>,
+    sites: &mut Vec<Site>,
+    scope: &Scope,
+    spot: Spot,
+    x: &Name,
+    i: &Expr,
+    e: &Expr,
+) -> Result<(), NoMemory>
+    ensures code { OnOk result (code.new.items ≡ code.old.items ++ instrs spot.line spot.place (simple_steps scope.now.program scope.now.locals (tree.set_cell x.now (expression_of i.now) (expression_of e.now)))) }
+    ensures sites { OnOk result (sites.new.items ≡ sites.old.items ++ site spot.line 0 ∷ []) }
+{
+    put_site(sites, spot.line, 0)?;
+    push(code, spot, Step::Begin)?;
+    let index = operand(code, scope, spot, i)?;
+    let value = operand(code, scope, spot, e)?;
+    push(code, spot, Step::WriteCell(scope.array(x), index, value))?;
+    push(code, spot, Step::Done)?;
+    Ok(())
+}
+
+/// A call whose result is dropped.
+#[tactic(auto, using(crate::proofs::Sizes::statement_ends))]
+pub fn call_alone(
+    code: &mut Vec<Instr>,
+    sites: &mut Vec<Site>,
+    scope: &Scope,
+    spot: Spot,
+    f: &Name,
+    es: &Exprs,
+) -> Result<(), NoMemory>
+    requires { takes scope.now.program.funcs f.now (length (expressions_of es.now)) ≡ true }
+    ensures code { OnOk result (code.new.items ≡ code.old.items ++ instrs spot.line spot.place (simple_steps scope.now.program scope.now.locals (Simple.call f.now (expressions_of es.now)))) }
+    ensures sites { OnOk result (sites.new.items ≡ sites.old.items ++ site spot.line (resume_of scope.now.program scope.now.locals (length code.old.items) (Simple.call f.now (expressions_of es.now))) ∷ []) }
+{
+    push(code, spot, Step::Begin)?;
+    let resume = call(code, scope, spot, f, es)?;
+    push(code, spot, Step::Discard)?;
+    push(code, spot, Step::Done)?;
+    put_site(sites, spot.line, resume)?;
+    Ok(())
+}
+
+/// The end of the function, with a result; 0 where none is said.
+#[tactic(auto, using(crate::proofs::Sizes::statement_is))]
+pub fn give_back(
+    code: &mut Vec<Instr>,
+    sites: &mut Vec<Site>,
+    scope: &Scope,
+    spot: Spot,
+    e: &Option<Expr>,
+) -> Result<(), NoMemory>
+    ensures code { OnOk result (code.new.items ≡ code.old.items ++ instrs spot.line spot.place (simple_steps scope.now.program scope.now.locals (tree.return (returned_of e.now)))) }
+    ensures sites { OnOk result (sites.new.items ≡ sites.old.items ++ site spot.line 0 ∷ []) }
+{
+    put_site(sites, spot.line, 0)?;
+    push(code, spot, Step::Begin)?;
+    match e {
+        None => {
+            push(code, spot, Step::Return(Operand::Number(0)))?;
+            Ok(())
+        }
+        Some(e) => {
+            let value = operand(code, scope, spot, e)?;
+            push(code, spot, Step::Return(value))?;
+            Ok(())
+        }
+    }
+}
+
+/// A statement of one step between its beginning and its completion.
+pub fn alone(
+    code: &mut Vec<Instr>,
+    sites: &mut Vec<Site>,
+    spot: Spot,
+    step: Step,
+) -> Result<(), NoMemory>
+    ensures code { OnOk result (code.new.items ≡ code.old.items ++ instrs spot.line spot.place (s.Begin ∷ step ∷ s.Done ∷ [])) }
+    ensures sites { OnOk result (sites.new.items ≡ sites.old.items ++ site spot.line 0 ∷ []) }
+{
+    put_site(sites, spot.line, 0)?;
+    push(code, spot, Step::Begin)?;
+    push(code, spot, step)?;
+    push(code, spot, Step::Done)?;
+    Ok(())
+}
+
+pub fn skip(code: &mut Vec<Instr>, sites: &mut Vec<Site>, spot: Spot) -> Result<(), NoMemory>
+    ensures code { OnOk result (code.new.items ≡ code.old.items ++ instrs spot.line spot.place (s.Begin ∷ s.Done ∷ [])) }
+    ensures sites { OnOk result (sites.new.items ≡ sites.old.items ++ site spot.line 0 ∷ []) }
+{
+    put_site(sites, spot.line, 0)?;
+    push(code, spot, Step::Begin)?;
+    push(code, spot, Step::Done)?;
+    Ok(())
+}
+
+#[tactic(auto, using(crate::proofs::Sizes::statement_ends))]
+pub fn join(
+    code: &mut Vec<Instr>,
+    sites: &mut Vec<Site>,
+    scope: &Scope,
+    spot: Spot,
+    e: &Expr,
+) -> Result<(), NoMemory>
+    ensures code { OnOk result (code.new.items ≡ code.old.items ++ instrs spot.line spot.place (simple_steps scope.now.program scope.now.locals (tree.join (expression_of e.now)))) }
+    ensures sites { OnOk result (sites.new.items ≡ sites.old.items ++ site spot.line 0 ∷ []) }
+{
+    put_site(sites, spot.line, 0)?;
+    push(code, spot, Step::Begin)?;
+    let thread = operand(code, scope, spot, e)?;
+    push(code, spot, Step::Join(thread))?;
+    push(code, spot, Step::Done)?;
+    Ok(())
+}
+
+#[tactic(auto, using(crate::proofs::Sizes::statement_ends))]
+pub fn print(
+    code: &mut Vec<Instr>,
+    sites: &mut Vec<Site>,
+    scope: &Scope,
+    spot: Spot,
+    e: &Expr,
+) -> Result<(), NoMemory>
+    ensures code { OnOk result (code.new.items ≡ code.old.items ++ instrs spot.line spot.place (simple_steps scope.now.program scope.now.locals (tree.print (expression_of e.now)))) }
+    ensures sites { OnOk result (sites.new.items ≡ sites.old.items ++ site spot.line 0 ∷ []) }
+{
+    put_site(sites, spot.line, 0)?;
+    push(code, spot, Step::Begin)?;
+    let value = operand(code, scope, spot, e)?;
+    push(code, spot, Step::Print(value))?;
+    push(code, spot, Step::Done)?;
+    Ok(())
+}

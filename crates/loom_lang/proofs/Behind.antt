@@ -21,13 +21,13 @@ lets_behind l (k.If e a b) rest = simp (append-nil, append_assoc)
 lets_behind l (k.While e a) rest = simp append-nil
 lets_behind l _ rest = refl
 
-pub unknown_behind : (p : Source) (locals : List (List ℕ)) (l : ℕ) (s : Kind) (rest : Body) → unknown_lines p locals (behind l s rest) ≡ unknown_lines p locals (behind l s end) ++ unknown_lines p locals rest
+unknown_behind : (p : Source) (locals : List (List ℕ)) (l : ℕ) (s : Kind) (rest : Body) → unknown_lines p locals (behind l s rest) ≡ unknown_lines p locals (behind l s end) ++ unknown_lines p locals rest
 unknown_behind p locals l (k.If e a b) rest = simp (append-nil, append_assoc)
 unknown_behind p locals l (k.While e a) rest = simp (append-nil, append_assoc)
 unknown_behind p locals l k.Skip rest = refl
 unknown_behind p locals l _ rest = simp append-nil
 
-pub miscounted_behind : (p : Source) (l : ℕ) (s : Kind) (rest : Body) → miscounted_lines p (behind l s rest) ≡ miscounted_lines p (behind l s end) ++ miscounted_lines p rest
+miscounted_behind : (p : Source) (l : ℕ) (s : Kind) (rest : Body) → miscounted_lines p (behind l s rest) ≡ miscounted_lines p (behind l s end) ++ miscounted_lines p rest
 miscounted_behind p l (k.If e a b) rest = simp (append-nil, append_assoc)
 miscounted_behind p l (k.While e a) rest = simp append-nil
 miscounted_behind p l (k.Let x r) rest = simp append-nil

@@ -15,7 +15,7 @@ use Rattle.loom_lang.proofs.Empty.{is_empty, empty_append, empty_line_if}
 use Rattle.loom_lang.proofs.Repeated.{locals_names}
 
 -- a line where a test fails, and other lines
-pub empty_more : (b : Bool) (l : ℕ) (ls : List ℕ) → is_empty (line_if (not b) l ++ ls) ≡ (b && is_empty ls)
+empty_more : (b : Bool) (l : ℕ) (ls : List ℕ) → is_empty (line_if (not b) l ++ ls) ≡ (b && is_empty ls)
 empty_more true l ls = refl
 empty_more false l ls = refl
 

@@ -11,20 +11,20 @@ use Rattle.loom_lang.specs.Refusal.{rank, lines_of_reason, IsAmong, IsFaultless,
 use Rattle.loom_lang.specs.Noted.{is_before, sooner, noted, noted_all, reasons}
 
 -- the line and the reason of a fault stand at this one or behind it
-abbrev pub IsAtOrBehind : LangRefusal → ℕ → Reason → Type 0
+abbrev IsAtOrBehind : LangRefusal → ℕ → Reason → Type 0
 IsAtOrBehind f l r = (f.line < l) ⊎ ((f.line ≡ l) × (rank f.reason ≤ rank r))
 
 -- one of these faults, and none of them stands before it
-pub record IsLeast (Is : ℕ → Reason → Type 0) (f : LangRefusal) : Type 0 where
+record IsLeast (Is : ℕ → Reason → Type 0) (f : LangRefusal) : Type 0 where
   pub stands : Is f.line f.reason
   pub first : (l : ℕ) (r : Reason) → Is l r → IsAtOrBehind f l r
 
-abbrev pub AreLeast : (ℕ → Reason → Type 0) → Option LangRefusal → Type 0
+abbrev AreLeast : (ℕ → Reason → Type 0) → Option LangRefusal → Type 0
 AreLeast Is None = (l : ℕ) (r : Reason) → Is l r → ⊥
 AreLeast Is (Some f) = IsLeast Is f
 
 -- of these faults, or this one
-abbrev pub Or : (ℕ → Reason → Type 0) → ℕ → Reason → ℕ → Reason → Type 0
+abbrev Or : (ℕ → Reason → Type 0) → ℕ → Reason → ℕ → Reason → Type 0
 Or Is line why l r = Is l r ⊎ ((l ≡ line) × (r ≡ why))
 
 at_itself : (f : LangRefusal) (l : ℕ) (r : Reason) → (l ≡ f.line) × (r ≡ f.reason) → IsAtOrBehind f l r
@@ -90,7 +90,7 @@ least_of_same Is Are None there back h = λ l r x. h l r (back l r x)
 least_of_same Is Are (Some f) there back h = record { stands = there f.line f.reason h.stands; first = λ l r x. h.first l r (back l r x) }
 
 -- of these faults, or for this reason at one of these lines
-abbrev pub OrAmong : (ℕ → Reason → Type 0) → Reason → List ℕ → ℕ → Reason → Type 0
+abbrev OrAmong : (ℕ → Reason → Type 0) → Reason → List ℕ → ℕ → Reason → Type 0
 OrAmong Is why ls l r = Is l r ⊎ (IsAmong l ls × (r ≡ why))
 
 noted_least : (Is : ℕ → Reason → Type 0) (first : Option LangRefusal) (why : Reason) (ls : List ℕ) → AreLeast Is first → AreLeast (OrAmong Is why ls) (noted first why ls)
@@ -113,12 +113,12 @@ noted_least Is first why (k ∷ ls) h =
     back l r (inr (inl e, x)) = inl (inr (e, x))
     back l r (inr (inr a, x)) = inr (a, x)
 
-abbrev pub IsOne : Reason → List Reason → Type 0
+abbrev IsOne : Reason → List Reason → Type 0
 IsOne r [] = ⊥
 IsOne r (why ∷ whys) = (r ≡ why) ⊎ IsOne r whys
 
 -- of these faults, or for one of these reasons in the items of a file
-abbrev pub OrFound : (ℕ → Reason → Type 0) → List Item → ℕ → List Reason → ℕ → Reason → Type 0
+abbrev OrFound : (ℕ → Reason → Type 0) → List Item → ℕ → List Reason → ℕ → Reason → Type 0
 OrFound Is items last whys l r = Is l r ⊎ (IsOne r whys × IsAmong l (lines_of_reason items last r))
 
 all_least : (Is : ℕ → Reason → Type 0) (items : List Item) (last : ℕ) (first : Option LangRefusal) (whys : List Reason) → AreLeast Is first → AreLeast (OrFound Is items last whys) (noted_all items last first whys)

@@ -21,7 +21,7 @@ pub drop_at : {X : Type 0} (xs : List X) (i : ℕ) (x : X) → i < length xs →
 drop_at xs i x l e = rw add-one (drop-cons xs i x l ∙ ap (λ z. z ∷ drop (suc i) xs) (sym e))
 
 -- the functions of one item, and those of the items behind it
-pub functions_on : (g : Function → List ℕ) (items : List rust_item.Item) (i : ℕ) (item : rust_item.Item) → i < length items → item ≡ get_or items i item → flat_map g (flat_map funcs_in (items_of (drop i items))) ≡ flat_map g (funcs_in (item_of item)) ++ flat_map g (flat_map funcs_in (items_of (drop (i + 1) items)))
+functions_on : (g : Function → List ℕ) (items : List rust_item.Item) (i : ℕ) (item : rust_item.Item) → i < length items → item ≡ get_or items i item → flat_map g (flat_map funcs_in (items_of (drop i items))) ≡ flat_map g (funcs_in (item_of item)) ++ flat_map g (flat_map funcs_in (items_of (drop (i + 1) items)))
 functions_on g items i item l e =
     ap (λ z. flat_map g (flat_map funcs_in (items_of z))) (drop_at items i item l e) ∙ flat_map-append g (funcs_in (item_of item)) (flat_map funcs_in (items_of (drop (i + 1) items)))
 

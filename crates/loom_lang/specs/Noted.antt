@@ -33,7 +33,7 @@ reasons =
     reason.SecondOnLine ∷ reason.TooMany which.Statements ∷ reason.UnknownName ∷ reason.NameTwice ∷ reason.WrongCount ∷ reason.NoMain ∷
     reason.TooMany which.Functions ∷ reason.TooMany which.Params ∷ reason.TooMany which.Locals ∷ reason.TooMany which.Names ∷ reason.TooMany which.Cells ∷ []
 
--- A statement, the blocks in it and the statements behind it aside.
+-- The rules at one statement, without the blocks in it and the statements behind it.
 
 abbrev pub knows_head : Source → List (List ℕ) → Body → Bool
 knows_head p locals end = true
@@ -47,6 +47,7 @@ counts_head p (simple l s rest) = counts_simple p s
 counts_head p (if_ l e a b rest) = true
 counts_head p (while_ l e a rest) = true
 
+-- the names of locals
 abbrev pub names_of : List Local → List (List ℕ)
 names_of locals = map (λ (d : Local). d.name) locals
 

@@ -18,7 +18,7 @@ use loom_tree::item::Item;
 use loom_tree::name::NoMemory;
 use std::alloc::Global;
 
-/// Notes the first line behind as many as there may be.
+/// Notes the first line beyond the limit.
 pub fn note_over(first: &mut Option<LangRefusal>, most: usize, lines: &[u32], reason: Reason)
     ensures { first.new ≡ noted first.old reason (over most lines.now) }
 {

@@ -118,8 +118,8 @@ fn value(
     match scope.local(x) {
         Some(local) => expression(code, scope, spot, Target::Local(local), e),
         None => {
-            let value = operand(code, scope, spot, e)?;
-            push(code, spot, Step::Write(scope.word(x), value))
+            let operand = operand(code, scope, spot, e)?;
+            push(code, spot, Step::Write(scope.word(x), operand))
         }
     }
 }
@@ -241,8 +241,8 @@ pub fn give_back(
             Ok(())
         }
         Some(e) => {
-            let value = operand(code, scope, spot, e)?;
-            push(code, spot, Step::Return(value))?;
+            let given = operand(code, scope, spot, e)?;
+            push(code, spot, Step::Return(given))?;
             Ok(())
         }
     }
@@ -265,6 +265,7 @@ pub fn alone(
     Ok(())
 }
 
+/// A statement of no step.
 pub fn skip(code: &mut Vec<Instr>, sites: &mut Vec<Site>, spot: Spot) -> Result<(), NoMemory>
     ensures code { OnOk result (code.new.items ≡ code.old.items ++ instrs spot.line spot.place (s.Begin ∷ s.Done ∷ [])) }
     ensures sites { OnOk result (sites.new.items ≡ sites.old.items ++ site spot.line 0 ∷ []) }
@@ -275,6 +276,7 @@ pub fn skip(code: &mut Vec<Instr>, sites: &mut Vec<Site>, spot: Spot) -> Result<
     Ok(())
 }
 
+/// A wait for a thread.
 #[tactic(auto, using(crate::proofs::Sizes::statement_ends))]
 pub fn join(
     code: &mut Vec<Instr>,
@@ -294,6 +296,7 @@ pub fn join(
     Ok(())
 }
 
+/// The value of an expression, printed.
 #[tactic(auto, using(crate::proofs::Sizes::statement_ends))]
 pub fn print(
     code: &mut Vec<Instr>,
@@ -307,8 +310,8 @@ pub fn print(
 {
     put_site(sites, spot.line, 0)?;
     push(code, spot, Step::Begin)?;
-    let value = operand(code, scope, spot, e)?;
-    push(code, spot, Step::Print(value))?;
+    let printed = operand(code, scope, spot, e)?;
+    push(code, spot, Step::Print(printed))?;
     push(code, spot, Step::Done)?;
     Ok(())
 }

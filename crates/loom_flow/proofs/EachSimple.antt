@@ -1,9 +1,8 @@
 -- A statement without a block gives in its code what it gives in the tree.
-use Rattle.std.proofs.Common.{ℕ, suc, zero, ◌+◌, ◌≡◌, ◌≤◌, le_refl, List, [], ◌∷◌, ◌++◌, Bool, true, false, ℤ, pos, negsuc, Option, Some, None, refl, sym, ap, subst, ◌∙◌, slice_get, length, reverse, take, drop, append_assoc, length-append, arith}
-use mathlib.Core.Path.{fun_ext}
+use Rattle.std.proofs.Common.{ℕ, suc, ◌+◌, ◌≡◌, ◌≤◌, List, [], ◌∷◌, ◌++◌, Bool, ℤ, pos, Option, Some, None, refl, sym, ap, subst, ◌∙◌, slice_get, length, append_assoc, length-append, arith}
 use Rattle.loom_tree.specs.Tree.{Expression, Right, Simple, let_, set, set_cell, return, Source}
 use Rattle.loom_tree.specs.Tree as tree
-use Rattle.loom_lang.specs.Numbers.{position, Cells, cells_named, mutex_number, sema_number, function_number}
+use Rattle.loom_lang.specs.Numbers.{position, mutex_number, sema_number, function_number}
 use Rattle.loom_lang.specs.Trace as trace
 use Rattle.loom_lang.specs.Trace.{Item, Lists, Thread, Locals, Calls, made, begins, done, out, broken, emit, any, either, trapped, value_in, updated, expression, arguments, indexed, writing_word, stored, effect, right, joined, numbered}
 use Rattle.loom_flow.specs.declared.code.Operand.{Operand}
@@ -11,16 +10,14 @@ use Rattle.loom_flow.specs.declared.code.Operand.TheVariants as operand
 use Rattle.loom_flow.specs.declared.code.Target.TheVariants as target
 use Rattle.loom_flow.specs.declared.code.Step.{Step}
 use Rattle.loom_flow.specs.declared.code.Step.TheVariants as s
-use Rattle.loom_flow.specs.declared.code.Instr.{Instr}
-use Rattle.loom_flow.specs.Flat.{Flat, State, Frame, put_at, given, jumped, named, names, resume, returned, called, performed}
-use Rattle.loom_flow.specs.Lowered.{or_zero, first_cell, word_named, array_of, array_named, operand_of, steps_to, operand_steps, argument_steps, call_steps, spawn_steps, store_step, value_steps, set_steps, simple_steps, resume_of, instr, instrs}
-use Rattle.loom_flow.proofs.Relations.{Meets, meets_itself, meets_same, meets_on, meets_emit, meets_any, meets_either}
+use Rattle.loom_flow.specs.Flat.{Flat, State, jumped, named, names, resume, returned, performed}
+use Rattle.loom_flow.specs.Lowered.{or_zero, array_named, operand_of, steps_to, operand_steps, argument_steps, call_steps, store_step, value_steps, set_steps, simple_steps, resume_of, instr, instrs}
+use Rattle.loom_flow.proofs.Relations.{Meets, meets_itself, meets_same, meets_on, meets_emit, meets_either}
 use Rattle.loom_flow.proofs.Steps.{meets_joined}
 use Rattle.loom_flow.proofs.Lying.{Lies}
-use Rattle.loom_flow.proofs.Straight.{straight, straight_append, skip, skip_append, skip_length, AllStraight, all_straight_append, Fetches, meets_straight, meets_instr, lies_front, lies_rest}
-use Rattle.loom_flow.proofs.Expressions.{IsNumbered, IsArray, IsKnown, left, settled, settled_is, operand_are, steps_are}
-use Rattle.loom_flow.proofs.Trees.{meets_expression, meets_arguments, meets_indexed}
-use Rattle.loom_flow.proofs.Arguments.{AllKnown, topped, arguments_are, taken_arguments, left_arguments}
+use Rattle.loom_flow.proofs.Straight.{straight, skip, skip_append, skip_length, AllStraight, all_straight_append, Fetches, meets_instr}
+use Rattle.loom_flow.proofs.Expressions.{IsNumbered, IsArray, IsKnown, left, settled}
+use Rattle.loom_flow.proofs.Arguments.{AllKnown}
 use Rattle.loom_flow.proofs.Statements.{steps_straight, operand_straight, arguments_straight, meets_begin, one_operand}
 use Rattle.loom_flow.proofs.Simple.{CallsMeet, IsFunction, meets_call, meets_store, meets_value}
 use Rattle.loom_flow.proofs.Effects.{spawn_is, meets_cell, return_is, meets_return}
@@ -103,7 +100,7 @@ set_meets b c t m n l k at xs z calls x (Right.call f es) more fetches meets nam
     (subst (λ steps. Lies c.code at (instrs l k (s.Begin ∷ steps))) (three_behind before call store s.Done) lies)
     (site f es refl ∙ call_resumes at before call)
     (λ j le v. meets_store b c t (m j) l k (suc (skip (suc at) before)) x xs z v more h numbered_x (λ vs g.
-      subst (λ i. Meets b (m j (jumped (record z { locals = vs }) i)) (more (named xs vs))) (three_steps (suc at) before call store s.Done) (ends j le vs g)))
+    subst (λ i. Meets b (m j (jumped (record z { locals = vs }) i)) (more (named xs vs))) (three_steps (suc at) before call store s.Done) (ends j le vs g)))
 set_meets b c t m n l k at xs z calls x (Right.spawn f es) more fetches meets names_are h numbered_x known lies site ends =
     let before : List Step = argument_steps t.program xs es in
     let spawn : Step = s.Spawn (or_zero (function_number t.program f)) (length es) target.Push in
@@ -115,7 +112,7 @@ set_meets b c t m n l k at xs z calls x (Right.spawn f es) more fetches meets na
     (spawn_is b c t (m n) l k (suc at) xs z f es (store ∷ s.Done ∷ []) (λ v. stored t l (named xs z.locals) (value_in (named xs z.locals) x) x v (λ env. emit (done l) (more env)))
     h known.0 known.1
     (λ v. meets_store b c t (m n) l k (suc (skip (suc at) before)) x xs z v more h numbered_x (λ vs g.
-      subst (λ i. Meets b (m n (jumped (record z { locals = vs }) i)) (more (named xs vs))) (three_steps (suc at) before spawn store s.Done) (ends n (omega arith) vs g))))
+    subst (λ i. Meets b (m n (jumped (record z { locals = vs }) i)) (more (named xs vs))) (three_steps (suc at) before spawn store s.Done) (ends n (omega arith) vs g))))
 
 -- A step with a number, without an operand
 
@@ -173,7 +170,7 @@ simple_meets b c t m n l k at xs z calls (Simple.call f es) ret more fetches mee
     (subst (λ steps. Lies c.code at (instrs l k (s.Begin ∷ steps))) same lies)
     (site ∙ call_resumes at before call)
     (λ j le v. meets_emit b (done l) _ _
-      (subst (λ i. Meets b (m j (jumped z i)) (more (named xs z.locals))) (ap (skip (suc at)) same ∙ skip_append (suc at) before (call ∷ s.Discard ∷ s.Done ∷ [])) (ends j le z.locals refl)))
+    (subst (λ i. Meets b (m j (jumped z i)) (more (named xs z.locals))) (ap (skip (suc at)) same ∙ skip_append (suc at) before (call ∷ s.Discard ∷ s.Done ∷ [])) (ends j le z.locals refl)))
 simple_meets b c t m n l k at xs z calls (return None) ret more fetches meets names_are h known lies site returns ends =
     meets_begin b c t (m n) l k at xs z [] (emit (done l) (ret (pos 0))) (fetches n) names_are tt (lies.0, tt)
     (meets_on b (m n (jumped z (suc at))) (performed c t (m n) (jumped z (suc at)) (instr l k (s.Return (operand.Number (pos 0)))) (s.Return (operand.Number (pos 0)))) _

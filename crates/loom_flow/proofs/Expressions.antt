@@ -1,5 +1,5 @@
 -- The steps of an expression give what the expression gives.
-use Rattle.std.proofs.Common.{ℕ, suc, zero, ◌+◌, ◌≡◌, List, [], ◌∷◌, ◌++◌, ℤ, pos, Option, Some, None, refl, sym, ap, subst, ◌∙◌, slice_get, length}
+use Rattle.std.proofs.Common.{ℕ, suc, ◌≡◌, List, [], ◌∷◌, ◌++◌, ℤ, Option, Some, None, refl, sym, ap, ◌∙◌, slice_get, length}
 use mathlib.Core.Path.{fun_ext}
 use Rattle.loom_tree.specs.declared.expression.Op.{Op}
 use Rattle.loom_tree.specs.Tree.{Expression, num, var, cell, neg, inverse, bin, Source}
@@ -75,15 +75,15 @@ settled_is t l xs vs (bin o a b) more h = refl
 variable_operand : (c : Flat) (t : Thread) (l k : ℕ) (x : List ℕ) (steps : List Step) (next : State → Lists) (z : State) (at : ℕ) (a : Option ℕ)
     → straight c t l k steps next (jumped z at) ≡ variable t l (local_value z.locals a) x (λ v. next (jumped (given z target.Push v) (skip at steps)))
     → straight c t l k (unless_there (local_operand a) steps) next (jumped z at)
-      ≡ variable t l (local_value z.locals a) x (λ v. next (jumped (left (local_operand a) v z) (skip at (unless_there (local_operand a) steps))))
+    ≡ variable t l (local_value z.locals a) x (λ v. next (jumped (left (local_operand a) v z) (skip at (unless_there (local_operand a) steps))))
 variable_operand c t l k x steps next z at None h = h
 variable_operand c t l k x steps next z at (Some j) h = refl
 
 pub operand_are : (c : Flat) (t : Thread) (l k : ℕ) (xs : List (List ℕ)) (e : Expression) (next : State → Lists) (z : State) (at : ℕ) → length xs ≡ length z.locals
     → straight c t l k (steps_to t.program xs target.Push e) next (jumped z at)
-      ≡ expression t l (named xs z.locals) e (λ v. next (jumped (given z target.Push v) (skip at (steps_to t.program xs target.Push e))))
+    ≡ expression t l (named xs z.locals) e (λ v. next (jumped (given z target.Push v) (skip at (steps_to t.program xs target.Push e))))
     → straight c t l k (operand_steps t.program xs e) next (jumped z at)
-      ≡ expression t l (named xs z.locals) e (λ v. next (jumped (left (operand_of xs e) v z) (skip at (operand_steps t.program xs e))))
+    ≡ expression t l (named xs z.locals) e (λ v. next (jumped (left (operand_of xs e) v z) (skip at (operand_steps t.program xs e))))
 operand_are c t l k xs (num n) next z at h g = refl
 operand_are c t l k xs (var x) next z at h g =
     let found : value_in (named xs z.locals) x ≡ local_value z.locals (position x xs) = value_named xs z.locals x h in
@@ -112,7 +112,7 @@ invert_is c t l k d (operand.Number m) next z n v = refl
 
 apply_is : (c : Flat) (t : Thread) (l k : ℕ) (d : Target) (o : Op) (a b : Operand) (next : State → Lists) (z : State) (n : ℕ) (v w : ℤ)
     → straight c t l k (s.Apply o a b d ∷ []) next (jumped (left b w (left a v z)) n)
-      ≡ operated t l o (settled a z.locals v) (settled b z.locals w) (λ u. next (jumped (given z d u) (suc n)))
+    ≡ operated t l o (settled a z.locals v) (settled b z.locals w) (λ u. next (jumped (given z d u) (suc n)))
 apply_is c t l k d o operand.Top operand.Top next z n v w = refl
 apply_is c t l k d o operand.Top (operand.Local j) next z n v w = refl
 apply_is c t l k d o operand.Top (operand.Number m) next z n v w = refl
@@ -126,7 +126,7 @@ apply_is c t l k d o (operand.Number i) (operand.Number m) next z n v w = refl
 -- a cell is read where its array has a number
 read_cell_is : (c : Flat) (t : Thread) (l k : ℕ) (d : Target) (x : List ℕ) (a : Operand) (next : State → Lists) (z : State) (n : ℕ) (v : ℤ) → IsArray t.program x
     → straight c t l k (s.ReadCell (array_named t.program x) a d ∷ []) next (jumped (left a v z) n)
-      ≡ indexed t l (cells_named t.program x) (settled a z.locals v) (λ w. reading l w (λ u. next (jumped (given z d u) (suc n))))
+    ≡ indexed t l (cells_named t.program x) (settled a z.locals v) (λ w. reading l w (λ u. next (jumped (given z d u) (suc n))))
 read_cell_is c t l k d x a next z n v h =
     ap {B = Lists} (λ cells. straight c t l k (s.ReadCell (array_of cells) a d ∷ []) next (jumped (left a v z) n)) h.2
     ∙ by a
@@ -134,8 +134,9 @@ read_cell_is c t l k d x a next z n v h =
   where
     here : Option Cells
     here = Some (record { first = h.0; count = Some h.1 })
+
     by : (b : Operand) → straight c t l k (s.ReadCell (array_of here) b d ∷ []) next (jumped (left b v z) n)
-      ≡ indexed t l here (settled b z.locals v) (λ w. reading l w (λ u. next (jumped (given z d u) (suc n))))
+        ≡ indexed t l here (settled b z.locals v) (λ w. reading l w (λ u. next (jumped (given z d u) (suc n))))
     by operand.Top = refl
     by (operand.Local j) = refl
     by (operand.Number m) = refl
@@ -153,7 +154,7 @@ skip_variable at p d x a = refl
 pub steps_are : (c : Flat) (t : Thread) (l k : ℕ) (xs : List (List ℕ)) (d : Target) (e : Expression) (next : State → Lists) (z : State) (at : ℕ)
     → length xs ≡ length z.locals → IsKnown t.program xs e
     → straight c t l k (steps_to t.program xs d e) next (jumped z at)
-      ≡ expression t l (named xs z.locals) e (λ v. next (jumped (given z d v) (skip at (steps_to t.program xs d e))))
+    ≡ expression t l (named xs z.locals) e (λ v. next (jumped (given z d v) (skip at (steps_to t.program xs d e))))
 steps_are c t l k xs d (num n) next z at h g = refl
 steps_are c t l k xs d (var x) next z at h g =
     variable_is c t l k d x next z at (position x xs) g
@@ -200,10 +201,10 @@ steps_are c t l k xs d (bin o e f) next z at h g =
     ap {B = Lists} (λ (m : State → Lists). m (jumped z at)) (straight_append c t l k first (second ++ last) next)
     ∙ operand_are c t l k xs e (straight c t l k (second ++ last) next) z at h (steps_are c t l k xs target.Push e (straight c t l k (second ++ last) next) z at h g.0)
     ∙ ap {B = Lists} (λ (m : ℤ → Lists). expression t l env e m) (fun_ext (λ v.
-      ap {B = Lists} (λ (m : State → Lists). m (jumped (left a v z) one)) (straight_append c t l k second last next)
-      ∙ operand_are c t l k xs f (straight c t l k last next) (left a v z) one h (steps_are c t l k xs target.Push f (straight c t l k last next) (left a v z) one h g.1)
-      ∙ ap {B = Lists} (λ (m : ℤ → Lists). expression t l env f m) (fun_ext (λ w. apply_is c t l k d o a b next z two v w))
-      ∙ sym (settled_is t l xs z.locals f (λ w. operated t l o (settled a z.locals v) w (λ u. next (jumped (given z d u) (suc two)))) h)))
+    ap {B = Lists} (λ (m : State → Lists). m (jumped (left a v z) one)) (straight_append c t l k second last next)
+    ∙ operand_are c t l k xs f (straight c t l k last next) (left a v z) one h (steps_are c t l k xs target.Push f (straight c t l k last next) (left a v z) one h g.1)
+    ∙ ap {B = Lists} (λ (m : ℤ → Lists). expression t l env f m) (fun_ext (λ w. apply_is c t l k d o a b next z two v w))
+    ∙ sym (settled_is t l xs z.locals f (λ w. operated t l o (settled a z.locals v) w (λ u. next (jumped (given z d u) (suc two)))) h)))
     ∙ sym (settled_is t l xs z.locals e (λ v. expression t l env f (λ w. operated t l o v w (λ u. next (jumped (given z d u) (suc two))))) h)
     ∙ ap {B = Lists} (λ n. expression t l env e (λ v. expression t l env f (λ w. operated t l o v w (λ u. next (jumped (given z d u) n)))))
-      (sym (skip_append at first (second ++ last) ∙ skip_append one second last))
+    (sym (skip_append at first (second ++ last) ∙ skip_append one second last))

@@ -1,23 +1,19 @@
 -- Frames, calls and threads
-use Rattle.std.proofs.Common.{ℕ, suc, zero, ◌+◌, ◌-◌, ◌≡◌, ◌≤◌, ◌<◌, List, [], ◌∷◌, ◌++◌, Bool, true, false, ℤ, pos, Option, Some, None, refl, sym, ap, subst, ◌∙◌, slice_get, length, length-append, map, inl, inr, nat_lt, arith}
+use Rattle.std.proofs.Common.{ℕ, suc, zero, ◌+◌, ◌-◌, ◌≡◌, ◌≤◌, List, [], ◌∷◌, ◌++◌, Bool, true, ℤ, pos, Option, Some, None, refl, sym, ap, subst, ◌∙◌, slice_get, length, length-append, map, inl, inr, nat_lt, arith}
 use Rattle.std.proofs.lemmas.Bool.{lt-ltb}
-use Rattle.loom_tree.specs.Tree.{Body, Function, Source}
+use Rattle.loom_tree.specs.Tree.{Function, Source}
 use Rattle.loom_lang.specs.Rules.{lets, locals_of}
 use Rattle.loom_lang.specs.Trace as trace
 use Rattle.loom_lang.specs.Trace.{Item, Outcome, Lists, Thread, Locals, Calls, made, enter, out, broken, emit, any, choice, trapped, body, bound, framed, calls_to, frame_limit, ended, IsTrace}
 use Rattle.loom_flow.specs.declared.code.Step.TheVariants as s
-use Rattle.loom_flow.specs.declared.code.Instr.{Instr}
-use Rattle.loom_flow.specs.declared.code.Site.{Site}
 use Rattle.loom_flow.specs.declared.code.Entrance.{Entrance}
-use Rattle.loom_flow.specs.Flat.{Flat, Frame, State, filled, frame_locals, named, names, returned, entered, called, runs, started}
+use Rattle.loom_flow.specs.Flat.{Flat, Frame, State, filled, frame_locals, named, names, returned, entered}
 use Rattle.loom_flow.specs.Lowered.{instr, size, place_count, body_code, body_sites}
 use Rattle.loom_flow.proofs.Relations.{Within, Meets, meets_itself, meets_same, meets_on, meets_emit}
-use Rattle.loom_flow.proofs.Steps.{meets_performed}
-use Rattle.loom_flow.proofs.Running.{ever}
 use Rattle.loom_flow.proofs.Lying.{Lies}
 use Rattle.loom_flow.proofs.Straight.{meets_instr}
 use Rattle.loom_flow.proofs.Simple.{CallsMeet}
-use Rattle.loom_flow.proofs.Meeting.{Runner, IsKnownBody, body_meets, runs_runner, ever_runner}
+use Rattle.loom_flow.proofs.Meeting.{Runner, IsKnownBody, body_meets}
 
 -- Locals of a new frame
 
@@ -75,7 +71,7 @@ frame_meets : (b : Bool) (c : Flat) (t : Thread) (m : ℕ → State → Lists) �
     → ((j : ℕ) → j ≤ n → CallsMeet b c t m j (length below) calls)
     → ((j : ℕ) → j ≤ n → (v : ℤ) → Meets b (returned c t (m j) ws v below) (more v))
     → Meets b (m n (record { at = e.start; values = ws; func = f; locals = frame_locals e vs; below = below }))
-      (body t calls most (trace.frame_locals g vs) g.body (λ v. emit (out f) (more v)) (λ env. emit (out f) (more (pos 0))))
+    (body t calls most (trace.frame_locals g vs) g.body (λ v. emit (out f) (more v)) (λ env. emit (out f) (more (pos 0))))
 frame_meets b c t m runner same most n le calls f g e vs ws below more found placed meets returns =
     let z : State = record { at = e.start; values = ws; func = f; locals = frame_locals e vs; below = below } in
     let xs : List (List ℕ) = locals_of g in
@@ -83,14 +79,14 @@ frame_meets b c t m runner same most n le calls f g e vs ws below more found pla
     let sites : Lies c.sites (suc e.place) (body_sites t.program xs e.start g.body) = subst (λ (p : Source). Lies c.sites (suc e.place) (body_sites p xs e.start g.body)) (sym same) placed.sites in
     let known : IsKnownBody t.program xs g.body = subst (λ (p : Source). IsKnownBody p xs g.body) (sym same) placed.known in
     let last : slice_get c.code (e.start + size t.program xs g.body) ≡ Some (instr g.line (suc e.place + place_count g.body) s.Out) =
-      ap (λ (p : Source). slice_get c.code (e.start + size p xs g.body)) same ∙ placed.last in
+    ap (λ (p : Source). slice_get c.code (e.start + size p xs g.body)) same ∙ placed.last in
     subst (λ (env : Locals). Meets b (m n z) (body t calls most env g.body (λ v. emit (out f) (more v)) (λ env'. emit (out f) (more (pos 0))))) (frame_named c g e vs placed)
     (body_meets b c t m runner most n le calls xs z g.body (suc e.place) e.start (λ v. emit (out f) (more v)) (λ env. emit (out f) (more (pos 0)))
-      meets (ap names found) (frame_length c g e vs placed) known code sites
-      (λ j under v. meets_emit b (out f) _ _ (returns j under v))
-      (λ j under us h. meets_on b _ (emit (out f) (returned c t (m j) ws (pos 0) below)) _
-        (meets_instr b c t (m j) (record z { at = e.start + size t.program xs g.body; locals = us }) (instr g.line (suc e.place + place_count g.body) s.Out) (runner.fetches j) last)
-        (meets_emit b (out f) _ _ (returns j under (pos 0)))))
+    meets (ap names found) (frame_length c g e vs placed) known code sites
+    (λ j under v. meets_emit b (out f) _ _ (returns j under v))
+    (λ j under us h. meets_on b _ (emit (out f) (returned c t (m j) ws (pos 0) below)) _
+    (meets_instr b c t (m j) (record z { at = e.start + size t.program xs g.body; locals = us }) (instr g.line (suc e.place + place_count g.body) s.Out) (runner.fetches j) last)
+    (meets_emit b (out f) _ _ (returns j under (pos 0)))))
 
 -- Calls, with so many frames left
 
@@ -108,10 +104,10 @@ calls_meet b c t m runner same placed most (suc d) n le depth full z i f vs more
     by : ((j : ℕ) → j ≤ n → CallsMeet b c t m j (suc (length z.below)) (calls_to t most d)) → (o : Option Function) → slice_get c.program.funcs f ≡ o → (q : Option Entrance) → IsFunctionPlaced c o q → Meets b (entered c (m n) z i f vs q) (framed t (calls_to t most d) most f vs more o)
     by again None found q h = meets_same b _ _ (ap {B = Lists} (entered c (m n) z i f vs) h)
     by again (Some g) found q h =
-      meets_on b _ (entered c (m n) z i f vs (Some h.0)) _
-      (meets_same b _ _ (ap {B = Lists} (entered c (m n) z i f vs) h.1))
-      (meets_emit b (enter f) _ _
-      (frame_meets b c t m runner same most n le (calls_to t most d) f g h.0 vs z.values ((record { func = z.func; locals = z.locals; site = i.place }) ∷ z.below) more found h.2
+        meets_on b _ (entered c (m n) z i f vs (Some h.0)) _
+        (meets_same b _ _ (ap {B = Lists} (entered c (m n) z i f vs) h.1))
+        (meets_emit b (enter f) _ _
+        (frame_meets b c t m runner same most n le (calls_to t most d) f g h.0 vs z.values ((record { func = z.func; locals = z.locals; site = i.place }) ∷ z.below) more found h.2
         again resumes))
 
 -- Threads
@@ -132,5 +128,5 @@ first_frame b c t m runner same placed most n le f line vs g e found here =
     meets_on b _ (framed t (calls_to t most 255) most f vs (λ v. t.stopped) (Some g)) _
     (meets_emit b (enter f) _ _
     (frame_meets b c t m runner same most n le (calls_to t most 255) f g e vs [] [] (λ v. t.stopped) found here
-      (λ j under. calls_meet b c t m runner same placed most 255 j (omega (arith, under, le)) 0 refl) (λ j under v. meets_itself b t.stopped)))
+    (λ j under. calls_meet b c t m runner same placed most 255 j (omega (arith, under, le)) 0 refl) (λ j under v. meets_itself b t.stopped)))
     (meets_same b _ _ (ap {B = Lists} (framed t (calls_to t most 255) most f vs (λ v. t.stopped)) (sym found ∙ ap (λ (p : Source). slice_get p.funcs f) (sym same))))

@@ -1,5 +1,5 @@
 -- The code of statements with blocks, whose jumps get their targets once these are known.
-use Rattle.std.proofs.Common.{ℕ, suc, ◌+◌, ◌<◌, ◌≡◌, List, [], ◌∷◌, ◌++◌, length, slice_set, refl, ap, sym, ◌∙◌, arith, append_assoc, length-append, length-set}
+use Rattle.std.proofs.Common.{ℕ, suc, ◌+◌, ◌<◌, ◌≡◌, List, [], ◌∷◌, ◌++◌, length, slice_set, ap, sym, ◌∙◌, arith, append_assoc, length-append, length-set}
 use Rattle.std.proofs.Math.Seq.{set-append_seam}
 use Rattle.loom_tree.specs.Tree.{Expression, Body, end, if_, while_, Source}
 use Rattle.loom_flow.specs.declared.code.Operand.{Operand}

@@ -1,14 +1,14 @@
 -- What lowered flat code keeps of its program.
-use Rattle.std.proofs.Common.{ℕ, ◌<◌, ◌≤◌, ◌≡◌, ◌↔◌, List, length, map, get_or, Some, ap, sym, ◌∙◌, subst, arith}
+use Rattle.std.proofs.Common.{ℕ, ◌<◌, ◌≤◌, ◌≡◌, ◌↔◌, length, get_or, Some, ap, sym, ◌∙◌, subst, arith}
 use Rattle.std.specs.Prelude.{slice_get, option_map, Contains, IsBitSet}
 use Rattle.std.proofs.lemmas.List.{length-map}
 use Rattle.std.proofs.lemmas.Option.{slice_get-map, slice_get-get_or}
 use Rattle.loom_tree.specs.Tree.{Function, Source}
-use Rattle.loom_lang.specs.Places.{Place, places, place_at, line_of_place}
+use Rattle.loom_lang.specs.Places.{places, place_at, line_of_place}
 use Rattle.loom_flow.specs.declared.code.Site.{Site}
 use Rattle.loom_flow.specs.Flat.{Flat}
 use Rattle.loom_flow.specs.Laws.{HasTraces, HasPlaces, HasInstructionPlaces, HasCalls}
-use Rattle.loom_flow.specs.Lowered.{lowered, or_zero, calls_body, set_of}
+use Rattle.loom_flow.specs.Lowered.{or_zero, calls_body, set_of}
 use Rattle.loom_flow.specs.Code.{IsLowered}
 use Rattle.loom_flow.proofs.Places.{lowered_places, few_places}
 use Rattle.loom_flow.proofs.CallSets.{lowered_calls}

@@ -5,8 +5,8 @@ use Rattle.std.specs.Cmp.Lexicographic.{pointwise}
 use Rattle.std.proofs.lemmas.Bool.{eqb-true}
 use Rattle.std.proofs.lemmas.List.{length-map}
 use Rattle.loom_tree.specs.declared.expression.Expr.{Expr}
-use Rattle.loom_tree.specs.Tree.{Expression, expression_of, expressions_of, Function, Source}
-use Rattle.loom_lang.specs.Rules.{IsLawful, IsLawfulFunction, AreLawfulFunctions, takes}
+use Rattle.loom_tree.specs.Tree.{expression_of, expressions_of, Function, Source}
+use Rattle.loom_lang.specs.Rules.{IsLawful, AreLawfulFunctions, takes}
 
 pub first_of : (a b : Bool) → (a && b) ≡ true → a ≡ true
 first_of true b h = refl

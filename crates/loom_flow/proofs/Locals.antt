@@ -1,5 +1,5 @@
 -- Locals by name and by number.
-use Rattle.std.proofs.Common.{ℕ, suc, zero, ◌+◌, ◌≡◌, ◌==◌, List, [], ◌∷◌, ◌++◌, Bool, true, false, ℤ, pos, Option, Some, None, option_map, refl, sym, ap, subst, ◌∙◌, slice_get, length, arith, if◌then◌else◌}
+use Rattle.std.proofs.Common.{ℕ, suc, zero, ◌≡◌, ◌==◌, List, [], ◌∷◌, true, false, ℤ, Option, Some, None, option_map, refl, sym, ap, ◌∙◌, slice_get, length, arith, if◌then◌else◌}
 use Rattle.std.specs.Cmp.Lexicographic.{pointwise}
 use Rattle.loom_lang.specs.Numbers.{position}
 use Rattle.loom_lang.specs.Trace.{Locals, value_in, updated}

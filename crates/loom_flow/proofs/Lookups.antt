@@ -1,5 +1,5 @@
 -- Where names stand.
-use Rattle.std.proofs.Common.{ℕ, suc, ◌+◌, ◌≤◌, ◌≡◌, ◌==◌, Bool, true, false, List, [], ◌∷◌, ◌++◌, length, map, Option, Some, None, if◌then◌else◌, refl, ap, sym, ◌∙◌, arith, length-append}
+use Rattle.std.proofs.Common.{ℕ, suc, ◌+◌, ◌≤◌, ◌≡◌, ◌==◌, true, false, List, [], ◌∷◌, ◌++◌, length, map, Option, Some, None, if◌then◌else◌, refl, ap, ◌∙◌, arith, length-append}
 use Rattle.std.specs.Prelude.{option_map}
 use Rattle.std.specs.Cmp.Lexicographic.{pointwise}
 use Rattle.std.proofs.lemmas.List.{length-map}
@@ -8,7 +8,6 @@ use Rattle.loom_tree.specs.declared.item.Sema.{Sema}
 use Rattle.loom_tree.specs.Tree.{Source}
 use Rattle.loom_lang.specs.Numbers.{Cells, position}
 use Rattle.loom_lang.specs.Rules.{IsLawful}
-use Rattle.loom_flow.specs.declared.code.Array.{Array}
 use Rattle.loom_flow.specs.Lowered.{first_cell, array_of}
 
 -- where a name first stands in a list that begins at this number

@@ -1,5 +1,5 @@
 -- A list that lies in another from a number on.
-use Rattle.std.proofs.Common.{ℕ, suc, zero, ◌+◌, ◌≡◌, List, [], ◌∷◌, ◌++◌, Option, Some, None, refl, sym, ap, subst, ◌∙◌, slice_get, length, arith}
+use Rattle.std.proofs.Common.{ℕ, suc, ◌+◌, ◌≡◌, List, [], ◌∷◌, ◌++◌, Some, refl, subst, slice_get, length, arith}
 
 abbrev pub Lies : {A : Type 0} → List A → ℕ → List A → Type 0
 Lies all at [] = Unit {0}

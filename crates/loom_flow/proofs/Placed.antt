@@ -1,18 +1,16 @@
 -- Where the functions stand in flat code.
-use Rattle.std.proofs.Common.{ℕ, suc, zero, ◌+◌, ◌≡◌, List, [], ◌∷◌, ◌++◌, Bool, true, Option, Some, None, refl, sym, ap, subst, ◌∙◌, slice_get, length, arith}
-use Rattle.loom_tree.specs.Tree.{Body, Function, Source}
-use Rattle.loom_lang.specs.Rules.{locals_of, knows_body, IsLawful, IsLawfulFunction, AreLawfulFunctions}
+use Rattle.std.proofs.Common.{ℕ, suc, zero, ◌+◌, ◌≡◌, List, [], ◌∷◌, refl, sym, ap, subst, ◌∙◌, slice_get, length, arith}
+use Rattle.loom_tree.specs.Tree.{Function, Source}
+use Rattle.loom_lang.specs.Rules.{locals_of, IsLawful, AreLawfulFunctions}
 use Rattle.loom_flow.specs.declared.code.Step.TheVariants as s
 use Rattle.loom_flow.specs.declared.code.Instr.{Instr}
 use Rattle.loom_flow.specs.declared.code.Site.{Site}
-use Rattle.loom_flow.specs.declared.code.Entrance.{Entrance}
 use Rattle.loom_flow.specs.Flat.{Flat}
 use Rattle.loom_flow.specs.Lowered.{instr, size, place_count, body_code, body_sites, site, functions_code, functions_sites, entrances, lowered}
 use Rattle.loom_flow.proofs.Lying.{Lies, lies_first, lies_second, lies_behind, lies_whole}
 use Rattle.loom_flow.proofs.Sizes.{code_length, sites_length}
-use Rattle.loom_flow.proofs.Meeting.{IsKnownBody}
 use Rattle.loom_flow.proofs.Roles.{body_known}
-use Rattle.loom_flow.proofs.Frames.{IsPlaced, IsFunctionPlaced, ArePlaced}
+use Rattle.loom_flow.proofs.Frames.{IsFunctionPlaced, ArePlaced}
 
 -- the functions from one on, whose first instruction and first place have these numbers
 placed_from : (c : Flat) (fs : List Function) (at place : ℕ) → IsLawful c.program → AreLawfulFunctions c.program fs
@@ -23,15 +21,18 @@ placed_from c (g ∷ gs) at place l ls code sites zero =
     let p : Source = c.program in
     let xs : List (List ℕ) = locals_of g in
     let rest : List Instr = instr g.line (suc place + place_count g.body) s.Out ∷ functions_code p (suc (at + size p xs g.body)) (suc (suc (place + place_count g.body))) gs in
-    let last : Lies c.code (at + length (body_code p xs at (suc place) g.body)) rest = lies_second c.code at (body_code p xs at (suc place) g.body) rest code in
-    (record { start = at; place = place; params = length g.params; locals = length xs }, refl, record {
-      params = refl;
-      locals = refl;
-      code = lies_first c.code at (body_code p xs at (suc place) g.body) rest code;
-      last = ap (λ n. slice_get c.code (at + n)) (sym (code_length p xs g.body at (suc place))) ∙ last.0;
-      sites = lies_first c.sites (suc place) (body_sites p xs at g.body) (site g.line 0 ∷ functions_sites p (suc (at + size p xs g.body)) gs) sites.1;
-      known = body_known p xs g.body l ls.0.known;
-    })
+    let last : Lies c.code (at + length (body_code p xs at (suc place) g.body)) rest = lies_second c.code at (body_code p xs at (suc place) g.body) rest code in (
+      record { start = at; place = place; params = length g.params; locals = length xs },
+      refl,
+      record {
+        params = refl;
+        locals = refl;
+        code = lies_first c.code at (body_code p xs at (suc place) g.body) rest code;
+        last = ap (λ n. slice_get c.code (at + n)) (sym (code_length p xs g.body at (suc place))) ∙ last.0;
+        sites = lies_first c.sites (suc place) (body_sites p xs at g.body) (site g.line 0 ∷ functions_sites p (suc (at + size p xs g.body)) gs) sites.1;
+        known = body_known p xs g.body l ls.0.known;
+      },
+    )
 placed_from c (g ∷ gs) at place l ls code sites (suc f) =
     let p : Source = c.program in
     let xs : List (List ℕ) = locals_of g in
@@ -40,9 +41,9 @@ placed_from c (g ∷ gs) at place l ls code sites (suc f) =
     let more : List Instr = functions_code p next later gs in
     let others : List Site = functions_sites p next gs in
     let code_last : Lies c.code (at + length (body_code p xs at (suc place) g.body)) (instr g.line (suc place + place_count g.body) s.Out ∷ more) =
-      lies_second c.code at (body_code p xs at (suc place) g.body) (instr g.line (suc place + place_count g.body) s.Out ∷ more) code in
+    lies_second c.code at (body_code p xs at (suc place) g.body) (instr g.line (suc place + place_count g.body) s.Out ∷ more) code in
     let sites_last : Lies c.sites (suc place + length (body_sites p xs at g.body)) (site g.line 0 ∷ others) =
-      lies_second c.sites (suc place) (body_sites p xs at g.body) (site g.line 0 ∷ others) sites.1 in
+    lies_second c.sites (suc place) (body_sites p xs at g.body) (site g.line 0 ∷ others) sites.1 in
     let code_length_is : length (body_code p xs at (suc place) g.body) ≡ size p xs g.body = code_length p xs g.body at (suc place) in
     let sites_length_is : length (body_sites p xs at g.body) ≡ place_count g.body = sites_length p xs g.body at in
     placed_from c gs next later l ls.1

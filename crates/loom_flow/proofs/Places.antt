@@ -3,7 +3,7 @@ use Rattle.std.proofs.Common.{ℕ, suc, ◌+◌, ◌*◌, ◌≤◌, ◌≡◌, 
 use Rattle.std.specs.Prelude.{slice_get, flat_map}
 use Rattle.std.proofs.lemmas.List.{map-append}
 use Rattle.loom_tree.specs.Tree.{Body, end, simple, if_, while_, Function, Source}
-use Rattle.loom_lang.specs.Rules.{IsLawful, lines, lines_of, locals_of}
+use Rattle.loom_lang.specs.Rules.{IsLawful, lines, locals_of}
 use Rattle.loom_lang.specs.Places.{Place, body_places, places, places_from, line_of_place, line_of_function}
 use Rattle.loom_flow.specs.declared.code.Site.{Site}
 use Rattle.loom_flow.specs.Laws.{HasPlaces}

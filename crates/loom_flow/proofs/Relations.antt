@@ -1,7 +1,6 @@
 -- One set of lists within another, or around it: what is shown of both directions is shown once.
-use Rattle.std.proofs.Common.{ℕ, ◌≡◌, ◌⊎◌, List, [], ◌∷◌, Bool, true, false, ℤ, pos, negsuc, refl, subst, sym, inl, inr}
-use mathlib.Core.Path.{fun_ext}
-use Rattle.loom_lang.specs.Trace.{Item, Outcome, Open, Lists, Thread, broken, emit, any, choice, either}
+use Rattle.std.proofs.Common.{◌≡◌, List, [], Bool, true, false, refl, subst, sym, inl, inr}
+use Rattle.loom_lang.specs.Trace.{Item, Outcome, Open, Lists, broken, emit, any, choice, either}
 
 abbrev pub Within : Lists → Lists → Type 0
 Within m n = (es : List Item) (r : Outcome) → m es r → n es r

@@ -1,12 +1,12 @@
 -- In a program that keeps the rules each name has its number.
-use Rattle.std.proofs.Common.{ℕ, suc, zero, ◌+◌, ◌≡◌, ◌==◌, List, [], ◌∷◌, ◌++◌, Bool, true, false, not, ◌&&◌, ◌||◌, ℤ, pos, Option, Some, None, option_map, is_some, is_none, refl, sym, ap, subst, ◌∙◌, slice_get, length, map, if◌then◌else◌, ◌⊎◌, ⊎_elim, inl, inr, arith}
+use Rattle.std.proofs.Common.{ℕ, suc, ◌+◌, ◌≡◌, ◌==◌, List, [], ◌∷◌, ◌++◌, Bool, true, false, not, ◌&&◌, ◌||◌, Option, Some, None, option_map, is_some, is_none, refl, sym, ap, subst, ◌∙◌, map, if◌then◌else◌, ◌⊎◌, ⊎_elim, inl, inr}
 use Rattle.std.specs.Cmp.Lexicographic.{pointwise, same_text}
 use Rattle.loom_tree.specs.declared.item.Word.{Word}
 use Rattle.loom_tree.specs.declared.item.Sema.{Sema}
 use Rattle.loom_tree.specs.Tree.{Expression, num, var, cell, neg, inverse, bin, Right, Simple, let_, set, set_cell, return, Body, end, simple, if_, while_, Function, Source}
 use Rattle.loom_tree.specs.Tree as tree
-use Rattle.loom_lang.specs.Rules.{cells_of, is_in, is_distinct, is_word, is_array, is_sema, is_function, knows, knows_all, knows_call, knows_right, knows_returned, knows_simple, knows_body, locals_of, shared_names, file_names, IsLawful, AreLawfulFunctions}
-use Rattle.loom_lang.specs.Numbers.{position, Cells, cells_from, cells_named, mutex_number, sema_number, function_number}
+use Rattle.loom_lang.specs.Rules.{cells_of, is_in, is_distinct, is_word, is_array, is_sema, is_function, knows, knows_all, knows_call, knows_right, knows_simple, knows_body, shared_names, IsLawful}
+use Rattle.loom_lang.specs.Numbers.{position, Cells, cells_from}
 use Rattle.loom_flow.proofs.Expressions.{IsNumbered, IsArray, IsKnown}
 use Rattle.loom_flow.proofs.Arguments.{AllKnown}
 use Rattle.loom_flow.proofs.Simple.{IsFunction}
@@ -71,12 +71,13 @@ array_cells n (w ∷ ws) x d h = by (pointwise ◌==◌ w.name x) refl h (array_
   where
     names : List (List ℕ)
     names = map (λ (v : Word). v.name) ws
+
     by : (b : Bool) → pointwise ◌==◌ w.name x ≡ b → ((b && is_some w.cells) || is_array ws x) ≡ true
-      → (is_array ws x ≡ true → (first : ℕ) × (k : ℕ) × (cells_from (n + cells_of w) ws x ≡ Some (record { first = first; count = Some k })))
-      → (first : ℕ) × (k : ℕ) × ((if b then Some (record { first = n; count = w.cells }) else cells_from (n + cells_of w) ws x) ≡ Some (record { first = first; count = Some k }))
+        → (is_array ws x ≡ true → (first : ℕ) × (k : ℕ) × (cells_from (n + cells_of w) ws x ≡ Some (record { first = first; count = Some k })))
+        → (first : ℕ) × (k : ℕ) × ((if b then Some (record { first = n; count = w.cells }) else cells_from (n + cells_of w) ws x) ≡ Some (record { first = first; count = Some k }))
     by true e g again = ⊎_elim (λ (here : is_some w.cells ≡ true). array_here n w.cells here)
-      (λ (later : is_array ws x ≡ true). absurd (never (is_in w.name names) (subst (λ (y : List ℕ). is_in y names ≡ true) (sym (same_text w.name x (sym e))) (in_words ws x later)) (both _ _ d).0))
-      (or_else (is_some w.cells) (is_array ws x) g)
+        (λ (later : is_array ws x ≡ true). absurd (never (is_in w.name names) (subst (λ (y : List ℕ). is_in y names ≡ true) (sym (same_text w.name x (sym e))) (in_words ws x later)) (both _ _ d).0))
+        (or_else (is_some w.cells) (is_array ws x) g)
     by false e g again = again g
 
 is_in_front : (x : List ℕ) (xs ys : List (List ℕ)) → is_in x xs ≡ true → is_in x (xs ++ ys) ≡ true

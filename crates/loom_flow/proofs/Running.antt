@@ -1,5 +1,5 @@
 -- Runs of flat code, by at most so many steps and by any number of them.
-use Rattle.std.proofs.Common.{ℕ, ◌+◌, ◌&&◌, suc, zero, ◌≡◌, ◌≤◌, ◌<◌, List, [], ◌∷◌, ◌++◌, Bool, true, false, ℤ, pos, negsuc, Option, Some, None, refl, subst, sym, inl, inr, nat_lt, slice_get, length, arith}
+use Rattle.std.proofs.Common.{ℕ, ◌+◌, ◌&&◌, suc, zero, List, [], ◌∷◌, Bool, true, false, ℤ, pos, negsuc, Option, Some, None, refl, inl, inr, nat_lt, slice_get, length}
 use Rattle.loom_lang.specs.Trace as trace
 use Rattle.loom_lang.specs.Trace.{Item, Outcome, Open, Lists, Thread, made, broken, emit, any, choice, either, trapped, frame_limit}
 use Rattle.loom_lang.specs.Values.{is_zero, divides, applied}

@@ -1,9 +1,7 @@
 -- A statement without a block: what its code gives, and what it gives in the tree.
-use Rattle.std.proofs.Common.{ℕ, suc, zero, ◌+◌, ◌≡◌, ◌≤◌, le_refl, List, [], ◌∷◌, ◌++◌, Bool, true, false, ℤ, pos, negsuc, Option, Some, None, refl, sym, ap, subst, ◌∙◌, slice_get, length, reverse, take, drop, append_assoc, arith}
-use mathlib.Core.Path.{fun_ext}
-use Rattle.loom_tree.specs.Tree.{Expression, Right, Simple, let_, set, set_cell, return, Source}
-use Rattle.loom_tree.specs.Tree as tree
-use Rattle.loom_lang.specs.Numbers.{position, Cells, cells_named, mutex_number, sema_number, function_number}
+use Rattle.std.proofs.Common.{ℕ, suc, ◌≡◌, ◌≤◌, List, [], ◌∷◌, ◌++◌, Bool, ℤ, Option, Some, None, refl, sym, ap, subst, ◌∙◌, slice_get, length, reverse, take, append_assoc}
+use Rattle.loom_tree.specs.Tree.{Expression, Source}
+use Rattle.loom_lang.specs.Numbers.{position, Cells, cells_named, function_number}
 use Rattle.loom_lang.specs.Trace as trace
 use Rattle.loom_lang.specs.Trace.{Item, Lists, Thread, Locals, Calls, made, begins, done, out, broken, emit, any, either, trapped, value_in, updated, expression, arguments, indexed, writing_word, stored, effect, right, joined, numbered}
 use Rattle.loom_flow.specs.declared.code.Operand.{Operand}
@@ -12,17 +10,16 @@ use Rattle.loom_flow.specs.declared.code.Target.TheVariants as target
 use Rattle.loom_flow.specs.declared.code.Step.{Step}
 use Rattle.loom_flow.specs.declared.code.Step.TheVariants as s
 use Rattle.loom_flow.specs.declared.code.Instr.{Instr}
-use Rattle.loom_flow.specs.Flat.{Flat, State, Frame, put_at, given, jumped, named, names, resume, returned, called, performed}
-use Rattle.loom_flow.specs.Lowered.{or_zero, first_cell, word_named, array_of, array_named, operand_of, steps_to, operand_steps, argument_steps, call_steps, spawn_steps, store_step, value_steps, set_steps, simple_steps, resume_of, instr, instrs}
-use Rattle.loom_flow.proofs.Relations.{Meets, meets_itself, meets_same, meets_on, meets_emit, meets_any, meets_either}
-use Rattle.loom_flow.proofs.Steps.{meets_joined}
+use Rattle.loom_flow.specs.Flat.{Flat, State, put_at, given, jumped, named, names, resume, called, performed}
+use Rattle.loom_flow.specs.Lowered.{or_zero, first_cell, word_named, operand_of, steps_to, operand_steps, argument_steps, store_step, value_steps, instr, instrs}
+use Rattle.loom_flow.proofs.Relations.{Meets, meets_itself, meets_same, meets_on, meets_emit}
 use Rattle.loom_flow.proofs.Lying.{Lies}
 use Rattle.loom_flow.proofs.Locals.{local_value, value_named, put_by, updated_named, put_length}
-use Rattle.loom_flow.proofs.Straight.{straight, straight_append, skip, skip_append, AllStraight, all_straight_append, Fetches, meets_straight, meets_instr, lies_front, lies_rest}
-use Rattle.loom_flow.proofs.Expressions.{IsNumbered, IsArray, IsKnown, left, settled, settled_is, operand_are, steps_are}
-use Rattle.loom_flow.proofs.Trees.{meets_expression, meets_arguments, meets_indexed}
+use Rattle.loom_flow.proofs.Straight.{straight, straight_append, skip, skip_append, AllStraight, Fetches, meets_straight, meets_instr, lies_front, lies_rest}
+use Rattle.loom_flow.proofs.Expressions.{IsNumbered, IsKnown, left, settled, steps_are}
+use Rattle.loom_flow.proofs.Trees.{meets_expression, meets_arguments}
 use Rattle.loom_flow.proofs.Arguments.{AllKnown, topped, arguments_are, taken_arguments, left_arguments}
-use Rattle.loom_flow.proofs.Statements.{steps_straight, operand_straight, arguments_straight, meets_begin, one_operand}
+use Rattle.loom_flow.proofs.Statements.{arguments_straight, meets_begin, one_operand}
 
 -- Calls
 
@@ -47,7 +44,7 @@ pub meets_call : (b : Bool) (c : Flat) (t : Thread) (m : ℕ → State → Lists
     → resume (slice_get c.sites k) ≡ suc (skip (suc at) (argument_steps t.program xs es))
     → ((j : ℕ) → j ≤ n → (v : ℤ) → Meets b (straight c t l k rest (m j) (jumped (record z { values = v ∷ z.values }) (suc (skip (suc at) (argument_steps t.program xs es))))) (more v))
     → Meets b (m n (jumped z at))
-      (emit (begins l (named xs z.locals)) (arguments t l (named xs z.locals) es (λ vs. numbered (function_number t.program f) (λ g. calls l g vs more))))
+    (emit (begins l (named xs z.locals)) (arguments t l (named xs z.locals) es (λ vs. numbered (function_number t.program f) (λ g. calls l g vs more))))
 meets_call b c t m n l k at xs z calls f es rest more fetches meets names_are h function known all lies site goes_on =
     let env : Locals = named xs z.locals in
     let before : List Step = argument_steps t.program xs es in
@@ -58,20 +55,20 @@ meets_call b c t m n l k at xs z calls f es rest more fetches meets names_are h 
     let is_called : ℤ → Lists = more in
     let found : g ≡ function.0 = ap or_zero function.1 in
     let at_call : (vs : List ℤ) → length vs ≡ length es → Meets b (m n (jumped (topped vs z) a)) (numbered (function_number t.program f) (λ g'. calls l g' vs more)) = λ vs e.
-      meets_on b (m n (jumped (topped vs z) a)) (performed c t (m n) (jumped (topped vs z) a) (instr l k x) x) _
-      (meets_instr b c t (m n) (jumped (topped vs z) a) (instr l k x) (fetches n) behind.0)
-      (meets_on b (performed c t (m n) (jumped (topped vs z) a) (instr l k x) x) (called c t (m n) (jumped z a) (instr l k x) function.0 vs) _
-      (meets_same b _ _ (
-        ap {B = Lists} (λ ws. called c t (m n) (record (jumped z a) { values = ws }) (instr l k x) g (reverse (take (length es) (reverse vs ++ z.values)))) (left_arguments (length es) vs z.values e)
-        ∙ ap {B = Lists} (λ us. called c t (m n) (jumped z a) (instr l k x) g us) (taken_arguments (length es) vs z.values e)
-        ∙ ap {B = Lists} (λ (g' : ℕ). called c t (m n) (jumped z a) (instr l k x) g' vs) found))
-      (meets_on b (called c t (m n) (jumped z a) (instr l k x) function.0 vs) (calls l function.0 vs more) _
-      (meets (jumped z a) (instr l k x) function.0 vs more refl (λ j le v.
-        subst (λ d. Meets b (m j (record { at = d; values = v ∷ z.values; func = z.func; locals = z.locals; below = z.below })) (more v)) (sym site)
-        (meets_on b (m j (jumped (record z { values = v ∷ z.values }) (suc a))) (straight c t l k rest (m j) (jumped (record z { values = v ∷ z.values }) (suc a))) (more v)
-        (meets_straight b c t l k (m j) rest (suc a) (jumped (record z { values = v ∷ z.values }) (suc a)) (fetches j) all behind.1 refl)
-        (goes_on j le v))))
-      (meets_same b _ _ (ap {B = Lists} (λ o. numbered o (λ g'. calls l g' vs more)) (sym function.1))))) in
+    meets_on b (m n (jumped (topped vs z) a)) (performed c t (m n) (jumped (topped vs z) a) (instr l k x) x) _
+    (meets_instr b c t (m n) (jumped (topped vs z) a) (instr l k x) (fetches n) behind.0)
+    (meets_on b (performed c t (m n) (jumped (topped vs z) a) (instr l k x) x) (called c t (m n) (jumped z a) (instr l k x) function.0 vs) _
+    (meets_same b _ _ (
+    ap {B = Lists} (λ ws. called c t (m n) (record (jumped z a) { values = ws }) (instr l k x) g (reverse (take (length es) (reverse vs ++ z.values)))) (left_arguments (length es) vs z.values e)
+    ∙ ap {B = Lists} (λ us. called c t (m n) (jumped z a) (instr l k x) g us) (taken_arguments (length es) vs z.values e)
+    ∙ ap {B = Lists} (λ (g' : ℕ). called c t (m n) (jumped z a) (instr l k x) g' vs) found))
+    (meets_on b (called c t (m n) (jumped z a) (instr l k x) function.0 vs) (calls l function.0 vs more) _
+    (meets (jumped z a) (instr l k x) function.0 vs more refl (λ j le v.
+    subst (λ d. Meets b (m j (record { at = d; values = v ∷ z.values; func = z.func; locals = z.locals; below = z.below })) (more v)) (sym site)
+    (meets_on b (m j (jumped (record z { values = v ∷ z.values }) (suc a))) (straight c t l k rest (m j) (jumped (record z { values = v ∷ z.values }) (suc a))) (more v)
+    (meets_straight b c t l k (m j) rest (suc a) (jumped (record z { values = v ∷ z.values }) (suc a)) (fetches j) all behind.1 refl)
+    (goes_on j le v))))
+    (meets_same b _ _ (ap {B = Lists} (λ o. numbered o (λ g'. calls l g' vs more)) (sym function.1))))) in
     meets_begin b c t (m n) l k at xs z before (arguments t l env es (λ vs. numbered (function_number t.program f) (λ g'. calls l g' vs more)))
     (fetches n) names_are (arguments_straight t.program xs es) (lies_front c l k at (s.Begin ∷ before) (x ∷ rest) lies)
     (meets_on b _ (arguments t l env es (λ vs. m n (jumped (topped vs z) a))) _
@@ -88,12 +85,12 @@ store_is : (b : Bool) (c : Flat) (t : Thread) (m : State → Lists) (l k n : ℕ
     → position x xs ≡ a → IsNumbered t.program x a
     → ((vs : List ℤ) → length vs ≡ length z.locals → Meets b (m (jumped (record z { locals = vs }) (suc (suc n)))) (more (named xs vs)))
     → Meets b (straight c t l k (store_step t.program x a ∷ s.Done ∷ []) m (jumped (record z { values = v ∷ z.values }) n))
-      (stored t l (named xs z.locals) (local_value z.locals a) x v (λ env. emit (done l) (more env)))
+    (stored t l (named xs z.locals) (local_value z.locals a) x v (λ env. emit (done l) (more env)))
 store_is b c t m l k n x xs z v more None e known ends =
     meets_on b _ (writing_word l (cells_named t.program x) v (emit (done l) (m (jumped z (suc (suc n)))))) _
     (meets_same b _ _ (
-      ap {B = Lists} (λ cells. emit (made l (trace.write (first_cell cells) v)) (emit (done l) (m (jumped z (suc (suc n)))))) known.1
-      ∙ ap {B = Lists} (λ cells. writing_word l cells v (emit (done l) (m (jumped z (suc (suc n)))))) (sym known.1)))
+    ap {B = Lists} (λ cells. emit (made l (trace.write (first_cell cells) v)) (emit (done l) (m (jumped z (suc (suc n)))))) known.1
+    ∙ ap {B = Lists} (λ cells. writing_word l cells v (emit (done l) (m (jumped z (suc (suc n)))))) (sym known.1)))
     (meets_writing b l (cells_named t.program x) v _ _ (meets_emit b (done l) _ _ (ends z.locals refl)))
 store_is b c t m l k n x xs z v more (Some j) e known ends =
     meets_on b _ (emit (done l) (more (named xs (put_at j v z.locals)))) _
@@ -105,7 +102,7 @@ pub meets_store : (b : Bool) (c : Flat) (t : Thread) (m : State → Lists) (l k 
     → length xs ≡ length z.locals → IsNumbered t.program x (position x xs)
     → ((vs : List ℤ) → length vs ≡ length z.locals → Meets b (m (jumped (record z { locals = vs }) (suc (suc n)))) (more (named xs vs)))
     → Meets b (straight c t l k (store_step t.program x (position x xs) ∷ s.Done ∷ []) m (jumped (record z { values = v ∷ z.values }) n))
-      (stored t l (named xs z.locals) (value_in (named xs z.locals) x) x v (λ env. emit (done l) (more env)))
+    (stored t l (named xs z.locals) (value_in (named xs z.locals) x) x v (λ env. emit (done l) (more env)))
 meets_store b c t m l k n x xs z v more h known ends =
     meets_on b _ (stored t l (named xs z.locals) (local_value z.locals (position x xs)) x v (λ env. emit (done l) (more env))) _
     (store_is b c t m l k n x xs z v more (position x xs) refl known ends)
@@ -130,7 +127,7 @@ value_is : (b : Bool) (c : Flat) (t : Thread) (m : State → Lists) (l k at : �
     → position x xs ≡ a → length xs ≡ length z.locals → IsNumbered t.program x a → IsKnown t.program xs e
     → ((vs : List ℤ) → length vs ≡ length z.locals → Meets b (m (jumped (record z { locals = vs }) (skip at (value_steps t.program xs x e a ++ s.Done ∷ [])))) (more (named xs vs)))
     → Meets b (straight c t l k (value_steps t.program xs x e a ++ s.Done ∷ []) m (jumped z at))
-      (expression t l (named xs z.locals) e (λ v. stored t l (named xs z.locals) (local_value z.locals a) x v (λ env. emit (done l) (more env))))
+    (expression t l (named xs z.locals) e (λ v. stored t l (named xs z.locals) (local_value z.locals a) x v (λ env. emit (done l) (more env))))
 value_is b c t m l k at x xs z e more None f h known g ends =
     let before : List Step = operand_steps t.program xs e in
     let x' : Operand → Step = s.Write (word_named t.program x) in
@@ -139,8 +136,8 @@ value_is b c t m l k at x xs z e more None f h known g ends =
     let same : (before ++ last) ++ s.Done ∷ [] ≡ before ++ (last ++ s.Done ∷ []) = append_assoc before last (s.Done ∷ []) in
     let end : Meets b (m (jumped z (skip at (before ++ (last ++ s.Done ∷ []))))) (more env) = subst (λ steps. Meets b (m (jumped z (skip at steps))) (more env)) same (ends z.locals refl) in
     let all : Meets b (straight c t l k (before ++ (last ++ s.Done ∷ [])) m (jumped z at)) (expression t l env e (λ v. writing_word l (cells_named t.program x) v (emit (done l) (more env)))) =
-      one_operand b c t m l k at xs z e x' (λ v q. writing_word l (cells_named t.program x) v q) (more env)
-      (λ a next n v. write_is c t l k x known.0 a next z n v known.1) (λ v p r q. meets_writing b l (cells_named t.program x) v p r q) h g end in
+    one_operand b c t m l k at xs z e x' (λ v q. writing_word l (cells_named t.program x) v q) (more env)
+    (λ a next n v. write_is c t l k x known.0 a next z n v known.1) (λ v p r q. meets_writing b l (cells_named t.program x) v p r q) h g end in
     subst (λ steps. Meets b (straight c t l k steps m (jumped z at)) (expression t l env e (λ v. writing_word l (cells_named t.program x) v (emit (done l) (more env))))) (sym same) all
 value_is b c t m l k at x xs z e more (Some j) f h known g ends =
     let before : List Step = steps_to t.program xs (target.Local j) e in
@@ -148,8 +145,8 @@ value_is b c t m l k at x xs z e more (Some j) f h known g ends =
     let n : ℕ = skip at before in
     meets_on b _ (expression t l env e (λ v. emit (done l) (m (jumped (given z (target.Local j) v) (suc n))))) _
     (meets_same b _ _ (
-      ap {B = Lists} (λ (k' : State → Lists). k' (jumped z at)) (straight_append c t l k before (s.Done ∷ []) m)
-      ∙ steps_are c t l k xs (target.Local j) e (straight c t l k (s.Done ∷ []) m) z at h g))
+    ap {B = Lists} (λ (k' : State → Lists). k' (jumped z at)) (straight_append c t l k before (s.Done ∷ []) m)
+    ∙ steps_are c t l k xs (target.Local j) e (straight c t l k (s.Done ∷ []) m) z at h g))
     (meets_expression b t l env e (λ v. emit (done l) (m (jumped (given z (target.Local j) v) (suc n)))) (λ v. emit (done l) (more (updated env x v))) (λ v.
     meets_emit b (done l) _ _
     (meets_on b _ (more (named xs (put_at j v z.locals))) _
@@ -160,7 +157,7 @@ pub meets_value : (b : Bool) (c : Flat) (t : Thread) (m : State → Lists) (l k 
     → length xs ≡ length z.locals → IsNumbered t.program x (position x xs) → IsKnown t.program xs e
     → ((vs : List ℤ) → length vs ≡ length z.locals → Meets b (m (jumped (record z { locals = vs }) (skip at (value_steps t.program xs x e (position x xs) ++ s.Done ∷ [])))) (more (named xs vs)))
     → Meets b (straight c t l k (value_steps t.program xs x e (position x xs) ++ s.Done ∷ []) m (jumped z at))
-      (expression t l (named xs z.locals) e (λ v. stored t l (named xs z.locals) (value_in (named xs z.locals) x) x v (λ env. emit (done l) (more env))))
+    (expression t l (named xs z.locals) e (λ v. stored t l (named xs z.locals) (value_in (named xs z.locals) x) x v (λ env. emit (done l) (more env))))
 meets_value b c t m l k at x xs z e more h known g ends =
     meets_on b _ (expression t l (named xs z.locals) e (λ v. stored t l (named xs z.locals) (local_value z.locals (position x xs)) x v (λ env. emit (done l) (more env)))) _
     (value_is b c t m l k at x xs z e more (position x xs) refl h known g ends)

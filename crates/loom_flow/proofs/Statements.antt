@@ -1,28 +1,23 @@
 -- The steps of a statement without a block give what the statement gives.
-use Rattle.std.proofs.Common.{ℕ, suc, zero, ◌+◌, ◌≡◌, ◌≤◌, le_refl, List, [], ◌∷◌, ◌++◌, Bool, true, false, ℤ, pos, negsuc, Option, Some, None, refl, sym, ap, subst, ◌∙◌, slice_get, length, arith}
+use Rattle.std.proofs.Common.{ℕ, suc, ◌≡◌, List, [], ◌∷◌, ◌++◌, Bool, true, ℤ, Option, Some, None, refl, sym, ap, subst, ◌∙◌, slice_get, length}
 use mathlib.Core.Path.{fun_ext}
-use Rattle.loom_tree.specs.Tree.{Expression, num, var, cell, neg, inverse, bin, Right, Simple, let_, set, set_cell, return, Source}
-use Rattle.loom_tree.specs.Tree as tree
-use Rattle.loom_lang.specs.Numbers.{position, Cells, cells_named, mutex_number, sema_number, function_number}
-use Rattle.loom_lang.specs.Trace as trace
-use Rattle.loom_lang.specs.Trace.{Item, Lists, Thread, Locals, Calls, made, begins, done, out, emit, any, either, trapped, value_in, updated, expression, arguments, indexed, writing_word, stored, effect, right, joined, numbered}
+use Rattle.loom_tree.specs.Tree.{Expression, num, var, cell, neg, inverse, bin, Source}
+use Rattle.loom_lang.specs.Numbers.{position}
+use Rattle.loom_lang.specs.Trace.{Lists, Thread, Locals, begins, done, emit, expression}
 use Rattle.loom_flow.specs.declared.code.Operand.{Operand}
 use Rattle.loom_flow.specs.declared.code.Operand.TheVariants as operand
 use Rattle.loom_flow.specs.declared.code.Target.{Target}
 use Rattle.loom_flow.specs.declared.code.Target.TheVariants as target
 use Rattle.loom_flow.specs.declared.code.Step.{Step}
 use Rattle.loom_flow.specs.declared.code.Step.TheVariants as s
-use Rattle.loom_flow.specs.declared.code.Instr.{Instr}
-use Rattle.loom_flow.specs.Flat.{Flat, State, Frame, value_of, put_at, given, jumped, forward, named, names, locals_now, resume, returned, called, performed, fetched}
-use Rattle.loom_flow.specs.Lowered.{or_zero, first_cell, word_named, array_of, array_named, local_operand, operand_of, unless_there, variable_step, steps_to, operand_steps, argument_steps, call_steps, spawn_steps, store_step, value_steps, set_steps, simple_steps, resume_of, instr, instrs}
-use Rattle.loom_flow.proofs.Relations.{Meets, meets_itself, meets_same, meets_on, meets_emit, meets_any, meets_either}
-use Rattle.loom_flow.proofs.Steps.{is_straight, meets_joined}
-use Rattle.loom_flow.proofs.Lying.{Lies, lies_first, lies_second}
-use Rattle.loom_flow.proofs.Locals.{local_value, value_named, put_by, updated_named, put_length}
-use Rattle.loom_flow.proofs.Straight.{straight, straight_append, skip, skip_append, AllStraight, all_straight_append, Fetches, meets_straight, meets_instr}
-use Rattle.loom_flow.proofs.Expressions.{IsNumbered, IsArray, IsKnown, left, left_values, settled, settled_is, operand_are, steps_are}
-use Rattle.loom_flow.proofs.Trees.{meets_expression, meets_arguments, meets_indexed}
-use Rattle.loom_flow.proofs.Arguments.{AllKnown, topped, arguments_are, taken_arguments, left_arguments}
+use Rattle.loom_flow.specs.Flat.{Flat, State, jumped, named, names, locals_now}
+use Rattle.loom_flow.specs.Lowered.{operand_of, unless_there, variable_step, steps_to, operand_steps, argument_steps, instrs}
+use Rattle.loom_flow.proofs.Relations.{Meets, meets_same, meets_on, meets_emit}
+use Rattle.loom_flow.proofs.Steps.{is_straight}
+use Rattle.loom_flow.proofs.Lying.{Lies}
+use Rattle.loom_flow.proofs.Straight.{straight, straight_append, skip, skip_append, AllStraight, all_straight_append, Fetches, meets_straight}
+use Rattle.loom_flow.proofs.Expressions.{IsKnown, left, settled, settled_is, operand_are, steps_are}
+use Rattle.loom_flow.proofs.Trees.{meets_expression}
 
 -- Steps of expressions go on at the next instruction.
 
@@ -73,7 +68,7 @@ pub one_operand : (b : Bool) (c : Flat) (t : Thread) (m : State → Lists) (l k 
     → length xs ≡ length z.locals → IsKnown t.program xs e
     → Meets b (m (jumped z (skip at (operand_steps t.program xs e ++ x (operand_of xs e) ∷ s.Done ∷ [])))) q
     → Meets b (straight c t l k (operand_steps t.program xs e ++ x (operand_of xs e) ∷ s.Done ∷ []) m (jumped z at))
-      (expression t l (named xs z.locals) e (λ v. y v (emit (done l) q)))
+    (expression t l (named xs z.locals) e (λ v. y v (emit (done l) q)))
 one_operand b c t m l k at xs z e x y q taken grows h g ends =
     let a : Operand = operand_of xs e in
     let before : List Step = operand_steps t.program xs e in
@@ -82,13 +77,13 @@ one_operand b c t m l k at xs z e x y q taken grows h g ends =
     let n : ℕ = skip at before in
     let env : Locals = named xs z.locals in
     let one : straight c t l k (before ++ last) m (jumped z at) ≡ straight c t l k before (straight c t l k last m) (jumped z at) =
-      ap {B = Lists} (λ (k' : State → Lists). k' (jumped z at)) (straight_append c t l k before last m) in
+    ap {B = Lists} (λ (k' : State → Lists). k' (jumped z at)) (straight_append c t l k before last m) in
     let two : straight c t l k before (straight c t l k last m) (jumped z at) ≡ expression t l env e (λ v. straight c t l k last m (jumped (left a v z) n)) =
-      operand_are c t l k xs e (straight c t l k last m) z at h (steps_are c t l k xs target.Push e (straight c t l k last m) z at h g) in
+    operand_are c t l k xs e (straight c t l k last m) z at h (steps_are c t l k xs target.Push e (straight c t l k last m) z at h g) in
     let three : expression t l env e (λ v. straight c t l k last m (jumped (left a v z) n)) ≡ expression t l env e (λ v. y (settled a z.locals v) (behind (jumped z (suc n)))) =
-      ap {B = Lists} (λ (f : ℤ → Lists). expression t l env e f) (fun_ext (λ v. taken a behind n v)) in
+    ap {B = Lists} (λ (f : ℤ → Lists). expression t l env e f) (fun_ext (λ v. taken a behind n v)) in
     let four : expression t l env e (λ v. y (settled a z.locals v) (behind (jumped z (suc n)))) ≡ expression t l env e (λ v. y v (behind (jumped z (suc n)))) =
-      sym (settled_is t l xs z.locals e (λ v. y v (behind (jumped z (suc n)))) h) in
+    sym (settled_is t l xs z.locals e (λ v. y v (behind (jumped z (suc n)))) h) in
     let at_end : Meets b (m (jumped z (suc (suc n)))) q = subst (λ j. Meets b (m (jumped z j)) q) (skip_append at before last) ends in
     meets_on b _ (expression t l env e (λ v. y v (behind (jumped z (suc n))))) _ (meets_same b _ _ (one ∙ two ∙ three ∙ four))
     (meets_expression b t l env e (λ v. y v (behind (jumped z (suc n)))) (λ v. y v (emit (done l) q)) (λ v.

@@ -1,16 +1,15 @@
 -- What an instruction gives, by what its next state gives.
-use Rattle.std.proofs.Common.{ℕ, ◌+◌, ◌&&◌, suc, zero, ◌≡◌, ◌≤◌, ◌<◌, List, [], ◌∷◌, ◌++◌, Bool, true, false, ℤ, pos, negsuc, Option, Some, None, refl, subst, sym, inl, inr, nat_lt, slice_get, length, arith}
+use Rattle.std.proofs.Common.{ℕ, ◌+◌, ◌&&◌, suc, ◌≡◌, List, [], ◌∷◌, Bool, true, false, ℤ, pos, negsuc, Option, Some, None, refl, inl, nat_lt, slice_get, length}
 use Rattle.loom_lang.specs.Trace as trace
 use Rattle.loom_lang.specs.Trace.{Item, Outcome, Open, Lists, Thread, made, done, out, edge, enter, begins, broken, emit, any, choice, either, trapped, ended, frame_limit}
 use Rattle.loom_lang.specs.Values.{is_zero, divides, applied}
-use Rattle.loom_flow.specs.declared.code.Array.{Array}
 use Rattle.loom_flow.specs.declared.code.Step.{Step}
 use Rattle.loom_flow.specs.declared.code.Step.TheVariants as s
 use Rattle.loom_flow.specs.declared.code.Instr.{Instr}
 use Rattle.loom_flow.specs.declared.code.Entrance.{Entrance}
 use Rattle.loom_tree.specs.declared.expression.Op.{Op}
-use Rattle.loom_flow.specs.Flat.{Flat, State, Frame, operand, without, arguments, without_arguments, given, forward, jumped, returned, entered, called, within, performed, fetched, runs}
-use Rattle.loom_flow.proofs.Relations.{Within, Meets, meets_itself, meets_emit, meets_any, meets_choice, meets_either, choice_open}
+use Rattle.loom_flow.specs.Flat.{Flat, State, Frame, operand, without, arguments, without_arguments, given, forward, jumped, returned, entered, performed, fetched}
+use Rattle.loom_flow.proofs.Relations.{Meets, meets_itself, meets_emit, meets_any, meets_choice, meets_either, choice_open}
 
 -- the instruction behind it is the next one
 abbrev pub is_straight : Step → Bool

@@ -1,7 +1,6 @@
 -- Instructions one behind another.
-use Rattle.std.proofs.Common.{ℕ, suc, zero, ◌+◌, ◌≡◌, List, [], ◌∷◌, ◌++◌, Bool, true, false, Option, Some, None, refl, sym, ap, subst, ◌∙◌, slice_get, length, arith}
-use mathlib.Core.Path.{fun_ext}
-use Rattle.loom_lang.specs.Trace.{Item, Outcome, Open, Lists, Thread}
+use Rattle.std.proofs.Common.{ℕ, suc, ◌+◌, ◌≡◌, List, [], ◌∷◌, ◌++◌, Bool, true, Some, refl, ap, ◌∙◌, slice_get, length, arith}
+use Rattle.loom_lang.specs.Trace.{Lists, Thread}
 use Rattle.loom_flow.specs.declared.code.Step.{Step}
 use Rattle.loom_flow.specs.declared.code.Instr.{Instr}
 use Rattle.loom_flow.specs.Flat.{Flat, State, performed, fetched}

@@ -1,5 +1,5 @@
 -- Flat code has the traces of the tree.
-use Rattle.std.proofs.Common.{ℕ, ◌≡◌, ◌≤◌, ◌↔◌, List, [], ◌∷◌, ℤ, Bool, true, false, Option, Some, None, refl, sym, ap, subst, ◌∙◌, slice_get, arith}
+use Rattle.std.proofs.Common.{ℕ, ◌≡◌, List, [], ℤ, true, false, Option, Some, None, refl, sym, ap, subst, ◌∙◌, slice_get, arith}
 use Rattle.loom_tree.specs.Tree.{Function, Source}
 use Rattle.loom_lang.specs.Rules.{IsLawful}
 use Rattle.loom_lang.specs.Trace as trace
@@ -12,7 +12,7 @@ use Rattle.loom_flow.specs.Laws.{HasTraces}
 use Rattle.loom_flow.proofs.Relations.{Within, meets_emit, meets_same, meets_on}
 use Rattle.loom_flow.proofs.Running.{ever}
 use Rattle.loom_flow.proofs.Meeting.{runs_runner, ever_runner}
-use Rattle.loom_flow.proofs.Frames.{IsPlaced, IsFunctionPlaced, ArePlaced, first_frame, ever_behind}
+use Rattle.loom_flow.proofs.Frames.{IsFunctionPlaced, ArePlaced, first_frame, ever_behind}
 use Rattle.loom_flow.proofs.Placed.{are_placed}
 
 abbrev thread_of : Flat → Function → Thread
@@ -38,20 +38,21 @@ to_code c placed f vs n (Some g) found q h e =
     let t : Thread = thread_of c g in
     let z : State = first_state h.0 f vs in
     let tree : Within (trace.thread c.program (Some g) f vs n) (emit (made g.line trace.begin) (emit (enter f) (ever c t z))) =
-      meets_emit false (made g.line trace.begin) (emit (enter f) (ever c t z)) (calls_to t n frame_limit g.line f vs (λ v. ended g.line))
-      (first_frame false c t (λ j. ever c t) (ever_runner c t) refl placed n 0 (omega arith) f g.line vs g h.0 found h.2) in
+    meets_emit false (made g.line trace.begin) (emit (enter f) (ever c t z)) (calls_to t n frame_limit g.line f vs (λ v. ended g.line))
+    (first_frame false c t (λ j. ever c t) (ever_runner c t) refl placed n 0 (omega arith) f g.line vs g h.0 found h.2) in
     λ es r i.
-      let some : any (λ (k : ℕ). emit (made g.line trace.begin) (emit (enter f) (runs c t k z))) es r = ever_behind (made g.line trace.begin) (enter f) (λ k. runs c t k z) es r (tree es r i) in
-      (some.0, subst (λ (m : Lists). emit (made g.line trace.begin) m es r) (sym (ap {B = Lists} (started c t f vs some.0) (e ∙ h.1))) some.1)
+    let some : any (λ (k : ℕ). emit (made g.line trace.begin) (emit (enter f) (runs c t k z))) es r = ever_behind (made g.line trace.begin) (enter f) (λ k. runs c t k z) es r (tree es r i) in
+    (some.0, subst (λ (m : Lists). emit (made g.line trace.begin) m es r) (sym (ap {B = Lists} (started c t f vs some.0) (e ∙ h.1))) some.1)
 
 pub lowered_traces : (p : Source) → IsLawful p → HasTraces (lowered p) p
 lowered_traces p l f vs items r =
     let c : Flat = lowered p in
-    let placed : ArePlaced c = are_placed p l in
-    (λ (h : IsFlatTrace c f vs items r). record {
-       most_turns = h.most_steps;
-       gives = to_tree c placed f vs h.most_steps (slice_get p.funcs f) refl (slice_get c.entrances f) (placed f) refl items r h.gives;
-     },
-     λ (h : IsTrace p f vs items r).
-       let some : any (λ (k : ℕ). flat.thread c (slice_get p.funcs f) f vs k) items r = to_code c placed f vs h.most_turns (slice_get p.funcs f) refl (slice_get c.entrances f) (placed f) refl items r h.gives in
-       record { most_steps = some.0; gives = some.1 })
+    let placed : ArePlaced c = are_placed p l in (
+      λ (h : IsFlatTrace c f vs items r). record {
+        most_turns = h.most_steps;
+        gives = to_tree c placed f vs h.most_steps (slice_get p.funcs f) refl (slice_get c.entrances f) (placed f) refl items r h.gives;
+      },
+      λ (h : IsTrace p f vs items r).
+          let some : any (λ (k : ℕ). flat.thread c (slice_get p.funcs f) f vs k) items r = to_code c placed f vs h.most_turns (slice_get p.funcs f) refl (slice_get c.entrances f) (placed f) refl items r h.gives in
+          record { most_steps = some.0; gives = some.1 },
+    )

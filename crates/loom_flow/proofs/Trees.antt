@@ -1,12 +1,11 @@
 -- What parts of a tree give, by what comes behind them.
-use Rattle.std.proofs.Common.{ℕ, suc, zero, ◌+◌, ◌&&◌, ◌≡◌, List, [], ◌∷◌, ◌++◌, Bool, true, false, ℤ, pos, negsuc, Option, Some, None, refl, sym, ap, subst, ◌∙◌, slice_get, length, inl, nat_lt, arith}
-use Rattle.loom_tree.specs.declared.expression.Op.{Op}
+use Rattle.std.proofs.Common.{ℕ, suc, zero, ◌+◌, ◌&&◌, ◌≡◌, List, [], ◌∷◌, Bool, ℤ, pos, negsuc, Option, Some, None, refl, ap, length, inl, nat_lt}
 use Rattle.loom_tree.specs.Tree.{Expression, num, var, cell, neg, inverse, bin, Body, end, simple, if_, while_}
 use Rattle.loom_lang.specs.Numbers.{Cells, cells_named}
 use Rattle.loom_lang.specs.Values.{is_zero, divides, applied, negated, inverted}
 use Rattle.loom_lang.specs.Trace as trace
 use Rattle.loom_lang.specs.Trace.{Open, Lists, Thread, Locals, Calls, broken, choice, trapped, value_in, reading, reading_word, variable, within, indexed, operated, expression, arguments, chosen, turns, body}
-use Rattle.loom_flow.proofs.Relations.{Meets, meets_itself, meets_choice, choice_open}
+use Rattle.loom_flow.proofs.Relations.{Meets, meets_itself, choice_open}
 use Rattle.loom_flow.proofs.Steps.{meets_reading, meets_within, meets_operated}
 
 pub meets_variable : (b : Bool) (t : Thread) (l : ℕ) (o : Option ℤ) (x : List ℕ) (m n : ℤ → Lists) → ((v : ℤ) → Meets b (m v) (n v)) → Meets b (variable t l o x m) (variable t l o x n)

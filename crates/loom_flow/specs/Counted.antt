@@ -1,5 +1,5 @@
 -- Calls and spawns with as many arguments as a function of that name has parameters.
-use Rattle.std.specs.Prelude.{ℕ, Bool, true, ◌&&◌, List, length}
+use Rattle.std.specs.Prelude.{Bool, true, ◌&&◌, length}
 use Rattle.loom_tree.specs.Tree.{Expression, Right, Simple, let_, set, Body, end, simple, if_, while_, Source}
 use Rattle.loom_lang.specs.Rules.{takes}
 

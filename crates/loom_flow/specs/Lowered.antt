@@ -1,5 +1,5 @@
 -- From the tree of a program to its flat code.
-use Rattle.std.specs.Prelude.{bit_or, ◌^◌, ℕ, suc, ◌+◌, ◌≡◌, List, [], ◌∷◌, ◌++◌, pos, length, map, flat_map, Option, Some, None}
+use Rattle.std.specs.Prelude.{bit_or, ◌^◌, ℕ, suc, ◌+◌, List, [], ◌∷◌, ◌++◌, pos, length, map, Option, Some, None}
 use Rattle.loom_tree.specs.Tree.{Expression, num, var, cell, neg, inverse, bin, Right, Simple, let_, set, set_cell, return, Body, end, simple, if_, while_, Function, Source}
 use Rattle.loom_tree.specs.Tree as tree
 use Rattle.loom_lang.specs.Rules.{locals_of}

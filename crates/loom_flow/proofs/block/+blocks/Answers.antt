@@ -1,9 +1,9 @@
-use Rattle.std.proofs.Common.{ℕ, suc, ◌+◌, ◌≤◌, ◌<◌, ◌≡◌, ◌∷◌, ◌++◌, [], List, length, true, rules, ap, sym, ◌∙◌, arith, length-append}
+use Rattle.std.proofs.Common.{suc, ◌≡◌, ◌∷◌, ◌++◌, [], length, rules, ap, ◌∙◌, arith}
 use Rattle.loom_tree.specs.declared.statement.Stmts.{the_lemmas}
-use Rattle.loom_tree.specs.Tree.{Body, end, body_of, behind, expression_of, if_, while_}
+use Rattle.loom_tree.specs.Tree.{end, body_of, behind, expression_of}
 use Rattle.loom_flow.specs.declared.expression.Spot.{Spot}
 use Rattle.loom_flow.specs.declared.code.Step.TheVariants as s
-use Rattle.loom_flow.specs.Lowered.{place_count, body_code, site, instr, operand_steps}
+use Rattle.loom_flow.specs.Lowered.{body_code, site, instr, operand_steps}
 use Rattle.loom_flow.proofs.Bodies.{if_count, while_count, known_then, known_else, known_again, known_first, known_rest, count_first, some_first, sites_more, code_step, sites_step, if_sites, while_sites}
 use Rattle.loom_flow.proofs.Jumps.{at_within, pushed, tested_long, aimed_long, if_code, while_code}
 use Rattle.loom_flow.proofs.block.+blocks.Goals as goal

@@ -1,4 +1,4 @@
-use Rattle.std.proofs.Common.{◌≡◌, ◌∷◌, ◌++◌, length, map, drop}
+use Rattle.std.proofs.Common.{◌≡◌, ◌++◌, length, map, drop}
 use Rattle.loom_tree.specs.Tree.{Function, functions_of}
 use Rattle.loom_lang.specs.Rules.{AreLawfulFunctions}
 use Rattle.loom_flow.specs.Lowered.{functions_code, functions_sites, entrances, calls_body, set_of, lowered}

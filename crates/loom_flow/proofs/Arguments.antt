@@ -1,5 +1,5 @@
 -- The steps of arguments put their values on top, the last one first.
-use Rattle.std.proofs.Common.{ℕ, ◌≡◌, List, [], ◌∷◌, ◌++◌, ℤ, refl, sym, ap, ◌∙◌, length, reverse, take, drop, append_assoc}
+use Rattle.std.proofs.Common.{◌≤◌, ℕ, ◌≡◌, List, [], ◌∷◌, ◌++◌, ℤ, refl, sym, ap, ◌∙◌, length, reverse, take, drop, append_assoc}
 use Rattle.std.proofs.lemmas.List.{length-reverse, reverse-append, reverse-reverse}
 use Rattle.std.proofs.Math.Seq.{take-append_seam, drop-append_seam}
 use mathlib.Core.Path.{fun_ext}
@@ -24,7 +24,7 @@ twice : (v : ℤ) (vs ws : List ℤ) → reverse vs ++ (v ∷ ws) ≡ reverse (v
 twice v vs ws = sym (ap (λ us. us ++ ws) (reverse-append (v ∷ []) vs) ∙ append_assoc (reverse vs) (v ∷ []) ws)
 
 pub arguments_are : (c : Flat) (t : Thread) (l k : ℕ) (xs : List (List ℕ)) (es : List Expression) (next : State → Lists) (z : State) (at : ℕ)
-    → length xs ≡ length z.locals → AllKnown t.program xs es
+    → length xs ≤ length z.locals → AllKnown t.program xs es
     → straight c t l k (argument_steps t.program xs es) next (jumped z at)
     ≡ arguments t l (named xs z.locals) es (λ vs. next (jumped (topped vs z) (skip at (argument_steps t.program xs es))))
 arguments_are c t l k xs [] next z at h g = refl

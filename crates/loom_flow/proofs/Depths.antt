@@ -253,7 +253,7 @@ functions_keep c m n law room (g ∷ gs) at place l small code h =
     functions_keep c m n law room gs (suc last) later l.1 small.1 lies_out.1
     (depth_next c last out 0 lies_out.0 in_body.1 (omega arith)) in (
       each_append (Keeps c m) at last body (out ∷ more) length_is in_body.0 ((0, in_body.1, omega arith, refl), again.0),
-      starts_more c (record { start = at; place = place; params = length g.params; locals = length xs }) (entrances p (suc last) later gs) h again.1,
+      starts_more c (record { start = at; place = place; params = length g.params }) (entrances p (suc last) later gs) h again.1,
     )
 
 -- where each expression of the program has at most `n` nodes

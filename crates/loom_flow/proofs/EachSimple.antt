@@ -82,7 +82,7 @@ resume_set p xs at (Right.call f es) = at + (1 + length (call_steps p xs f es))
 resume_set p xs at _ = 0
 
 set_meets : (b : Bool) (c : Flat) (t : Thread) (m : ℕ → State → Lists) (n l k at : ℕ) (xs : List (List ℕ)) (z : State) (calls : Calls) (x : List ℕ) (r : Right Expression) (more : Locals → Lists)
-    → ((j : ℕ) → Fetches b c t (m j)) → CallsMeet b c t m n (length z.below) calls → names (slice_get c.program.funcs z.func) ≡ xs → length xs ≡ length z.locals
+    → ((j : ℕ) → Fetches b c t (m j)) → CallsMeet b c t m n (length z.below) calls → names (slice_get c.program.funcs z.func) ≡ xs → length xs ≤ length z.locals
     → IsNumbered t.program x (position x xs) → IsKnownRight t.program xs r
     → Lies c.code at (instrs l k (s.Begin ∷ (set_steps t.program xs x r ++ s.Done ∷ [])))
     → ((f : List ℕ) (es : List Expression) → r ≡ Right.call f es → resume (slice_get c.sites k) ≡ at + (1 + length (call_steps t.program xs f es)))
@@ -144,7 +144,7 @@ print_is c t l k z (operand.Number i) next n v = refl
 -- Every statement without a block
 
 pub simple_meets : (b : Bool) (c : Flat) (t : Thread) (m : ℕ → State → Lists) (n l k at : ℕ) (xs : List (List ℕ)) (z : State) (calls : Calls) (x : Simple Expression) (ret : ℤ → Lists) (more : Locals → Lists)
-    → ((j : ℕ) → Fetches b c t (m j)) → CallsMeet b c t m n (length z.below) calls → names (slice_get c.program.funcs z.func) ≡ xs → length xs ≡ length z.locals
+    → ((j : ℕ) → Fetches b c t (m j)) → CallsMeet b c t m n (length z.below) calls → names (slice_get c.program.funcs z.func) ≡ xs → length xs ≤ length z.locals
     → IsKnownSimple t.program xs x → Lies c.code at (instrs l k (simple_steps t.program xs x)) → resume (slice_get c.sites k) ≡ resume_of t.program xs at x
     → Returns b c t m n z ret → Ends b m n xs z (skip at (simple_steps t.program xs x)) more
     → Meets b (m n (jumped z at)) (emit (begins l (named xs z.locals)) (effect t calls l (named xs z.locals) x ret (λ env. emit (done l) (more env))))

@@ -1,5 +1,5 @@
 -- Each statement without a block gives in its code what it gives in the tree.
-use Rattle.std.proofs.Common.{ℕ, suc, ◌≡◌, List, [], ◌∷◌, ◌++◌, Bool, ℤ, pos, Option, Some, refl, sym, ap, subst, ◌∙◌, slice_get, length, reverse, take}
+use Rattle.std.proofs.Common.{◌≤◌, ℕ, suc, ◌≡◌, List, [], ◌∷◌, ◌++◌, Bool, ℤ, pos, Option, Some, refl, sym, ap, subst, ◌∙◌, slice_get, length, reverse, take}
 use mathlib.Core.Path.{fun_ext}
 use Rattle.loom_tree.specs.Tree.{Expression}
 use Rattle.loom_lang.specs.Numbers.{Cells, cells_named, function_number}
@@ -24,7 +24,7 @@ use Rattle.loom_flow.proofs.Simple.{IsFunction}
 -- Spawns
 
 pub spawn_is : (b : Bool) (c : Flat) (t : Thread) (m : State → Lists) (l k at : ℕ) (xs : List (List ℕ)) (z : State) (f : List ℕ) (es : List Expression) (rest : List Step) (more : ℤ → Lists)
-    → length xs ≡ length z.locals → IsFunction t.program f → AllKnown t.program xs es
+    → length xs ≤ length z.locals → IsFunction t.program f → AllKnown t.program xs es
     → ((v : ℤ) → Meets b (straight c t l k rest m (jumped (record z { values = v ∷ z.values }) (suc (skip at (argument_steps t.program xs es))))) (more v))
     → Meets b (straight c t l k (argument_steps t.program xs es ++ s.Spawn (or_zero (function_number t.program f)) (length es) target.Push ∷ rest) m (jumped z at))
     (arguments t l (named xs z.locals) es (λ vs. numbered (function_number t.program f) (λ g. either (trapped t l trace.threads) (any (λ n. emit (made l (trace.spawn n g vs)) (more (pos n)))))))
@@ -80,7 +80,7 @@ write_cell_is c t l k x a b next z n v w h =
     by (operand.Number i) (operand.Number j) = refl
 
 pub meets_cell : (b : Bool) (c : Flat) (t : Thread) (m : State → Lists) (l k at : ℕ) (x : List ℕ) (xs : List (List ℕ)) (z : State) (e f : Expression) (q : Lists)
-    → length xs ≡ length z.locals → IsArray t.program x → IsKnown t.program xs e → IsKnown t.program xs f
+    → length xs ≤ length z.locals → IsArray t.program x → IsKnown t.program xs e → IsKnown t.program xs f
     → Meets b (m (jumped z (skip at (operand_steps t.program xs e ++ (operand_steps t.program xs f ++ s.WriteCell (array_named t.program x) (operand_of xs e) (operand_of xs f) ∷ s.Done ∷ []))))) q
     → Meets b (straight c t l k (operand_steps t.program xs e ++ (operand_steps t.program xs f ++ s.WriteCell (array_named t.program x) (operand_of xs e) (operand_of xs f) ∷ s.Done ∷ [])) m (jumped z at))
     (expression t l (named xs z.locals) e (λ v. expression t l (named xs z.locals) f (λ w. indexed t l (cells_named t.program x) v (λ i. emit (made l (trace.write i w)) (emit (done l) q)))))
@@ -122,7 +122,7 @@ return_is b c t m l k n (operand.Local j) z v ret f = meets_emit b (done l) _ _ 
 return_is b c t m l k n (operand.Number i) z v ret f = meets_emit b (done l) _ _ (f i)
 
 pub meets_return : (b : Bool) (c : Flat) (t : Thread) (m : State → Lists) (l k at : ℕ) (xs : List (List ℕ)) (z : State) (e : Expression) (ret : ℤ → Lists)
-    → Fetches b c t m → names (slice_get c.program.funcs z.func) ≡ xs → length xs ≡ length z.locals → IsKnown t.program xs e
+    → Fetches b c t m → names (slice_get c.program.funcs z.func) ≡ xs → length xs ≤ length z.locals → IsKnown t.program xs e
     → Lies c.code at (instrs l k (s.Begin ∷ (operand_steps t.program xs e ++ s.Return (operand_of xs e) ∷ [])))
     → ((w : ℤ) → Meets b (emit (out z.func) (returned c t m z.values w z.below)) (ret w))
     → Meets b (m (jumped z at)) (emit (begins l (named xs z.locals)) (expression t l (named xs z.locals) e (λ v. emit (done l) (ret v))))

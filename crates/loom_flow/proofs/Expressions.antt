@@ -1,5 +1,5 @@
 -- The steps of an expression give what the expression gives.
-use Rattle.std.proofs.Common.{ℕ, suc, ◌≡◌, List, [], ◌∷◌, ◌++◌, ℤ, Option, Some, None, refl, sym, ap, ◌∙◌, slice_get, length}
+use Rattle.std.proofs.Common.{◌≤◌, ℕ, suc, ◌≡◌, List, [], ◌∷◌, ◌++◌, ℤ, Option, Some, None, refl, sym, ap, ◌∙◌, slice_get, length}
 use mathlib.Core.Path.{fun_ext}
 use Rattle.loom_tree.specs.declared.expression.Op.{Op}
 use Rattle.loom_tree.specs.Tree.{Expression, num, var, cell, neg, inverse, bin, Source}
@@ -57,7 +57,7 @@ settled_variable t l x vs more None = refl
 settled_variable t l x vs more (Some k) = refl
 
 -- An expression gives no other value.
-pub settled_is : (t : Thread) (l : ℕ) (xs : List (List ℕ)) (vs : List ℤ) (e : Expression) (more : ℤ → Lists) → length xs ≡ length vs
+pub settled_is : (t : Thread) (l : ℕ) (xs : List (List ℕ)) (vs : List ℤ) (e : Expression) (more : ℤ → Lists) → length xs ≤ length vs
     → expression t l (named xs vs) e more ≡ expression t l (named xs vs) e (λ v. more (settled (operand_of xs e) vs v))
 settled_is t l xs vs (num n) more h = refl
 settled_is t l xs vs (var x) more h =
@@ -79,7 +79,7 @@ variable_operand : (c : Flat) (t : Thread) (l k : ℕ) (x : List ℕ) (steps : L
 variable_operand c t l k x steps next z at None h = h
 variable_operand c t l k x steps next z at (Some j) h = refl
 
-pub operand_are : (c : Flat) (t : Thread) (l k : ℕ) (xs : List (List ℕ)) (e : Expression) (next : State → Lists) (z : State) (at : ℕ) → length xs ≡ length z.locals
+pub operand_are : (c : Flat) (t : Thread) (l k : ℕ) (xs : List (List ℕ)) (e : Expression) (next : State → Lists) (z : State) (at : ℕ) → length xs ≤ length z.locals
     → straight c t l k (steps_to t.program xs target.Push e) next (jumped z at)
     ≡ expression t l (named xs z.locals) e (λ v. next (jumped (given z target.Push v) (skip at (steps_to t.program xs target.Push e))))
     → straight c t l k (operand_steps t.program xs e) next (jumped z at)
@@ -152,7 +152,7 @@ skip_variable : (at : ℕ) (p : Source) (d : Target) (x : List ℕ) (a : Option 
 skip_variable at p d x a = refl
 
 pub steps_are : (c : Flat) (t : Thread) (l k : ℕ) (xs : List (List ℕ)) (d : Target) (e : Expression) (next : State → Lists) (z : State) (at : ℕ)
-    → length xs ≡ length z.locals → IsKnown t.program xs e
+    → length xs ≤ length z.locals → IsKnown t.program xs e
     → straight c t l k (steps_to t.program xs d e) next (jumped z at)
     ≡ expression t l (named xs z.locals) e (λ v. next (jumped (given z d v) (skip at (steps_to t.program xs d e))))
 steps_are c t l k xs d (num n) next z at h g = refl

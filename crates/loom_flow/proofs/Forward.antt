@@ -203,7 +203,7 @@ entrance_of p (g ∷ gs) x n at place h =
     by : ((j : ℕ) → position x (map (λ (f : Function). f.name) gs) ≡ Some j → (e : Entrance) × (slice_get (entrances p next later gs) j ≡ Some e))
         → (b : Bool) (o : Option ℕ) → position x (map (λ (f : Function). f.name) gs) ≡ o → (if b then Some 0 else option_map suc o) ≡ Some n
         → (e : Entrance) × (slice_get (entrances p at place (g ∷ gs)) n ≡ Some e)
-    by again true o d f = subst (λ m. (e : Entrance) × (slice_get (entrances p at place (g ∷ gs)) m ≡ Some e)) (same_element 0 n f) (record { start = at; place = place; params = length g.params; locals = length (locals_of g) }, refl)
+    by again true o d f = subst (λ m. (e : Entrance) × (slice_get (entrances p at place (g ∷ gs)) m ≡ Some e)) (same_element 0 n f) (record { start = at; place = place; params = length g.params }, refl)
     by again false None d f = cc
     by again false (Some j) d f = subst (λ m. (e : Entrance) × (slice_get (entrances p at place (g ∷ gs)) m ≡ Some e)) (same_element (suc j) n f) (again j d)
 

@@ -22,19 +22,21 @@ filled_length zero vs = refl
 filled_length (suc n) [] = ap suc (filled_length n [])
 filled_length (suc n) (v ∷ vs) = ap suc (filled_length n vs)
 
-named_zeros : (xs : List (List ℕ)) → named xs (filled (length xs) []) ≡ map (λ x. (x, pos 0)) xs
-named_zeros [] = refl
-named_zeros (x ∷ xs) = ap (λ (env : Locals). (x, pos 0) ∷ env) (named_zeros xs)
+named_zeros : (n : ℕ) (xs : List (List ℕ)) → length xs ≤ n → named xs (filled n []) ≡ map (λ x. (x, pos 0)) xs
+named_zeros n [] h = refl
+named_zeros zero (x ∷ xs) h = absurd (omega (arith, h))
+named_zeros (suc n) (x ∷ xs) h = ap (λ (env : Locals). (x, pos 0) ∷ env) (named_zeros n xs (omega (arith, h)))
 
-named_frame : (xs ys : List (List ℕ)) (vs : List ℤ) → named (xs ++ ys) (filled (length xs) vs ++ filled (length ys) []) ≡ bound xs vs ++ map (λ x. (x, pos 0)) ys
-named_frame [] ys vs = named_zeros ys
-named_frame (x ∷ xs) ys [] = ap (λ (env : Locals). (x, pos 0) ∷ env) (named_frame xs ys [])
-named_frame (x ∷ xs) ys (v ∷ vs) = ap (λ (env : Locals). (x, v) ∷ env) (named_frame xs ys vs)
+named_frame : (n : ℕ) (xs ys : List (List ℕ)) (vs : List ℤ) → length xs + length ys ≤ n → named (xs ++ ys) (filled n (filled (length xs) vs)) ≡ bound xs vs ++ map (λ x. (x, pos 0)) ys
+named_frame n [] ys vs h = named_zeros n ys (omega (arith, h))
+named_frame zero (x ∷ xs) ys vs h = absurd (omega (arith, h))
+named_frame (suc n) (x ∷ xs) ys [] h = ap (λ (env : Locals). (x, pos 0) ∷ env) (named_frame n xs ys [] (omega (arith, h)))
+named_frame (suc n) (x ∷ xs) ys (v ∷ vs) h = ap (λ (env : Locals). (x, v) ∷ env) (named_frame n xs ys vs (omega (arith, h)))
 
 -- A function of the tree stands in the code.
 pub record IsPlaced (c : Flat) (g : Function) (e : Entrance) : Type 0 where
   pub params : e.params ≡ length g.params
-  pub locals : e.locals ≡ length (locals_of g)
+  pub few : length (locals_of g) ≤ 32
   pub code : Lies c.code e.start (body_code c.program (locals_of g) e.start (suc e.place) g.body)
   pub last : slice_get c.code (e.start + size c.program (locals_of g) g.body) ≡ Some (instr g.line (suc e.place + place_count g.body) s.Out)
   pub sites : Lies c.sites (suc e.place) (body_sites c.program (locals_of g) e.start g.body)
@@ -47,22 +49,14 @@ IsFunctionPlaced c (Some g) o = (e : Entrance) × (o ≡ Some e) × IsPlaced c g
 abbrev pub ArePlaced : Flat → Type 0
 ArePlaced c = (f : ℕ) → IsFunctionPlaced c (slice_get c.program.funcs f) (slice_get c.entrances f)
 
-rest_locals : (c : Flat) (g : Function) (e : Entrance) → IsPlaced c g e → e.locals - e.params ≡ length (lets g.body)
-rest_locals c g e h = let a : length (locals_of g) ≡ length g.params + length (lets g.body) = length-append g.params (lets g.body) in let p : e.params ≡ length g.params = h.params in let q : e.locals ≡ length (locals_of g) = h.locals in omega arith
-
 frame_named : (c : Flat) (g : Function) (e : Entrance) (vs : List ℤ) → IsPlaced c g e → named (locals_of g) (frame_locals e vs) ≡ trace.frame_locals g vs
-frame_named c g e vs h = ap (λ n. named (locals_of g) (filled n vs ++ filled (e.locals - e.params) [])) h.params
-    ∙ ap (λ n. named (locals_of g) (filled (length g.params) vs ++ filled n [])) (rest_locals c g e h) ∙ named_frame g.params (lets g.body) vs
+frame_named c g e vs h =
+    let few : length (locals_of g) ≤ 32 = h.few in
+    let is : length (locals_of g) ≡ length g.params + length (lets g.body) = length-append g.params (lets g.body) in
+    ap (λ n. named (locals_of g) (filled 32 (filled n vs))) h.params ∙ named_frame 32 g.params (lets g.body) vs (omega arith)
 
-frame_length : (c : Flat) (g : Function) (e : Entrance) (vs : List ℤ) → IsPlaced c g e → length (locals_of g) ≡ length (frame_locals e vs)
-frame_length c g e vs h =
-    let a : length (frame_locals e vs) ≡ length (filled e.params vs) + length (filled (e.locals - e.params) []) = length-append (filled e.params vs) (filled (e.locals - e.params) []) in
-    let b : length (filled e.params vs) ≡ e.params = filled_length e.params vs in
-    let d : length (filled (e.locals - e.params) []) ≡ e.locals - e.params = filled_length (e.locals - e.params) [] in
-    let f : length (locals_of g) ≡ length g.params + length (lets g.body) = length-append g.params (lets g.body) in
-    let p : e.params ≡ length g.params = h.params in
-    let q : e.locals ≡ length (locals_of g) = h.locals in
-    omega arith
+frame_length : (c : Flat) (g : Function) (e : Entrance) (vs : List ℤ) → IsPlaced c g e → length (locals_of g) ≤ length (frame_locals e vs)
+frame_length c g e vs h = subst (λ n. length (locals_of g) ≤ n) (sym (filled_length 32 (filled e.params vs))) h.few
 
 -- A frame from its entrance on
 

@@ -1,5 +1,5 @@
 -- Locals by name and by number.
-use Rattle.std.proofs.Common.{ℕ, suc, zero, ◌≡◌, ◌==◌, List, [], ◌∷◌, true, false, ℤ, Option, Some, None, option_map, refl, sym, ap, ◌∙◌, slice_get, length, arith, if◌then◌else◌}
+use Rattle.std.proofs.Common.{◌≤◌, ℕ, suc, zero, ◌≡◌, ◌==◌, List, [], ◌∷◌, true, false, ℤ, Option, Some, None, option_map, refl, sym, ap, ◌∙◌, slice_get, length, arith, if◌then◌else◌}
 use Rattle.std.specs.Cmp.Lexicographic.{pointwise}
 use Rattle.loom_lang.specs.Numbers.{position}
 use Rattle.loom_lang.specs.Trace.{Locals, value_in, updated}
@@ -13,12 +13,12 @@ local_behind : (v : ℤ) (vs : List ℤ) (o : Option ℕ) → local_value vs o �
 local_behind v vs None = refl
 local_behind v vs (Some k) = refl
 
-pub value_named : (xs : List (List ℕ)) (vs : List ℤ) (x : List ℕ) → length xs ≡ length vs → value_in (named xs vs) x ≡ local_value vs (position x xs)
+pub value_named : (xs : List (List ℕ)) (vs : List ℤ) (x : List ℕ) → length xs ≤ length vs → value_in (named xs vs) x ≡ local_value vs (position x xs)
 value_named [] [] x h = refl
 value_named [] (v ∷ vs) x h = refl
-value_named (y ∷ ys) [] x h = cc
+value_named (y ∷ ys) [] x h = absurd (omega (arith, h))
 value_named (y ∷ ys) (v ∷ vs) x h =
-    let again : value_in (named ys vs) x ≡ local_value vs (position x ys) = value_named ys vs x (omega arith) in
+    let again : value_in (named ys vs) x ≡ local_value vs (position x ys) = value_named ys vs x (omega (arith, h)) in
     elim (pointwise ◌==◌ y x) as (λ b. (if b then Some v else value_in (named ys vs) x) ≡ local_value (v ∷ vs) (if b then Some 0 else option_map suc (position x ys))) [
       | true ↦ refl
       | false ↦ again ∙ local_behind v vs (position x ys)

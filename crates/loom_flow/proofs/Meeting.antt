@@ -92,7 +92,7 @@ jump_is c t l k to n operand.Top m z v = refl
 jump_is c t l k to n (operand.Local j) m z v = refl
 jump_is c t l k to n (operand.Number i) m z v = refl
 
-condition_are : (c : Flat) (t : Thread) (l k to at : ℕ) (xs : List (List ℕ)) (m : State → Lists) (z : State) (e : Expression) → length xs ≡ length z.locals → IsKnown t.program xs e
+condition_are : (c : Flat) (t : Thread) (l k to at : ℕ) (xs : List (List ℕ)) (m : State → Lists) (z : State) (e : Expression) → length xs ≤ length z.locals → IsKnown t.program xs e
     → straight c t l k (operand_steps t.program xs e) (λ z'. performed c t m z' (instr l k (s.JumpIfZero (operand_of xs e) to)) (s.JumpIfZero (operand_of xs e) to)) (jumped z at)
     ≡ expression t l (named xs z.locals) e (λ v. choice (is_zero v) (m (jumped z to)) (m (jumped z (suc (skip at (operand_steps t.program xs e))))))
 condition_are c t l k to at xs m z e h known =
@@ -114,6 +114,10 @@ IsKnownBody p xs end = Unit {0}
 IsKnownBody p xs (simple l x rest) = IsKnownSimple p xs x × IsKnownBody p xs rest
 IsKnownBody p xs (if_ l e a b rest) = IsKnown p xs e × IsKnownBody p xs a × IsKnownBody p xs b × IsKnownBody p xs rest
 IsKnownBody p xs (while_ l e a rest) = IsKnown p xs e × IsKnownBody p xs a × IsKnownBody p xs rest
+
+-- as many locals as before
+at_most : {k m n : ℕ} → k ≤ n → m ≡ n → k ≤ m
+at_most {k = k} {m = m} {n = n} h g = subst (λ j. k ≤ j) (sym g) h
 
 -- at an instruction that completes a statement
 meets_done : (b : Bool) (c : Flat) (t : Thread) (m : State → Lists) (l k at : ℕ) (z : State) (q : Lists) → Fetches b c t m → slice_get c.code at ≡ Some (instr l k s.Done)
@@ -141,7 +145,7 @@ second_is : (head : ℕ) (steps : List Step) → head + (1 + length steps) ≡ s
 second_is head steps = let e : skip head steps ≡ head + length steps = skip_length head steps in omega arith
 
 pub body_meets : (b : Bool) (c : Flat) (t : Thread) (m : ℕ → State → Lists) → Runner b c t m → (most n : ℕ) → n ≤ most → (calls : Calls) (xs : List (List ℕ)) (z : State) (a : Body) (k at : ℕ) (ret : ℤ → Lists) (more : Locals → Lists)
-    → ((j : ℕ) → j ≤ n → CallsMeet b c t m j (length z.below) calls) → names (slice_get c.program.funcs z.func) ≡ xs → length xs ≡ length z.locals
+    → ((j : ℕ) → j ≤ n → CallsMeet b c t m j (length z.below) calls) → names (slice_get c.program.funcs z.func) ≡ xs → length xs ≤ length z.locals
     → IsKnownBody t.program xs a → Lies c.code at (body_code t.program xs at k a) → Lies c.sites k (body_sites t.program xs at a)
     → Returns b c t m n z ret → Ends b m n xs z (at + size t.program xs a) more
     → Meets b (m n (jumped z at)) (body t calls most (named xs z.locals) a ret more)
@@ -156,7 +160,7 @@ body_meets b c t m runner most n le calls xs z (simple l x rest) k at ret more m
     simple_meets b c t m n l k at xs z calls x ret (λ env. body t calls most env rest ret more) runner.fetches (meets n (omega arith)) names_are h known.0 first (ap resume sites.0) returns
     (λ j below vs g. subst (λ i. Meets b (m j (jumped (record z { locals = vs }) i)) (body t calls most (named xs vs) rest ret more)) (sym (skip_length at steps))
     (body_meets b c t m runner most j (omega (arith, below, le)) calls xs (record z { locals = vs }) rest (suc k) next ret more
-    (λ i under. meets i (omega (arith, under, below))) names_are (h ∙ sym g) known.1 second sites.1 (λ i under. returns i (omega (arith, under, below)))
+    (λ i under. meets i (omega (arith, under, below))) names_are (at_most h g) known.1 second sites.1 (λ i under. returns i (omega (arith, under, below)))
     (λ i under ws e. subst (λ i'. Meets b (m i (jumped (record z { locals = ws }) i')) (more (named xs ws))) (omega arith) (ends i (omega (arith, under, below)) ws (e ∙ g)))))
 body_meets b c t m runner most n le calls xs z (if_ l e x y rest) k at ret more meets names_are h known lies sites returns ends =
     let p : Source = t.program in
@@ -193,7 +197,7 @@ body_meets b c t m runner most n le calls xs z (if_ l e x y rest) k at ret more 
     let behind : (j : ℕ) → j ≤ n → (vs : List ℤ) → length vs ≡ length z.locals → Meets b (m j (jumped (record z { locals = vs }) last)) (emit (done l) (body t calls most (named xs vs) rest ret more)) = λ j below vs g.
     meets_done b c t (m j) l k last (record z { locals = vs }) (body t calls most (named xs vs) rest ret more) (runner.fetches j) lies_done.0
     (body_meets b c t m runner most j (omega (arith, below, le)) calls xs (record z { locals = vs }) rest (suc k + place_count x + place_count y) (suc last) ret more
-    (λ i under. meets i (omega (arith, under, below))) names_are (h ∙ sym g) known.3 lies_done.1 sites_rest (λ i under. returns i (omega (arith, under, below)))
+    (λ i under. meets i (omega (arith, under, below))) names_are (at_most h g) known.3 lies_done.1 sites_rest (λ i under. returns i (omega (arith, under, below)))
     (λ i under ws f. subst (λ i'. Meets b (m i (jumped (record z { locals = ws }) i')) (more (named xs ws))) (omega arith) (ends i (omega (arith, under, below)) ws (f ∙ g)))) in
     let in_x : Meets b (m n (jumped z first)) (body t calls most (named xs z.locals) x ret (λ env. emit (done l) (body t calls most env rest ret more))) =
     body_meets b c t m runner most n le calls xs z x (suc k) first ret (λ env. emit (done l) (body t calls most env rest ret more)) meets names_are h known.1 lies_x sites_x returns
@@ -237,7 +241,7 @@ body_meets b c t m runner most n le calls xs z (while_ l e x rest) k at ret more
     let behind : (j : ℕ) → j ≤ n → (vs : List ℤ) → length vs ≡ length z.locals → Meets b (m j (jumped (record z { locals = vs }) last)) (emit (done l) (body t calls most (named xs vs) rest ret more)) = λ j below vs g.
     meets_done b c t (m j) l k last (record z { locals = vs }) (body t calls most (named xs vs) rest ret more) (runner.fetches j) lies_done.0
     (body_meets b c t m runner most j (omega (arith, below, le)) calls xs (record z { locals = vs }) rest (suc (suc k) + place_count x) (suc last) ret more
-    (λ i under. meets i (omega (arith, under, below))) names_are (h ∙ sym g) known.2 lies_done.1 sites_rest (λ i under. returns i (omega (arith, under, below)))
+    (λ i under. meets i (omega (arith, under, below))) names_are (at_most h g) known.2 lies_done.1 sites_rest (λ i under. returns i (omega (arith, under, below)))
     (λ i under ws f. subst (λ i'. Meets b (m i (jumped (record z { locals = ws }) i')) (more (named xs ws))) (omega arith) (ends i (omega (arith, under, below)) ws (f ∙ g)))) in
     let turn : Turn = λ env again leave. expression t l env e (λ v. chosen v (body t calls most env x ret (λ env'. emit (edge l) (again env'))) (leave env)) in
     let leave : Locals → Lists = λ env. emit (done l) (body t calls most env rest ret more) in
@@ -246,13 +250,13 @@ body_meets b c t m runner most n le calls xs z (while_ l e x rest) k at ret more
     let y : State = record z { locals = vs } in
     let in_x : Meets b (m i (jumped y first)) (body t calls most (named xs vs) x ret (λ env. emit (edge l) (again env))) =
     body_meets b c t m runner most i (omega (arith, below, le)) calls xs y x (suc (suc k)) first ret (λ env. emit (edge l) (again env))
-    (λ j under. meets j (omega (arith, under, below))) names_are (h ∙ sym g) known.1 lies_x sites_x (λ j under. returns j (omega (arith, under, below)))
+    (λ j under. meets j (omega (arith, under, below))) names_are (at_most h g) known.1 lies_x sites_x (λ j under. returns j (omega (arith, under, below)))
     (λ j under ws f. meets_on b (m j (jumped (record z { locals = ws }) (first + size p xs x))) (emit (edge l) (m j (jumped (record z { locals = ws }) head))) _
     (meets_instr b c t (m j) (jumped (record z { locals = ws }) (first + size p xs x)) (instr l (suc k) (s.Edge head)) (runner.fetches j) lies_edge.0)
     (meets_emit b (edge l) _ _ (hyp j under ws (f ∙ g)))) in
     meets_on b _ (straight c t l k before (λ z'. performed c t (m i) z' (instr l k jump) jump) (jumped y head)) _
     (fetched_then b c t l k (m i) before jump head (jumped y head) (runner.fetches i) (operand_straight p xs e) (subst (λ q. Lies c.code q (instrs l k (before ++ jump ∷ []))) (omega arith) lies_begin.1) refl)
-    (meets_on b _ _ _ (meets_same b _ _ (condition_are c t l k last head xs (m i) y e (h ∙ sym g) known.0))
+    (meets_on b _ _ _ (meets_same b _ _ (condition_are c t l k last head xs (m i) y e (at_most h g) known.0))
     (condition_meets b t l (named xs vs) e (m i (jumped y last)) (leave (named xs vs)) (m i (jumped y (suc (skip head before)))) _ (behind i below vs g)
     (subst (λ q. Meets b (m i (jumped y q)) (body t calls most (named xs vs) x ret (λ env. emit (edge l) (again env)))) (ap (λ q. q) (second_is head before)) in_x))) in
     begins_at b c t (m n) l k at xs z _ (runner.fetches n) names_are lies_begin.0

@@ -22,11 +22,11 @@ placed_from c (g ∷ gs) at place l ls code sites zero =
     let xs : List (List ℕ) = locals_of g in
     let rest : List Instr = instr g.line (suc place + place_count g.body) s.Out ∷ functions_code p (suc (at + size p xs g.body)) (suc (suc (place + place_count g.body))) gs in
     let last : Lies c.code (at + length (body_code p xs at (suc place) g.body)) rest = lies_second c.code at (body_code p xs at (suc place) g.body) rest code in (
-      record { start = at; place = place; params = length g.params; locals = length xs },
+      record { start = at; place = place; params = length g.params },
       refl,
       record {
         params = refl;
-        locals = refl;
+        few = ls.0.locals;
         code = lies_first c.code at (body_code p xs at (suc place) g.body) rest code;
         last = ap (λ n. slice_get c.code (at + n)) (sym (code_length p xs g.body at (suc place))) ∙ last.0;
         sites = lies_first c.sites (suc place) (body_sites p xs at g.body) (site g.line 0 ∷ functions_sites p (suc (at + size p xs g.body)) gs) sites.1;

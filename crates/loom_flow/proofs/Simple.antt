@@ -39,7 +39,7 @@ IsFunction p f = (n : ℕ) × (function_number p f ≡ Some n)
 -- a call's steps, and others behind it
 pub meets_call : (b : Bool) (c : Flat) (t : Thread) (m : ℕ → State → Lists) (n l k at : ℕ) (xs : List (List ℕ)) (z : State) (calls : Calls) (f : List ℕ) (es : List Expression) (rest : List Step) (more : ℤ → Lists)
     → ((j : ℕ) → Fetches b c t (m j)) → CallsMeet b c t m n (length z.below) calls → names (slice_get c.program.funcs z.func) ≡ xs
-    → length xs ≡ length z.locals → IsFunction t.program f → AllKnown t.program xs es → AllStraight rest
+    → length xs ≤ length z.locals → IsFunction t.program f → AllKnown t.program xs es → AllStraight rest
     → Lies c.code at (instrs l k (s.Begin ∷ (argument_steps t.program xs es ++ s.Call (or_zero (function_number t.program f)) (length es) ∷ rest)))
     → resume (slice_get c.sites k) ≡ suc (skip (suc at) (argument_steps t.program xs es))
     → ((j : ℕ) → j ≤ n → (v : ℤ) → Meets b (straight c t l k rest (m j) (jumped (record z { values = v ∷ z.values }) (suc (skip (suc at) (argument_steps t.program xs es))))) (more v))
@@ -99,7 +99,7 @@ store_is b c t m l k n x xs z v more (Some j) e known ends =
 
 -- with the value found by its name
 pub meets_store : (b : Bool) (c : Flat) (t : Thread) (m : State → Lists) (l k n : ℕ) (x : List ℕ) (xs : List (List ℕ)) (z : State) (v : ℤ) (more : Locals → Lists)
-    → length xs ≡ length z.locals → IsNumbered t.program x (position x xs)
+    → length xs ≤ length z.locals → IsNumbered t.program x (position x xs)
     → ((vs : List ℤ) → length vs ≡ length z.locals → Meets b (m (jumped (record z { locals = vs }) (suc (suc n)))) (more (named xs vs)))
     → Meets b (straight c t l k (store_step t.program x (position x xs) ∷ s.Done ∷ []) m (jumped (record z { values = v ∷ z.values }) n))
     (stored t l (named xs z.locals) (value_in (named xs z.locals) x) x v (λ env. emit (done l) (more env)))
@@ -124,7 +124,7 @@ write_is c t l k x d a next z n v e =
 
 -- where a local, or a word, is set to an expression's value
 value_is : (b : Bool) (c : Flat) (t : Thread) (m : State → Lists) (l k at : ℕ) (x : List ℕ) (xs : List (List ℕ)) (z : State) (e : Expression) (more : Locals → Lists) (a : Option ℕ)
-    → position x xs ≡ a → length xs ≡ length z.locals → IsNumbered t.program x a → IsKnown t.program xs e
+    → position x xs ≡ a → length xs ≤ length z.locals → IsNumbered t.program x a → IsKnown t.program xs e
     → ((vs : List ℤ) → length vs ≡ length z.locals → Meets b (m (jumped (record z { locals = vs }) (skip at (value_steps t.program xs x e a ++ s.Done ∷ [])))) (more (named xs vs)))
     → Meets b (straight c t l k (value_steps t.program xs x e a ++ s.Done ∷ []) m (jumped z at))
     (expression t l (named xs z.locals) e (λ v. stored t l (named xs z.locals) (local_value z.locals a) x v (λ env. emit (done l) (more env))))
@@ -154,7 +154,7 @@ value_is b c t m l k at x xs z e more (Some j) f h known g ends =
     (meets_same b _ _ (ap {B = Lists} more (sym (updated_named xs z.locals x v ∙ ap (λ o. named xs (put_by o v z.locals)) f)))))))
 
 pub meets_value : (b : Bool) (c : Flat) (t : Thread) (m : State → Lists) (l k at : ℕ) (x : List ℕ) (xs : List (List ℕ)) (z : State) (e : Expression) (more : Locals → Lists)
-    → length xs ≡ length z.locals → IsNumbered t.program x (position x xs) → IsKnown t.program xs e
+    → length xs ≤ length z.locals → IsNumbered t.program x (position x xs) → IsKnown t.program xs e
     → ((vs : List ℤ) → length vs ≡ length z.locals → Meets b (m (jumped (record z { locals = vs }) (skip at (value_steps t.program xs x e (position x xs) ++ s.Done ∷ [])))) (more (named xs vs)))
     → Meets b (straight c t l k (value_steps t.program xs x e (position x xs) ++ s.Done ∷ []) m (jumped z at))
     (expression t l (named xs z.locals) e (λ v. stored t l (named xs z.locals) (value_in (named xs z.locals) x) x v (λ env. emit (done l) (more env))))

@@ -79,7 +79,7 @@ stands_from c (g ∷ gs) n at place code ps sites whole k e h =
     more = functions_code p next later gs
 
     here : Entrance
-    here = record { start = at; place = place; params = length g.params; locals = length xs }
+    here = record { start = at; place = place; params = length g.params }
 
     code_here : Lies c.code at (function_code p at place g ++ more)
     code_here = subst (λ (is : List Instr). Lies c.code at is) (function_first p at place g gs) code
@@ -140,7 +140,7 @@ covered_from p (g ∷ gs) l at place whole x from before =
     let later : ℕ = suc (suc (place + place_count g.body)) in
     let f : length (functions_code p at place (g ∷ gs)) ≡ suc (size p (locals_of g) g.body) + length (functions_code p next later gs) = functions_length p at place g gs in
     let whole_more : next + length (functions_code p next later gs) ≡ l = omega (arith, f, whole) in
-    ⊎_elim (λ (here : x < next). (0, record { start = at; place = place; params = length g.params; locals = length (locals_of g) }, refl, from, subst (λ m. x < m) (sym (next_start p l next later gs whole_more)) here))
+    ⊎_elim (λ (here : x < next). (0, record { start = at; place = place; params = length g.params }, refl, from, subst (λ m. x < m) (sym (next_start p l next later gs whole_more)) here))
     (λ (there : next ≤ x).
     let again : (k : ℕ) × (e : Entrance) × (slice_get (entrances p next later gs) k ≡ Some e) × (e.start ≤ x) × (x < start_or l (slice_get (entrances p next later gs) (suc k))) =
     covered_from p gs l next later whole_more x there before in

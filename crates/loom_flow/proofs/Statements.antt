@@ -1,5 +1,5 @@
 -- The steps of a statement without a block give what the statement gives.
-use Rattle.std.proofs.Common.{ℕ, suc, ◌≡◌, List, [], ◌∷◌, ◌++◌, Bool, true, ℤ, Option, Some, None, refl, sym, ap, subst, ◌∙◌, slice_get, length}
+use Rattle.std.proofs.Common.{◌≤◌, ℕ, suc, ◌≡◌, List, [], ◌∷◌, ◌++◌, Bool, true, ℤ, Option, Some, None, refl, sym, ap, subst, ◌∙◌, slice_get, length}
 use mathlib.Core.Path.{fun_ext}
 use Rattle.loom_tree.specs.Tree.{Expression, num, var, cell, neg, inverse, bin, Source}
 use Rattle.loom_lang.specs.Numbers.{position}
@@ -65,7 +65,7 @@ pub one_operand : (b : Bool) (c : Flat) (t : Thread) (m : State → Lists) (l k 
     (x : Operand → Step) (y : ℤ → Lists → Lists) (q : Lists)
     → ((a : Operand) (next : State → Lists) (n : ℕ) (v : ℤ) → straight c t l k (x a ∷ []) next (jumped (left a v z) n) ≡ y (settled a z.locals v) (next (jumped z (suc n))))
     → ((v : ℤ) (p r : Lists) → Meets b p r → Meets b (y v p) (y v r))
-    → length xs ≡ length z.locals → IsKnown t.program xs e
+    → length xs ≤ length z.locals → IsKnown t.program xs e
     → Meets b (m (jumped z (skip at (operand_steps t.program xs e ++ x (operand_of xs e) ∷ s.Done ∷ [])))) q
     → Meets b (straight c t l k (operand_steps t.program xs e ++ x (operand_of xs e) ∷ s.Done ∷ []) m (jumped z at))
     (expression t l (named xs z.locals) e (λ v. y v (emit (done l) q)))

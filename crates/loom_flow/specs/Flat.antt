@@ -105,9 +105,13 @@ arguments z n = reverse (take n z.values)
 abbrev pub without_arguments : State → ℕ → State
 without_arguments z n = record z { values = drop n z.values }
 
--- the locals of a new frame: the arguments, and 0 for the others
+-- A frame has room for as many locals as a function may have.
+abbrev pub frame_room : ℕ
+frame_room = 32
+
+-- the locals of a new frame: an argument for each parameter, and 0 for the others
 abbrev pub frame_locals : Entrance → List ℤ → List ℤ
-frame_locals e vs = filled e.params vs ++ filled (e.locals - e.params) []
+frame_locals e vs = filled frame_room (filled e.params vs)
 
 -- the locals of a frame by their names
 abbrev pub named : List (List ℕ) → List ℤ → Locals

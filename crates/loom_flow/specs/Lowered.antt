@@ -201,7 +201,7 @@ functions_sites p at (f ∷ fs) =
 abbrev pub entrances : Source → ℕ → ℕ → List Function → List Entrance
 entrances p at place [] = []
 entrances p at place (f ∷ fs) =
-    (record { start = at; place = place; params = length f.params; locals = length (locals_of f) })
+    (record { start = at; place = place; params = length f.params })
     ∷ entrances p (suc (at + size p (locals_of f) f.body)) (suc (suc (place + place_count f.body))) fs
 
 -- the functions that calls in statements name, one of each call

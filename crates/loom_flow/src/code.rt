@@ -86,12 +86,10 @@ pub struct Site {
     pub resume: u32,
 }
 
-/// Where a function stands: the number of its first instruction, and its entry place.
+/// Where a function stands: the number of its first instruction, its entry place, and how many parameters it has.
 #[derive(Clone, Copy, Debug, Drop, PartialEq, Eq)]
 pub struct Entrance {
     pub start: u32,
     pub place: u16,
-    /// How many parameters, and how many locals with them.
     pub params: u8,
-    pub locals: u8,
 }

@@ -19,16 +19,15 @@ use loom_tree::statement::{Func, Names};
 use std::alloc::Global;
 
 /// Where the function stands that is put next.
-fn entrance(code: &[Instr], sites: &[Site], scope: &Scope, f: &Func) -> Result<Entrance, NoMemory>
+fn entrance(code: &[Instr], sites: &[Site], f: &Func) -> Result<Entrance, NoMemory>
     requires room { length sites.now < 65536 }
     requires params { length f.now.params ≤ 4 }
-    ensures { IfOk result (λ e. e ≡ record { start = length code.now; place = length sites.now; params = length f.now.params; locals = length scope.now.locals }) }
+    ensures { IfOk result (λ e. e ≡ record { start = length code.now; place = length sites.now; params = length f.now.params }) }
 {
     Ok(Entrance {
         start: next(code)?,
         place: sites.len() as u16,
         params: f.params.0.len() as u8,
-        locals: scope.locals.0.len() as u8,
     })
 }
 
@@ -74,7 +73,7 @@ fn put(alloc: Global, made: &mut Made, scope: &mut Scope, f: &Func) -> Result<()
 {
     scope.locals = locals(alloc, f)?;
     made.calls.push(with_body(scope, 0, &f.body))?;
-    let entrance = entrance(&made.code, &made.sites, scope, f)?;
+    let entrance = entrance(&made.code, &made.sites, f)?;
     made.entrances.push(entrance)?;
     put_function(&mut made.code, &mut made.sites, scope, f)?;
     Ok(())

@@ -80,7 +80,6 @@ fn makes_code(rt: HostRuntime) -> Result<(), Fail> {
         start: 6,
         place: 4,
         params: 0,
-        locals: 1,
     };
     assert_eq!(rt; flow.entrances().get(1).copied(), Some(main));
     Ok(())

@@ -1,5 +1,5 @@
 -- How many values the steps of statements need and leave.
-use Rattle.std.proofs.Common.{ℕ, ◌+◌, ◌-◌, ◌≡◌, ◌≤◌, List, [], ◌∷◌, ◌++◌, Bool, true, false, ◌&&◌, Option, Some, None, refl, sym, subst, length, append_assoc, arith}
+use Rattle.std.proofs.Common.{ℕ, ◌+◌, ◌-◌, ◌≡◌, ◌≤◌, List, [], ◌∷◌, ◌++◌, true, Option, Some, None, refl, sym, subst, length, append_assoc, arith}
 use Rattle.loom_tree.specs.Tree.{Expression, num, var, cell, neg, inverse, bin, Right, Simple, let_, set, set_cell, return, Function, Source}
 use Rattle.loom_tree.specs.Tree as tree
 use Rattle.loom_lang.specs.Rules.{takes, IsLawful}
@@ -129,10 +129,6 @@ store_balanced p m x None h = (omega arith, h, refl)
 store_balanced p m x (Some j) h = (omega arith, h, refl)
 
 -- In a program that keeps the rules a call has at most four arguments.
-
-pub both : (a b : Bool) → (a && b) ≡ true → (a ≡ true) × (b ≡ true)
-both true b h = (refl, h)
-both false b h = cc
 
 pub four_arguments : (p : Source) (f : List ℕ) (es : List Expression) → IsLawful p → takes p.funcs f (length es) ≡ true → length es ≤ 4
 four_arguments p f es l h = few_in p p.funcs f (length es) l.functions h

@@ -11,7 +11,7 @@ use Rattle.loom_flow.specs.declared.code.Instr.{Instr}
 use Rattle.loom_flow.specs.declared.code.Site.{Site}
 use Rattle.loom_flow.specs.declared.code.Step.TheVariants as s
 use Rattle.loom_flow.specs.Lowered.{operand_of, operand_steps, simple_steps, instr, instrs, site, size, place_count, body_code, body_sites}
-use Rattle.loom_flow.proofs.Known.{first_of, second_of}
+use Rattle.loom_flow.proofs.Truths.{first_of, second_of}
 use Rattle.loom_flow.proofs.Sizes.{code_length, sites_length}
 
 -- The statements are a first one and a rest.

@@ -6,10 +6,7 @@ use Rattle.loom_tree.specs.Tree.{Expression, Right, Simple, let_, set, set_cell,
 use Rattle.loom_tree.specs.Tree as tree
 use Rattle.loom_lang.specs.Rules.{locals_of, IsLawfulFunction, is_function, takes, knows, knows_call, knows_right, knows_simple, knows_body, counts_call, counts_right, counts_simple, counts_body}
 use Rattle.loom_flow.specs.Counted.{takes_right, takes_simple, takes_body}
-
-both : (a b : Bool) → (a && b) ≡ true → (a ≡ true) × (b ≡ true)
-both true b h = (refl, h)
-both false b h = cc
+use Rattle.loom_flow.proofs.Truths.{both}
 
 all : (a b : Bool) → a ≡ true → b ≡ true → (a && b) ≡ true
 all true b h g = g

@@ -18,7 +18,8 @@ use Rattle.loom_flow.proofs.Each.{AllOf, all_append, Each, each_append, each_at,
 use Rattle.loom_flow.proofs.Plain.{is_plain, CallsRight, CallsSimple, operand_all, simple_all}
 use Rattle.loom_flow.proofs.Sizes.{instrs_length, code_length}
 use Rattle.loom_flow.proofs.Meeting.{condition_length}
-use Rattle.loom_flow.proofs.Balanced.{Fits, fits_takes, Balanced, both, condition_balanced, simple_balanced}
+use Rattle.loom_flow.proofs.Balanced.{Fits, fits_takes, Balanced, condition_balanced, simple_balanced}
+use Rattle.loom_flow.proofs.Truths.{both}
 
 -- From an instruction to the next
 

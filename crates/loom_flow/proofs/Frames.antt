@@ -1,5 +1,5 @@
 -- Frames, calls and threads
-use Rattle.std.proofs.Common.{ℕ, suc, zero, ◌+◌, ◌-◌, ◌≡◌, ◌≤◌, List, [], ◌∷◌, ◌++◌, Bool, true, ℤ, pos, Option, Some, None, refl, sym, ap, subst, ◌∙◌, slice_get, length, length-append, map, inl, inr, nat_lt, arith}
+use Rattle.std.proofs.Common.{ℕ, suc, zero, ◌+◌, ◌≡◌, ◌≤◌, List, [], ◌∷◌, ◌++◌, Bool, ℤ, pos, Option, Some, None, refl, sym, ap, subst, ◌∙◌, slice_get, length, length-append, map, inl, inr, nat_lt, arith}
 use Rattle.std.proofs.lemmas.Bool.{lt-ltb}
 use Rattle.loom_tree.specs.Tree.{Function, Source}
 use Rattle.loom_lang.specs.Rules.{lets, locals_of}
@@ -105,9 +105,6 @@ calls_meet b c t m runner same placed most (suc d) n le depth full z i f vs more
         again resumes))
 
 -- Threads
-
-emit_within : (i : Item) (m n : Lists) → Within m n → Within (emit i m) (emit i n)
-emit_within i m n f = meets_emit true i m n f
 
 -- what a run by any number of steps gives, some number of steps gives
 pub ever_behind : (i j : Item) (m : ℕ → Lists) → Within (emit i (emit j (any m))) (any (λ n. emit i (emit j (m n))))

@@ -1,31 +1,19 @@
 -- What the rules say of the parts of a statement.
-use Rattle.std.proofs.Common.{ℕ, ◌≤◌, ◌≡◌, ◌==◌, ◌&&◌, Bool, true, false, List, [], ◌∷◌, length, ◌⊎◌, inl, inr, refl, arith}
-use Rattle.std.specs.Prelude.{◌||◌}
+use Rattle.std.proofs.Common.{ℕ, ◌≤◌, ◌≡◌, ◌==◌, ◌&&◌, true, List, [], ◌∷◌, length, inl, inr, arith}
 use Rattle.std.specs.Cmp.Lexicographic.{pointwise}
 use Rattle.std.proofs.lemmas.Bool.{eqb-true}
 use Rattle.std.proofs.lemmas.List.{length-map}
 use Rattle.loom_tree.specs.declared.expression.Expr.{Expr}
 use Rattle.loom_tree.specs.Tree.{expression_of, expressions_of, Function, Source}
 use Rattle.loom_lang.specs.Rules.{IsLawful, AreLawfulFunctions, takes}
-
-pub first_of : (a b : Bool) → (a && b) ≡ true → a ≡ true
-first_of true b h = refl
-first_of false b h = h
-
-pub second_of : (a b : Bool) → (a && b) ≡ true → b ≡ true
-second_of true b h = h
-second_of false b h = cc
-
-either : (a b : Bool) → (a || b) ≡ true → (a ≡ true) ⊎ (b ≡ true)
-either true b h = inl refl
-either false b h = inr h
+use Rattle.loom_flow.proofs.Truths.{second_of, or_else}
 
 -- a call has as many arguments as a function has parameters
 pub few_in : (p : Source) (fs : List Function) (x : List ℕ) (n : ℕ) → AreLawfulFunctions p fs → takes fs x n ≡ true → n ≤ 4
 few_in p [] x n l h = cc
 few_in p (f ∷ fs) x n l h =
     let few = l.0.params in
-    elim (either (pointwise ◌==◌ f.name x && length f.params == n) (takes fs x n) h)
+    elim (or_else (pointwise ◌==◌ f.name x && length f.params == n) (takes fs x n) h)
     [ inl here ↦ (let is = eqb-true (length f.params) n (second_of (pointwise ◌==◌ f.name x) (length f.params == n) here) in omega arith) | inr there ↦ few_in p fs x n l.1 there ]
 
 pub few_arguments : (p : Source) (x : List ℕ) (es : List Expr) → IsLawful p → takes p.funcs x (length (expressions_of es)) ≡ true → length es ≤ 4

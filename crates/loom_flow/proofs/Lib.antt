@@ -33,3 +33,4 @@ mod Steps
 mod Straight
 pub mod Traces
 mod Trees
+mod Truths

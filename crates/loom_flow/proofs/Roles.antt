@@ -1,5 +1,5 @@
 -- In a program that keeps the rules each name has its number.
-use Rattle.std.proofs.Common.{ℕ, suc, ◌+◌, ◌≡◌, ◌==◌, List, [], ◌∷◌, ◌++◌, Bool, true, false, not, ◌&&◌, ◌||◌, Option, Some, None, option_map, is_some, is_none, refl, sym, ap, subst, ◌∙◌, map, if◌then◌else◌, ◌⊎◌, ⊎_elim, inl, inr}
+use Rattle.std.proofs.Common.{ℕ, suc, ◌+◌, ◌≡◌, ◌==◌, List, [], ◌∷◌, ◌++◌, Bool, true, false, not, ◌&&◌, ◌||◌, Option, Some, None, option_map, is_some, is_none, refl, sym, ap, subst, ◌∙◌, map, if◌then◌else◌, ⊎_elim}
 use Rattle.std.specs.Cmp.Lexicographic.{pointwise, same_text}
 use Rattle.loom_tree.specs.declared.item.Word.{Word}
 use Rattle.loom_tree.specs.declared.item.Sema.{Sema}
@@ -12,10 +12,7 @@ use Rattle.loom_flow.proofs.Arguments.{AllKnown}
 use Rattle.loom_flow.proofs.Simple.{IsFunction}
 use Rattle.loom_flow.proofs.EachSimple.{IsKnownRight, IsKnownSimple}
 use Rattle.loom_flow.proofs.Meeting.{IsKnownBody}
-
-both : (a b : Bool) → (a && b) ≡ true → (a ≡ true) × (b ≡ true)
-both true b h = (refl, h)
-both false b h = cc
+use Rattle.loom_flow.proofs.Truths.{both, or_else}
 
 -- Names in lists
 
@@ -55,10 +52,6 @@ in_words (w ∷ ws) x h =
 array_here : (n : ℕ) (cells : Option ℕ) → is_some cells ≡ true → (first : ℕ) × (k : ℕ) × (◌≡◌ {A = Option Cells} (Some (record { first = n; count = cells })) (Some (record { first = first; count = Some k })))
 array_here n None h = cc
 array_here n (Some k) h = (n, k, refl)
-
-or_else : (a b : Bool) → (a || b) ≡ true → (a ≡ true) ⊎ (b ≡ true)
-or_else true b h = inl refl
-or_else false b h = inr h
 
 never : (a : Bool) → a ≡ true → not a ≡ true → ⊥
 never true e f = cc

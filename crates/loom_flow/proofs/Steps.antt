@@ -90,7 +90,7 @@ meets_fetched b c t m n z (Some i) f = meets_performed b c t m n z i i.step (λ 
 
 -- Lists may break off before an instruction.
 
-within_open : (t : Thread) (line first : ℕ) (count : Option ℕ) (v : ℤ) (m : ℕ → Lists) → ((w : ℕ) → m w [] Open) → trace.within t line first count v m [] Open
+pub within_open : (t : Thread) (line first : ℕ) (count : Option ℕ) (v : ℤ) (m : ℕ → Lists) → ((w : ℕ) → m w [] Open) → trace.within t line first count v m [] Open
 within_open t line first None v m f = (refl, refl)
 within_open t line first (Some k) (pos i) m f = choice_open (nat_lt i k) (m (first + i)) (trapped t line trace.index) (f (first + i)) (inl (refl, refl))
 within_open t line first (Some k) (negsuc i) m f = inl (refl, refl)

@@ -1,12 +1,12 @@
 -- What parts of a tree give, by what comes behind them.
-use Rattle.std.proofs.Common.{ℕ, suc, zero, ◌+◌, ◌&&◌, ◌≡◌, List, [], ◌∷◌, Bool, ℤ, pos, negsuc, Option, Some, None, refl, ap, length, inl, nat_lt}
+use Rattle.std.proofs.Common.{ℕ, suc, zero, ◌&&◌, ◌≡◌, List, [], ◌∷◌, Bool, ℤ, pos, Option, Some, None, refl, ap, length, inl}
 use Rattle.loom_tree.specs.Tree.{Expression, num, var, cell, neg, inverse, bin, Body, end, simple, if_, while_}
 use Rattle.loom_lang.specs.Numbers.{Cells, cells_named}
 use Rattle.loom_lang.specs.Values.{is_zero, divides, applied, negated, inverted}
 use Rattle.loom_lang.specs.Trace as trace
 use Rattle.loom_lang.specs.Trace.{Open, Lists, Thread, Locals, Calls, broken, choice, trapped, value_in, reading, reading_word, variable, within, indexed, operated, expression, arguments, chosen, turns, body}
 use Rattle.loom_flow.proofs.Relations.{Meets, meets_itself, choice_open}
-use Rattle.loom_flow.proofs.Steps.{meets_reading, meets_within, meets_operated}
+use Rattle.loom_flow.proofs.Steps.{within_open, meets_reading, meets_within, meets_operated}
 
 pub meets_variable : (b : Bool) (t : Thread) (l : ℕ) (o : Option ℤ) (x : List ℕ) (m n : ℤ → Lists) → ((v : ℤ) → Meets b (m v) (n v)) → Meets b (variable t l o x m) (variable t l o x n)
 meets_variable b t l (Some v) x m n f = f v
@@ -41,11 +41,6 @@ meets_arguments b t l env (e ∷ es) m n f =
     meets_arguments b t l env es (λ vs. m (v ∷ vs)) (λ vs. n (v ∷ vs)) (λ vs h. f (v ∷ vs) (ap suc h)))
 
 -- Lists may break off before a part, where they may behind it.
-
-within_open : (t : Thread) (l first : ℕ) (count : Option ℕ) (v : ℤ) (m : ℕ → Lists) → ((w : ℕ) → m w [] Open) → within t l first count v m [] Open
-within_open t l first None v m f = (refl, refl)
-within_open t l first (Some k) (pos i) m f = choice_open (nat_lt i k) (m (first + i)) (trapped t l trace.index) (f (first + i)) (inl (refl, refl))
-within_open t l first (Some k) (negsuc i) m f = inl (refl, refl)
 
 indexed_open : (t : Thread) (l : ℕ) (d : Option Cells) (v : ℤ) (m : ℕ → Lists) → ((w : ℕ) → m w [] Open) → indexed t l d v m [] Open
 indexed_open t l None v m f = (refl, refl)

@@ -1,6 +1,6 @@
 -- What flat code means: a machine over instruction numbers, values, locals and frames, which is free in what a read gives and in the traps
 -- that the store may give. A state stands for the lists of items that it may still give.
-use Rattle.std.specs.Prelude.{slice_get, ℕ, zero, suc, ◌-◌, List, [], ◌∷◌, ◌++◌, ℤ, pos, Option, Some, None, nat_lt, length, take, drop, reverse}
+use Rattle.std.specs.Prelude.{slice_get, ℕ, zero, suc, List, [], ◌∷◌, ℤ, pos, Option, Some, None, nat_lt, length, take, drop, reverse}
 use Rattle.loom_tree.specs.Tree.{Function, Source}
 use Rattle.loom_lang.specs.Rules.{locals_of}
 use Rattle.loom_lang.specs.Values.{is_zero, negated, inverted}

@@ -1,0 +1,2 @@
+//! One thread: what it asks for next, and what it was answered.
+#![tactic(auto)]

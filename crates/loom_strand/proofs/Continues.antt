@@ -1,12 +1,12 @@
 -- A thread whose items so far go on from a state.
-use Rattle.std.proofs.Common.{ℕ, ◌≡◌, List, [], ◌∷◌, ◌++◌, ℤ, Option, Some, None, IfSome, refl, sym, ap, subst, slice_get, append_assoc, append-nil}
+use Rattle.std.proofs.Common.{ℕ, ◌≡◌, List, [], ◌∷◌, ◌++◌, ℤ, Some, IfSome, sym, subst, slice_get, append_assoc, append-nil}
 use Rattle.loom_lang.specs.Trace.{Item, Outcome, Open, Thread, made}
 use Rattle.loom_lang.specs.Acts.{Deed}
 use Rattle.loom_flow.specs.declared.code.Instr.{Instr}
 use Rattle.loom_flow.specs.Flat.{Flat, State, performed, fetched, IsFlatTrace}
 use Rattle.loom_flow.proofs.Running.{ever, ever_fetched, ever_open}
 use Rattle.loom_trace.specs.declared.request.Request.{Request}
-use Rattle.loom_strand.specs.Machine.{Progress, goes, asks, ends, progress, answered}
+use Rattle.loom_strand.specs.Machine.{goes, asks, ends, progress, answered}
 use Rattle.loom_strand.specs.Asked.{granted, trapped}
 use Rattle.loom_strand.proofs.Tells.{progress_tells, Tells}
 
@@ -48,7 +48,7 @@ pub granted_continues : (c : Flat) (t : Thread) (f : ℕ) (vs : List ℤ) (items
 granted_continues c t f vs items z i a v d e p g h es q k =
     let told : Tells c t (performed c t (ever c t) z i i.step) (answered z i.step) (asks a) = subst (Tells c t (performed c t (ever c t) z i i.step) (answered z i.step)) p (progress_tells c t z i i.step) in
     let here : (fs : List Item) (o : Outcome) → ever c t (answered z i.step v) fs o → performed c t (ever c t) z i i.step (made d.line d.act ∷ fs) o =
-      subst (λ w. IfSome w (λ (x : Deed). (fs : List Item) (o : Outcome) → ever c t (answered z i.step v) fs o → performed c t (ever c t) z i i.step (made x.line x.act ∷ fs) o)) g (told.0 v) in
+    subst (λ w. IfSome w (λ (x : Deed). (fs : List Item) (o : Outcome) → ever c t (answered z i.step v) fs o → performed c t (ever c t) z i i.step (made x.line x.act ∷ fs) o)) g (told.0 v) in
     regroup c f vs items (made d.line d.act ∷ []) es q (performed_continues c t f vs items z i e h (made d.line d.act ∷ es) q (here es q k))
 
 pub trapped_stops : (c : Flat) (t : Thread) (f : ℕ) (vs : List ℤ) (items : List Item) (z : State) (i : Instr) (a : Request) (d : Deed)
@@ -56,5 +56,5 @@ pub trapped_stops : (c : Flat) (t : Thread) (f : ℕ) (vs : List ℤ) (items : L
 trapped_stops c t f vs items z i a d e p g h es q k =
     let told : Tells c t (performed c t (ever c t) z i i.step) (answered z i.step) (asks a) = subst (Tells c t (performed c t (ever c t) z i i.step) (answered z i.step)) p (progress_tells c t z i i.step) in
     let here : (fs : List Item) (o : Outcome) → t.stopped fs o → performed c t (ever c t) z i i.step (made d.line d.act ∷ fs) o =
-      subst (λ w. IfSome w (λ (x : Deed). (fs : List Item) (o : Outcome) → t.stopped fs o → performed c t (ever c t) z i i.step (made x.line x.act ∷ fs) o)) g told.1 in
+    subst (λ w. IfSome w (λ (x : Deed). (fs : List Item) (o : Outcome) → t.stopped fs o → performed c t (ever c t) z i i.step (made x.line x.act ∷ fs) o)) g told.1 in
     regroup c f vs items (made d.line d.act ∷ []) es q (performed_continues c t f vs items z i e h (made d.line d.act ∷ es) q (here es q k))

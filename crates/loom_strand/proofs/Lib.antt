@@ -1,2 +1,4 @@
 mod Tells
 mod Continues
+pub mod Stacks
+pub mod Locals

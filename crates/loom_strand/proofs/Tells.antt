@@ -1,5 +1,5 @@
 -- The machine goes on as the flat code says, and what it asks for is what the flat code gives next.
-use Rattle.std.proofs.Common.{ℕ, suc, ◌+◌, ◌&&◌, ◌≡◌, List, [], ◌∷◌, ◌++◌, Bool, true, false, ℤ, pos, negsuc, Option, Some, None, IfSome, refl, inl, inr, nat_lt, slice_get, length}
+use Rattle.std.proofs.Common.{ℕ, suc, ◌+◌, ◌&&◌, List, [], ◌∷◌, ◌++◌, Bool, true, false, ℤ, pos, negsuc, Option, Some, None, IfSome, refl, inl, inr, nat_lt, slice_get, length}
 use Rattle.loom_lang.specs.Values.{is_zero, applied, divides}
 use Rattle.loom_lang.specs.Trace as trace
 use Rattle.loom_lang.specs.Trace.{Item, Outcome, Lists, Thread, made, done, out, begins, edge, enter, choice, frame_limit}
@@ -9,7 +9,7 @@ use Rattle.loom_flow.specs.declared.code.Step.{Step}
 use Rattle.loom_flow.specs.declared.code.Step.TheVariants as s
 use Rattle.loom_flow.specs.declared.code.Instr.{Instr}
 use Rattle.loom_flow.specs.declared.code.Entrance.{Entrance}
-use Rattle.loom_flow.specs.Flat.{Flat, Frame, State, operand, without, given, forward, jumped, arguments, without_arguments, returned, entered, performed, fetched}
+use Rattle.loom_flow.specs.Flat.{Flat, Frame, State, operand, without, given, forward, jumped, arguments, without_arguments, returned, entered, performed}
 use Rattle.loom_flow.proofs.Running.{ever}
 use Rattle.loom_trace.specs.declared.request.Request.{Request}
 use Rattle.loom_trace.specs.declared.request.Request.TheVariants as r
@@ -75,7 +75,7 @@ progress_tells c t z i (s.Print a) = ((λ v es q h. inr (es, refl, h)), tt)
 progress_tells c t z i (s.Spawn f n d) = (tells_spawn, λ es q h. inl (inr (es, refl, h)))
   where
     tells_spawn : (v : ℤ) → IfSome (granted (r.Spawn i.line f (arguments z n)) v) (λ (e : Deed). (es : List Item) (q : Outcome) → ever c t (forward (given (without_arguments z n) d v)) es q
-      → performed c t (ever c t) z i (s.Spawn f n d) (made e.line e.act ∷ es) q)
+        → performed c t (ever c t) z i (s.Spawn f n d) (made e.line e.act ∷ es) q)
     tells_spawn (pos k) = λ es q h. inr (k, inr (es, refl, h))
     tells_spawn (negsuc k) = tt
 progress_tells c t z i (s.Call f n) =

@@ -1,3 +1,4 @@
 pub mod Machine
 pub mod Asked
 pub mod Part
+pub mod Held

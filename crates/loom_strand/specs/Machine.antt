@@ -1,5 +1,5 @@
 -- How a thread goes on in flat code: by itself, up to what it asks for.
-use Rattle.std.specs.Prelude.{slice_get, ℕ, suc, ◌≡◌, ◌&&◌, Bool, true, false, List, [], ◌∷◌, length, ℤ, pos, negsuc, Option, Some, None, nat_lt, ◌+◌}
+use Rattle.std.specs.Prelude.{slice_get, ℕ, suc, ◌&&◌, Bool, true, false, List, [], ◌∷◌, length, ℤ, pos, negsuc, Option, Some, None, nat_lt, ◌+◌}
 use Rattle.loom_lang.specs.Values.{is_zero, applied, divides, negated, inverted}
 use Rattle.loom_lang.specs.Trace.{Item, begins, done, edge, enter, out, frame_limit}
 use Rattle.loom_flow.specs.declared.code.Array.{Array}

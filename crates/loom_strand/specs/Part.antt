@@ -1,13 +1,12 @@
 -- The entries of a thread: what it did, and ticks.
-use Rattle.std.specs.Prelude.{ℕ, suc, ◌≡◌, ◌==◌, ◌⊎◌, Bool, true, false, List, [], ◌∷◌, ◌++◌, ℤ, Option, Some, None}
+use Rattle.std.specs.Prelude.{ℕ, suc, ◌≡◌, ◌==◌, Bool, true, false, List, [], ◌∷◌, ◌++◌, ℤ, Option, Some, None}
 use Rattle.loom_tree.specs.Tree.{Source}
 use Rattle.loom_lang.specs.Places.{Place, entry, back_edge, place_at, line_of_place}
 use Rattle.loom_lang.specs.Acts.{Deed}
-use Rattle.loom_lang.specs.Trace.{Item, Outcome, Open, Finished, made, begins, done, edge, enter, out, IsTrace}
+use Rattle.loom_lang.specs.Trace.{Item, Open, Finished, made, begins, done, edge, enter, out, IsTrace}
 use Rattle.loom_trace.specs.declared.entry.Entry.{Entry}
 use Rattle.loom_trace.specs.declared.entry.Entry.TheVariants as e
 use Rattle.loom_trace.specs.declared.request.Request.{Request}
-use Rattle.loom_trace.specs.declared.request.Request.TheVariants as r
 use Rattle.loom_law.specs.Event.{entry_by}
 use Rattle.loom_strand.specs.Asked.{granted, trapped}
 

@@ -1,2 +1,6 @@
 //! One thread: what it asks for next, and what it was answered.
 #![tactic(auto)]
+
+mod frame;
+mod machine;
+mod values;

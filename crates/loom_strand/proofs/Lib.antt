@@ -2,3 +2,4 @@ mod Tells
 mod Continues
 pub mod Stacks
 pub mod Locals
+pub mod Room

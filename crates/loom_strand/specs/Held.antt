@@ -1,5 +1,5 @@
 -- What a thread's machine holds, and how much it has room for.
-use Rattle.std.specs.Prelude.{slice_get, ℕ, List, ℤ, Option, Some, None, [], ◌∷◌}
+use Rattle.std.specs.Prelude.{Bool, true, false, slice_get, ℕ, List, ℤ, Option, Some, None, [], ◌∷◌}
 use Rattle.loom_flow.specs.declared.code.Site.{Site}
 use Rattle.loom_flow.specs.declared.code.Entrance.{Entrance}
 use Rattle.loom_flow.specs.Flat.{Frame, State, frame_locals, resume}
@@ -42,3 +42,7 @@ inside z place f vs e = record {
 abbrev pub back : List Site → State → ℤ → List Frame → Option State
 back ss z v [] = None
 back ss z v (f ∷ fs) = Some (record { at = resume (slice_get ss f.site); values = v ∷ z.values; func = f.func; locals = f.locals; below = fs })
+
+abbrev pub branched : Bool → State → State → State
+branched true zero other = zero
+branched false zero other = other

@@ -3,4 +3,6 @@
 
 mod frame;
 mod machine;
+mod operate;
+mod turn;
 mod values;

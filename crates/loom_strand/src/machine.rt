@@ -1,8 +1,9 @@
 //! The machine of a thread.
 ghost use Rattle.std.specs.Prelude.{slice_get, ◌≡◌, ◌<◌, ◌≤◌, ◌+◌, [], ◌∷◌, IfOk, Some, length, is_some, unwrap_or, pos, replicate};
 ghost use Rattle.loom_flow.specs.Flat.{State, operand, without, given, forward, jumped, arguments, without_arguments, frame_locals, resume};
+ghost use Rattle.loom_lang.specs.Values.{is_zero};
 ghost use Rattle.loom_flow.specs.Depth.{put};
-ghost use Rattle.loom_strand.specs.Held.{holding, inside, back};
+ghost use Rattle.loom_strand.specs.Held.{holding, inside, back, branched};
 
 use crate::frame::{Frame, Frames};
 use crate::values::Values;
@@ -133,6 +134,60 @@ impl Machine {
         ensures { self.new ≡ holding self.old (jumped self.old.state to) }
     {
         self.at = to;
+    }
+
+    /// Leaves a value where it belongs, and goes to the next instruction.
+    pub fn leave(&mut self, target: Target, v: i64)
+        requires before { self.old.state.at < 4294967295 }
+        requires room { length self.old.state.values + put target ≤ self.old.most_values }
+        ensures { self.new ≡ holding self.old (forward (given self.old.state target v)) }
+    {
+        self.give(target, v);
+        self.forward();
+    }
+
+    /// The same where an operand is taken.
+    #[tactic(auto, using(crate::proofs::Room::put_one, crate::proofs::Room::fewer))]
+    pub fn replace(&mut self, a: Operand, target: Target, v: i64)
+        requires before { self.old.state.at < 4294967295 }
+        requires room { length self.old.state.values < self.old.most_values }
+        ensures { self.new ≡ holding self.old (forward (given (without self.old.state a) target v)) }
+    {
+        self.drop_operand(a);
+        self.leave(target, v);
+    }
+
+    /// The same where two are, the second one first.
+    #[tactic(auto, using(crate::proofs::Room::fewer))]
+    pub fn replace_two(&mut self, a: Operand, b: Operand, target: Target, v: i64)
+        requires before { self.old.state.at < 4294967295 }
+        requires room { length self.old.state.values < self.old.most_values }
+        ensures { self.new ≡ holding self.old (forward (given (without (without self.old.state b) a) target v)) }
+    {
+        self.drop_operand(b);
+        self.replace(a, target, v);
+    }
+
+    /// Takes off an operand, and goes to the next instruction.
+    pub fn pass(&mut self, a: Operand)
+        requires { self.old.state.at < 4294967295 }
+        ensures { self.new ≡ holding self.old (forward (without self.old.state a)) }
+    {
+        self.drop_operand(a);
+        self.forward();
+    }
+
+    /// Takes off an operand, and goes to an instruction if it is 0, or to the next one.
+    pub fn branch(&mut self, a: Operand, to: u32)
+        requires { self.old.state.at < 4294967295 }
+        ensures { self.new ≡ holding self.old (branched (is_zero (operand self.old.state a)) (jumped (without self.old.state a) to) (forward (without self.old.state a))) }
+    {
+        if self.operand(a) == 0 {
+            self.drop_operand(a);
+            self.jump(to);
+        } else {
+            self.pass(a);
+        }
     }
 
     /// The value of an operand where another one is taken first.

@@ -3,3 +3,4 @@ mod Continues
 pub mod Stacks
 pub mod Locals
 pub mod Room
+pub mod Turns

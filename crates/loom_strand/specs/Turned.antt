@@ -1,9 +1,11 @@
 -- What comes of an instruction, as it is told.
-use Rattle.std.specs.Prelude.{ℕ, ◌≡◌, ◌+◌, ◌&&◌, nat_lt, List, [], ◌∷◌, ℤ, pos, negsuc, Option, Some, None, if◌then◌else◌, slice_get}
+use Rattle.std.specs.Prelude.{ℕ, ◌≡◌, ◌≤◌, ◌+◌, ◌&&◌, nat_lt, List, [], ◌∷◌, ℤ, pos, negsuc, Option, Some, None, if◌then◌else◌, slice_get}
 use Rattle.loom_tree.specs.declared.expression.Op.{Op}
 use Rattle.loom_lang.specs.Values.{is_zero, applied, divides}
 use Rattle.loom_lang.specs.Trace.{Item, enter, edge}
 use Rattle.loom_flow.specs.declared.code.Array.{Array}
+use Rattle.loom_flow.specs.declared.code.Step.{Step}
+use Rattle.loom_flow.specs.declared.code.Step.TheVariants as s
 use Rattle.loom_flow.specs.declared.code.Instr.{Instr}
 use Rattle.loom_flow.specs.Flat.{Flat, State}
 use Rattle.loom_strand.specs.declared.turn.Mark.{Mark}
@@ -29,6 +31,17 @@ Comes i old new turn nothing = (turn ≡ t.Nothing) × (new ≡ old)
 abbrev pub Advances : Flat → Held → Held → Turn → Option Instr → Type 0
 Advances c old new turn None = (turn ≡ t.Nothing) × (new ≡ old)
 Advances c old new turn (Some i) = Comes i old new turn (progress c old.state i i.step)
+
+-- behind the end of a frame
+abbrev pub turn_back : Option State → Turn
+turn_back None = t.Ends
+turn_back (Some z) = t.Went m.Silent
+
+-- A new frame has room for so many arguments.
+abbrev pub HasFewArguments : Step → Type 0
+HasFewArguments (s.Call f n) = n ≤ 4
+HasFewArguments (s.Spawn f n d) = n ≤ 4
+HasFewArguments _ = Unit {0}
 
 -- the value of an operator, where there is one
 abbrev pub worked : Op → ℤ → ℤ → Option ℤ

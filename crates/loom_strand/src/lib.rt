@@ -4,5 +4,6 @@
 mod frame;
 mod machine;
 mod operate;
+mod progress;
 mod turn;
 mod values;

@@ -1,0 +1,31 @@
+-- What comes of an instruction, case by case.
+use Rattle.std.proofs.Common.{ℕ, suc, ◌+◌, ◌<◌, ◌≤◌, ◌≡◌, ◌&&◌, Bool, true, false, nat_lt, List, [], ◌∷◌, ℤ, pos, negsuc, Option, Some, None, IfSome, length, refl, sym, subst, ap, ◌∙◌, arith, unwrap_or, slice_get, if◌then◌else◌}
+use Rattle.std.proofs.lemmas.Bool.{lt-ltb, le-ltb}
+use Rattle.loom_tree.specs.declared.expression.Op.{Op}
+use Rattle.loom_lang.specs.Values.{is_zero, applied, divides}
+use Rattle.loom_lang.specs.Trace.{Item, frame_limit}
+use Rattle.loom_flow.specs.declared.code.Array.{Array}
+use Rattle.loom_flow.specs.declared.code.Instr.{Instr}
+use Rattle.loom_flow.specs.declared.code.Entrance.{Entrance}
+use Rattle.loom_flow.specs.Flat.{Flat, Frame, State, resume}
+use Rattle.loom_trace.specs.declared.request.Request.{Request}
+use Rattle.loom_trace.specs.declared.request.Request.TheVariants as r
+use Rattle.loom_strand.specs.declared.turn.Mark.TheVariants as m
+use Rattle.loom_strand.specs.declared.turn.Turn.{Turn}
+use Rattle.loom_strand.specs.declared.turn.Turn.TheVariants as t
+use Rattle.loom_strand.specs.Machine.{Progress, goes, asks, ends, nothing, either, in_array, returns, enters}
+use Rattle.loom_strand.specs.Held.{Held, holding, inside, back, branched}
+use Rattle.loom_strand.specs.Turned.{Comes, mark_of, turn_back, worked, cell_at}
+
+-- the request for a cell, or the trap
+abbrev pub cell_request : ℕ → (ℕ → Request) → Option ℕ → Request
+cell_request line ask None = r.Trap line 2
+cell_request line ask (Some w) = ask w
+
+within : (b : Bool) (line w : ℕ) (ask : ℕ → Request) → either b (asks (ask w)) (asks (r.Trap line 2)) ≡ asks (cell_request line ask (if b then Some w else None))
+within true line w ask = refl
+within false line w ask = refl
+
+pub cell_asked : (line : ℕ) (a : Array) (v : ℤ) (ask : ℕ → Request) → in_array line a v ask ≡ asks (cell_request line ask (cell_at a v))
+cell_asked line a (pos i) ask = within (nat_lt i a.count) line (a.first + i) ask
+cell_asked line a (negsuc i) ask = refl

@@ -1,0 +1,185 @@
+//! One instruction of a thread.
+ghost use Rattle.std.specs.Prelude.{◌≡◌, ◌<◌, ◌≤◌, ◌&&◌, suc, pos, nat_lt, length, slice_get, [], ◌∷◌, is_some, unwrap_or, Some, None, IfSome};
+ghost use Rattle.loom_lang.specs.Values.{is_zero, applied, divides};
+ghost use Rattle.loom_lang.specs.Trace.{frame_limit};
+ghost use Rattle.loom_flow.specs.Flat.{operand, without, given, forward, arguments, without_arguments};
+ghost use Rattle.loom_trace.specs.declared.request.Request.TheVariants as r;
+ghost use Rattle.loom_strand.specs.Machine.{asks, goes, either, in_array, enters, progress};
+ghost use Rattle.loom_strand.specs.Held.{holding, back};
+ghost use Rattle.loom_strand.specs.Turned.{Comes, Advances, HasFewArguments, turn_back};
+
+use crate::machine::Machine;
+use crate::operate::{cell_at, inverted, worked};
+use crate::turn::{Mark, Turn};
+use loom_flow::code::{Array, Entrance, Instr, Operand, Step, Target};
+use loom_flow::flow::Flow;
+use loom_trace::request::Request;
+use loom_tree::expression::Op;
+
+#[tactic(auto, using(crate::proofs::Turns::cell_asked))]
+fn read_cell(machine: &Machine, line: u32, array: Array, index: Operand) -> Request
+    ensures { asks result ≡ in_array line array (operand machine.now.state index) (λ w. r.Read line w) }
+{
+    match cell_at(array, machine.operand(index)) {
+        Some(word) => Request::Read { line, word },
+        None => Request::Trap { line, reason: 2 },
+    }
+}
+
+#[tactic(auto, using(crate::proofs::Turns::cell_asked))]
+fn write_cell(machine: &Machine, line: u32, array: Array, index: Operand, b: Operand) -> Request
+    ensures { asks result ≡ in_array line array (operand (without machine.now.state b) index) (λ w. r.Write line w (operand machine.now.state b)) }
+{
+    let value = machine.operand(b);
+    match cell_at(array, machine.operand_under(index, b)) {
+        Some(word) => Request::Write { line, word, value },
+        None => Request::Trap { line, reason: 2 },
+    }
+}
+
+fn apply(
+    machine: &mut Machine,
+    i: &Instr,
+    op: Op,
+    a: Operand,
+    b: Operand,
+    target: Target,
+) -> Turn
+    requires before { machine.old.state.at < 4294967295 }
+    requires room { length machine.old.state.values < machine.old.most_values }
+    ensures { Comes i.now machine.old machine.new result (either (divides op && is_zero (operand machine.old.state b)) (asks (r.Trap i.now.line 1)) (goes [] (forward (given (without (without machine.old.state b) a) target (applied op (operand (without machine.old.state b) a) (operand machine.old.state b)))))) }
+{
+    match worked(op, machine.operand_under(a, b), machine.operand(b)) {
+        Some(v) => {
+            machine.replace_two(a, b, target, v);
+            Turn::Went(Mark::Silent)
+        }
+        None => Turn::Asks(Request::Trap {
+            line: i.line,
+            reason: 1,
+        }),
+    }
+}
+
+#[tactic(auto, using(std::proofs::lemmas::Option::slice_get_cases))]
+fn entrance_of(flow: &Flow, func: u8) -> Option<Entrance>
+    ensures { result ≡ slice_get flow.now.entrances func }
+{
+    flow.entrances().get(func as usize).copied()
+}
+
+fn call(machine: &mut Machine, flow: &Flow, i: &Instr, func: u8, n: u8) -> Turn
+    requires few { n ≤ 4 }
+    requires frames { 255 ≤ machine.old.most_frames }
+    ensures { Comes i.now machine.old machine.new result (either (nat_lt (suc (length machine.old.state.below)) frame_limit) (enters (without_arguments machine.old.state n) i.now func (arguments machine.old.state n) (slice_get flow.now.entrances func)) (asks (r.Trap i.now.line 6))) }
+{
+    let line = i.line;
+    if machine.waiting() >= 255 {
+        return Turn::Asks(Request::Trap { line, reason: 6 });
+    }
+    match entrance_of(flow, func) {
+        Some(entrance) => {
+            let args = machine.arguments(n);
+            machine.drop_arguments(n);
+            machine.enter(entrance, func, args, i.place);
+            Turn::Went(Mark::Entry(func))
+        }
+        None => Turn::Nothing,
+    }
+}
+
+fn end_frame(machine: &mut Machine, flow: &Flow, v: i64) -> Turn
+    requires { length machine.old.state.values < machine.old.most_values }
+    ensures turn { result ≡ turn_back (back flow.now.sites machine.old.state v machine.old.state.below) }
+    ensures back { machine.new ≡ holding machine.old (unwrap_or (back flow.now.sites machine.old.state v machine.old.state.below) machine.old.state) }
+{
+    if machine.return_with(flow.sites(), v) {
+        Turn::Went(Mark::Silent)
+    } else {
+        Turn::Ends
+    }
+}
+
+fn step(machine: &mut Machine, flow: &Flow, i: &Instr) -> Turn
+    requires before { machine.old.state.at < 4294967295 }
+    requires room { length machine.old.state.values < machine.old.most_values }
+    requires frames { 255 ≤ machine.old.most_frames }
+    requires few { HasFewArguments i.now.step }
+    ensures { Comes i.now machine.old machine.new result (progress flow.now machine.old.state i.now i.now.step) }
+{
+    let line = i.line;
+    match i.step {
+        Step::Move(a, d) => {
+            machine.replace(a, d, machine.operand(a));
+            Turn::Went(Mark::Silent)
+        }
+        Step::Read(w, _) => Turn::Asks(Request::Read {
+            line,
+            word: w as u32,
+        }),
+        Step::ReadCell(array, a, _) => Turn::Asks(read_cell(machine, line, array, a)),
+        Step::Negate(a, d) => {
+            machine.replace(a, d, machine.operand(a).wrapping_neg());
+            Turn::Went(Mark::Silent)
+        }
+        Step::Invert(a, d) => {
+            machine.replace(a, d, inverted(machine.operand(a)));
+            Turn::Went(Mark::Silent)
+        }
+        Step::Apply(op, a, b, d) => apply(machine, i, op, a, b, d),
+        Step::Write(w, a) => Turn::Asks(Request::Write {
+            line,
+            word: w as u32,
+            value: machine.operand(a),
+        }),
+        Step::WriteCell(array, a, b) => Turn::Asks(write_cell(machine, line, array, a, b)),
+        Step::Lock(m) => Turn::Asks(Request::Lock { line, m }),
+        Step::Unlock(m) => Turn::Asks(Request::Unlock { line, m }),
+        Step::Down(s) => Turn::Asks(Request::Down { line, s }),
+        Step::Up(s) => Turn::Asks(Request::Up { line, s }),
+        Step::Join(a) => Turn::Asks(Request::Join {
+            line,
+            value: machine.operand(a),
+        }),
+        Step::Print(a) => Turn::Asks(Request::Print {
+            line,
+            value: machine.operand(a),
+        }),
+        Step::Spawn(func, n, _) => Turn::Asks(Request::Spawn {
+            line,
+            func,
+            args: machine.arguments(n),
+        }),
+        Step::Call(func, n) => call(machine, flow, i, func, n),
+        Step::Discard => {
+            machine.pass(Operand::Top);
+            Turn::Went(Mark::Silent)
+        }
+        Step::Return(a) => {
+            let v = machine.operand(a);
+            machine.drop_operand(a);
+            end_frame(machine, flow, v)
+        }
+        Step::Begin => {
+            machine.forward();
+            Turn::Went(Mark::Silent)
+        }
+        Step::Done => {
+            machine.forward();
+            Turn::Went(Mark::Silent)
+        }
+        Step::Edge(to) => {
+            machine.jump(to);
+            Turn::Went(Mark::Edge(i.place))
+        }
+        Step::Jump(to) => {
+            machine.jump(to);
+            Turn::Went(Mark::Silent)
+        }
+        Step::JumpIfZero(a, to) => {
+            machine.branch(a, to);
+            Turn::Went(Mark::Silent)
+        }
+        Step::Out => end_frame(machine, flow, 0),
+    }
+}

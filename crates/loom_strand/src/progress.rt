@@ -4,7 +4,7 @@ ghost use Rattle.loom_lang.specs.Values.{is_zero, applied, divides};
 ghost use Rattle.loom_lang.specs.Trace.{frame_limit};
 ghost use Rattle.loom_flow.specs.Flat.{operand, without, given, forward, arguments, without_arguments};
 ghost use Rattle.loom_trace.specs.declared.request.Request.TheVariants as r;
-ghost use Rattle.loom_strand.specs.Machine.{asks, goes, either, in_array, enters, progress};
+ghost use Rattle.loom_strand.specs.Machine.{asks, goes, either, in_array, enters, progress, answered};
 ghost use Rattle.loom_strand.specs.Held.{holding, back};
 ghost use Rattle.loom_strand.specs.Turned.{Comes, Advances, HasFewArguments, turn_back};
 
@@ -181,5 +181,60 @@ fn step(machine: &mut Machine, flow: &Flow, i: &Instr) -> Turn
             Turn::Went(Mark::Silent)
         }
         Step::Out => end_frame(machine, flow, 0),
+    }
+}
+
+/// One instruction.
+pub(crate) fn advance(machine: &mut Machine, flow: &Flow) -> Turn
+    requires code { length flow.now.code < 4294967296 }
+    requires room { length machine.old.state.values < machine.old.most_values }
+    requires frames { 255 ≤ machine.old.most_frames }
+    requires few { IfSome (slice_get flow.now.code machine.old.state.at) (λ i. HasFewArguments i.step) }
+    ensures { Advances flow.now machine.old machine.new result (slice_get flow.now.code machine.old.state.at) }
+{
+    match flow.code().get(machine.at() as usize) {
+        Some(i) => step(machine, flow, i),
+        None => Turn::Nothing,
+    }
+}
+
+/// Behind the answer to what an instruction asked for, with the value that it gives.
+#[tactic(auto, using(crate::proofs::Room::put_one, crate::proofs::Room::fewer))]
+pub(crate) fn answer(machine: &mut Machine, step: Step, v: i64)
+    requires before { machine.old.state.at < 4294967295 }
+    requires room { length machine.old.state.values < machine.old.most_values }
+    ensures { machine.new ≡ holding machine.old (answered machine.old.state step v) }
+{
+    match step {
+        Step::Read(_, d) => machine.leave(d, v),
+        Step::ReadCell(_, a, d) => machine.replace(a, d, v),
+        Step::Write(_, a) => machine.pass(a),
+        Step::WriteCell(_, a, b) => {
+            machine.drop_operand(b);
+            machine.pass(a);
+        }
+        Step::Join(a) => machine.pass(a),
+        Step::Print(a) => machine.pass(a),
+        Step::Spawn(_, n, d) => {
+            machine.drop_arguments(n);
+            machine.leave(d, v);
+        }
+        Step::Move(_, _) => machine.forward(),
+        Step::Negate(_, _) => machine.forward(),
+        Step::Invert(_, _) => machine.forward(),
+        Step::Apply(_, _, _, _) => machine.forward(),
+        Step::Lock(_) => machine.forward(),
+        Step::Unlock(_) => machine.forward(),
+        Step::Down(_) => machine.forward(),
+        Step::Up(_) => machine.forward(),
+        Step::Call(_, _) => machine.forward(),
+        Step::Discard => machine.forward(),
+        Step::Return(_) => machine.forward(),
+        Step::Begin => machine.forward(),
+        Step::Done => machine.forward(),
+        Step::Edge(_) => machine.forward(),
+        Step::Jump(_) => machine.forward(),
+        Step::JumpIfZero(_, _) => machine.forward(),
+        Step::Out => machine.forward(),
     }
 }

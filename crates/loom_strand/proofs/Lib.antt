@@ -4,3 +4,4 @@ pub mod Stacks
 pub mod Locals
 pub mod Room
 pub mod Turns
+pub mod Few

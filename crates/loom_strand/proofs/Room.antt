@@ -1,5 +1,5 @@
 -- Room for values.
-use Rattle.std.proofs.Common.{ℕ, ◌≤◌, List, ℤ, length, drop, length-drop, arith}
+use Rattle.std.proofs.Common.{◌≤◌, List, ℤ, length, length-drop, arith}
 use Rattle.loom_flow.specs.declared.code.Operand.{Operand}
 use Rattle.loom_flow.specs.declared.code.Operand.TheVariants as o
 use Rattle.loom_flow.specs.declared.code.Target.{Target}

@@ -1,21 +1,10 @@
 -- What comes of an instruction, case by case.
-use Rattle.std.proofs.Common.{ℕ, suc, ◌+◌, ◌<◌, ◌≤◌, ◌≡◌, ◌&&◌, Bool, true, false, nat_lt, List, [], ◌∷◌, ℤ, pos, negsuc, Option, Some, None, IfSome, length, refl, sym, subst, ap, ◌∙◌, arith, unwrap_or, slice_get, if◌then◌else◌}
-use Rattle.std.proofs.lemmas.Bool.{lt-ltb, le-ltb}
-use Rattle.loom_tree.specs.declared.expression.Op.{Op}
-use Rattle.loom_lang.specs.Values.{is_zero, applied, divides}
-use Rattle.loom_lang.specs.Trace.{Item, frame_limit}
+use Rattle.std.proofs.Common.{ℕ, ◌+◌, ◌≡◌, Bool, true, false, nat_lt, ℤ, pos, negsuc, Option, Some, None, refl, if◌then◌else◌}
 use Rattle.loom_flow.specs.declared.code.Array.{Array}
-use Rattle.loom_flow.specs.declared.code.Instr.{Instr}
-use Rattle.loom_flow.specs.declared.code.Entrance.{Entrance}
-use Rattle.loom_flow.specs.Flat.{Flat, Frame, State, resume}
 use Rattle.loom_trace.specs.declared.request.Request.{Request}
 use Rattle.loom_trace.specs.declared.request.Request.TheVariants as r
-use Rattle.loom_strand.specs.declared.turn.Mark.TheVariants as m
-use Rattle.loom_strand.specs.declared.turn.Turn.{Turn}
-use Rattle.loom_strand.specs.declared.turn.Turn.TheVariants as t
-use Rattle.loom_strand.specs.Machine.{Progress, goes, asks, ends, nothing, either, in_array, returns, enters}
-use Rattle.loom_strand.specs.Held.{Held, holding, inside, back, branched}
-use Rattle.loom_strand.specs.Turned.{Comes, mark_of, turn_back, worked, cell_at}
+use Rattle.loom_strand.specs.Machine.{asks, either, in_array}
+use Rattle.loom_strand.specs.Turned.{cell_at}
 
 -- the request for a cell, or the trap
 abbrev pub cell_request : ℕ → (ℕ → Request) → Option ℕ → Request

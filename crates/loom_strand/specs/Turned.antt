@@ -1,5 +1,5 @@
 -- What comes of an instruction, as it is told.
-use Rattle.std.specs.Prelude.{ℕ, ◌≡◌, ◌≤◌, ◌+◌, ◌&&◌, nat_lt, List, [], ◌∷◌, ℤ, pos, negsuc, Option, Some, None, if◌then◌else◌, slice_get}
+use Rattle.std.specs.Prelude.{ℕ, ◌≡◌, ◌≤◌, ◌+◌, ◌&&◌, nat_lt, List, ◌∷◌, ℤ, pos, negsuc, Option, Some, None, if◌then◌else◌}
 use Rattle.loom_tree.specs.declared.expression.Op.{Op}
 use Rattle.loom_lang.specs.Values.{is_zero, applied, divides}
 use Rattle.loom_lang.specs.Trace.{Item, enter, edge}

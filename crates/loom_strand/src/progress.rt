@@ -37,14 +37,7 @@ fn write_cell(machine: &Machine, line: u32, array: Array, index: Operand, b: Ope
     }
 }
 
-fn apply(
-    machine: &mut Machine,
-    i: &Instr,
-    op: Op,
-    a: Operand,
-    b: Operand,
-    target: Target,
-) -> Turn
+fn apply(machine: &mut Machine, i: &Instr, op: Op, a: Operand, b: Operand, target: Target) -> Turn
     requires before { machine.old.state.at < 4294967295 }
     requires room { length machine.old.state.values < machine.old.most_values }
     ensures { Comes i.now machine.old machine.new result (either (divides op && is_zero (operand machine.old.state b)) (asks (r.Trap i.now.line 1)) (goes [] (forward (given (without (without machine.old.state b) a) target (applied op (operand (without machine.old.state b) a) (operand machine.old.state b)))))) }
@@ -189,7 +182,6 @@ pub(crate) fn advance(machine: &mut Machine, flow: &Flow) -> Turn
     requires code { length flow.now.code < 4294967296 }
     requires room { length machine.old.state.values < machine.old.most_values }
     requires frames { 255 ≤ machine.old.most_frames }
-    requires few { IfSome (slice_get flow.now.code machine.old.state.at) (λ i. HasFewArguments i.step) }
     ensures { Advances flow.now machine.old machine.new result (slice_get flow.now.code machine.old.state.at) }
 {
     match flow.code().get(machine.at() as usize) {

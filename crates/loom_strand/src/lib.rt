@@ -1,6 +1,7 @@
 //! One thread: what it asks for next, and what it was answered.
 #![tactic(auto)]
 
+mod ask;
 mod frame;
 mod machine;
 mod operate;

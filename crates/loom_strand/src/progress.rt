@@ -1,41 +1,24 @@
 //! One instruction of a thread.
-ghost use Rattle.std.specs.Prelude.{◌≡◌, ◌<◌, ◌≤◌, ◌&&◌, suc, pos, nat_lt, length, slice_get, [], ◌∷◌, is_some, unwrap_or, Some, None, IfSome};
-ghost use Rattle.loom_lang.specs.Values.{is_zero, applied, divides};
+ghost use Rattle.std.specs.Prelude.{◌≡◌, ◌<◌, ◌≤◌, ◌&&◌, suc, nat_lt, length, slice_get, [], unwrap_or};
+ghost use Rattle.loom_lang.specs.Values.{is_zero, applied, divides, negated, inverted};
 ghost use Rattle.loom_lang.specs.Trace.{frame_limit};
-ghost use Rattle.loom_flow.specs.Flat.{operand, without, given, forward, arguments, without_arguments};
+ghost use Rattle.loom_flow.specs.declared.code.Operand.TheVariants as o;
+ghost use Rattle.loom_flow.specs.Flat.{operand, without, given, forward, jumped, arguments, without_arguments};
 ghost use Rattle.loom_trace.specs.declared.request.Request.TheVariants as r;
-ghost use Rattle.loom_strand.specs.Machine.{asks, goes, either, in_array, enters, progress, answered};
-ghost use Rattle.loom_strand.specs.Held.{holding, back};
+ghost use Rattle.loom_strand.specs.declared.turn.Mark.TheVariants as m;
+ghost use Rattle.loom_strand.specs.declared.turn.Turn.TheVariants as t;
+ghost use Rattle.loom_strand.specs.Machine.{asks, goes, either, enters, progress, answered};
+ghost use Rattle.loom_strand.specs.Held.{holding, back, branched};
 ghost use Rattle.loom_strand.specs.Turned.{Comes, Advances, HasFewArguments, turn_back};
 
+use crate::ask::{join, print, read, read_cell, spawn, write, write_cell};
 use crate::machine::Machine;
-use crate::operate::{cell_at, inverted, worked};
+use crate::operate::{inverted, worked};
 use crate::turn::{Mark, Turn};
-use loom_flow::code::{Array, Entrance, Instr, Operand, Step, Target};
+use loom_flow::code::{Entrance, Instr, Operand, Step, Target};
 use loom_flow::flow::Flow;
 use loom_trace::request::Request;
 use loom_tree::expression::Op;
-
-#[tactic(auto, using(crate::proofs::Turns::cell_asked))]
-fn read_cell(machine: &Machine, line: u32, array: Array, index: Operand) -> Request
-    ensures { asks result ≡ in_array line array (operand machine.now.state index) (λ w. r.Read line w) }
-{
-    match cell_at(array, machine.operand(index)) {
-        Some(word) => Request::Read { line, word },
-        None => Request::Trap { line, reason: 2 },
-    }
-}
-
-#[tactic(auto, using(crate::proofs::Turns::cell_asked))]
-fn write_cell(machine: &Machine, line: u32, array: Array, index: Operand, b: Operand) -> Request
-    ensures { asks result ≡ in_array line array (operand (without machine.now.state b) index) (λ w. r.Write line w (operand machine.now.state b)) }
-{
-    let value = machine.operand(b);
-    match cell_at(array, machine.operand_under(index, b)) {
-        Some(word) => Request::Write { line, word, value },
-        None => Request::Trap { line, reason: 2 },
-    }
-}
 
 fn apply(machine: &mut Machine, i: &Instr, op: Op, a: Operand, b: Operand, target: Target) -> Turn
     requires before { machine.old.state.at < 4294967295 }
@@ -93,6 +76,84 @@ fn end_frame(machine: &mut Machine, flow: &Flow, v: i64) -> Turn
     }
 }
 
+// An operand's value is left, by itself, negated or inverted.
+
+fn moved(machine: &mut Machine, a: Operand, target: Target) -> Turn
+    requires before { machine.old.state.at < 4294967295 }
+    requires room { length machine.old.state.values < machine.old.most_values }
+    ensures turn { result ≡ t.Went m.Silent }
+    ensures state { machine.new ≡ holding machine.old (forward (given (without machine.old.state a) target (operand machine.old.state a))) }
+{
+    machine.replace(a, target, machine.operand(a));
+    Turn::Went(Mark::Silent)
+}
+
+fn negate(machine: &mut Machine, a: Operand, target: Target) -> Turn
+    requires before { machine.old.state.at < 4294967295 }
+    requires room { length machine.old.state.values < machine.old.most_values }
+    ensures turn { result ≡ t.Went m.Silent }
+    ensures state { machine.new ≡ holding machine.old (forward (given (without machine.old.state a) target (negated (operand machine.old.state a)))) }
+{
+    machine.replace(a, target, machine.operand(a).wrapping_neg());
+    Turn::Went(Mark::Silent)
+}
+
+fn invert(machine: &mut Machine, a: Operand, target: Target) -> Turn
+    requires before { machine.old.state.at < 4294967295 }
+    requires room { length machine.old.state.values < machine.old.most_values }
+    ensures turn { result ≡ t.Went m.Silent }
+    ensures state { machine.new ≡ holding machine.old (forward (given (without machine.old.state a) target (inverted (operand machine.old.state a)))) }
+{
+    machine.replace(a, target, inverted(machine.operand(a)));
+    Turn::Went(Mark::Silent)
+}
+
+// The next instruction.
+fn forward(machine: &mut Machine) -> Turn
+    requires { machine.old.state.at < 4294967295 }
+    ensures turn { result ≡ t.Went m.Silent }
+    ensures state { machine.new ≡ holding machine.old (forward machine.old.state) }
+{
+    machine.forward();
+    Turn::Went(Mark::Silent)
+}
+
+fn discard(machine: &mut Machine) -> Turn
+    requires { machine.old.state.at < 4294967295 }
+    ensures turn { result ≡ t.Went m.Silent }
+    ensures state { machine.new ≡ holding machine.old (forward (without machine.old.state o.Top)) }
+{
+    machine.pass(Operand::Top);
+    Turn::Went(Mark::Silent)
+}
+
+fn jump(machine: &mut Machine, to: u32, mark: Mark) -> Turn
+    ensures turn { result ≡ t.Went mark }
+    ensures state { machine.new ≡ holding machine.old (jumped machine.old.state to) }
+{
+    machine.jump(to);
+    Turn::Went(mark)
+}
+
+fn branch(machine: &mut Machine, a: Operand, to: u32) -> Turn
+    requires { machine.old.state.at < 4294967295 }
+    ensures turn { result ≡ t.Went m.Silent }
+    ensures state { machine.new ≡ holding machine.old (branched (is_zero (operand machine.old.state a)) (jumped (without machine.old.state a) to) (forward (without machine.old.state a))) }
+{
+    machine.branch(a, to);
+    Turn::Went(Mark::Silent)
+}
+
+fn give_back(machine: &mut Machine, flow: &Flow, a: Operand) -> Turn
+    requires { length machine.old.state.values < machine.old.most_values }
+    ensures turn { result ≡ turn_back (back flow.now.sites (without machine.old.state a) (operand machine.old.state a) machine.old.state.below) }
+    ensures back { machine.new ≡ holding machine.old (unwrap_or (back flow.now.sites (without machine.old.state a) (operand machine.old.state a) machine.old.state.below) (without machine.old.state a)) }
+{
+    let v = machine.operand(a);
+    machine.drop_operand(a);
+    end_frame(machine, flow, v)
+}
+
 fn step(machine: &mut Machine, flow: &Flow, i: &Instr) -> Turn
     requires before { machine.old.state.at < 4294967295 }
     requires room { length machine.old.state.values < machine.old.most_values }
@@ -102,77 +163,29 @@ fn step(machine: &mut Machine, flow: &Flow, i: &Instr) -> Turn
 {
     let line = i.line;
     match i.step {
-        Step::Move(a, d) => {
-            machine.replace(a, d, machine.operand(a));
-            Turn::Went(Mark::Silent)
-        }
-        Step::Read(w, _) => Turn::Asks(Request::Read {
-            line,
-            word: w as u32,
-        }),
-        Step::ReadCell(array, a, _) => Turn::Asks(read_cell(machine, line, array, a)),
-        Step::Negate(a, d) => {
-            machine.replace(a, d, machine.operand(a).wrapping_neg());
-            Turn::Went(Mark::Silent)
-        }
-        Step::Invert(a, d) => {
-            machine.replace(a, d, inverted(machine.operand(a)));
-            Turn::Went(Mark::Silent)
-        }
+        Step::Move(a, d) => moved(machine, a, d),
+        Step::Read(word, _) => Turn::Asks(read(line, word)),
+        Step::ReadCell(array, n, _) => Turn::Asks(read_cell(machine, line, array, n)),
+        Step::Negate(a, d) => negate(machine, a, d),
+        Step::Invert(a, d) => invert(machine, a, d),
         Step::Apply(op, a, b, d) => apply(machine, i, op, a, b, d),
-        Step::Write(w, a) => Turn::Asks(Request::Write {
-            line,
-            word: w as u32,
-            value: machine.operand(a),
-        }),
-        Step::WriteCell(array, a, b) => Turn::Asks(write_cell(machine, line, array, a, b)),
+        Step::Write(word, a) => Turn::Asks(write(machine, line, word, a)),
+        Step::WriteCell(array, n, b) => Turn::Asks(write_cell(machine, line, array, n, b)),
         Step::Lock(m) => Turn::Asks(Request::Lock { line, m }),
         Step::Unlock(m) => Turn::Asks(Request::Unlock { line, m }),
         Step::Down(s) => Turn::Asks(Request::Down { line, s }),
         Step::Up(s) => Turn::Asks(Request::Up { line, s }),
-        Step::Join(a) => Turn::Asks(Request::Join {
-            line,
-            value: machine.operand(a),
-        }),
-        Step::Print(a) => Turn::Asks(Request::Print {
-            line,
-            value: machine.operand(a),
-        }),
-        Step::Spawn(func, n, _) => Turn::Asks(Request::Spawn {
-            line,
-            func,
-            args: machine.arguments(n),
-        }),
+        Step::Join(a) => Turn::Asks(join(machine, line, a)),
+        Step::Print(a) => Turn::Asks(print(machine, line, a)),
+        Step::Spawn(func, n, _) => Turn::Asks(spawn(machine, line, func, n)),
         Step::Call(func, n) => call(machine, flow, i, func, n),
-        Step::Discard => {
-            machine.pass(Operand::Top);
-            Turn::Went(Mark::Silent)
-        }
-        Step::Return(a) => {
-            let v = machine.operand(a);
-            machine.drop_operand(a);
-            end_frame(machine, flow, v)
-        }
-        Step::Begin => {
-            machine.forward();
-            Turn::Went(Mark::Silent)
-        }
-        Step::Done => {
-            machine.forward();
-            Turn::Went(Mark::Silent)
-        }
-        Step::Edge(to) => {
-            machine.jump(to);
-            Turn::Went(Mark::Edge(i.place))
-        }
-        Step::Jump(to) => {
-            machine.jump(to);
-            Turn::Went(Mark::Silent)
-        }
-        Step::JumpIfZero(a, to) => {
-            machine.branch(a, to);
-            Turn::Went(Mark::Silent)
-        }
+        Step::Discard => discard(machine),
+        Step::Return(a) => give_back(machine, flow, a),
+        Step::Begin => forward(machine),
+        Step::Done => forward(machine),
+        Step::Edge(to) => jump(machine, to, Mark::Edge(i.place)),
+        Step::Jump(to) => jump(machine, to, Mark::Silent),
+        Step::JumpIfZero(a, to) => branch(machine, a, to),
         Step::Out => end_frame(machine, flow, 0),
     }
 }

@@ -21,7 +21,7 @@ mark_of i (enter f ∷ is) = m.Entry f
 mark_of i (edge l ∷ is) = m.Edge i.place
 mark_of i _ = m.Silent
 
--- From one machine to the next: it goes on, or it is as it was, but at the end.
+-- From one machine to the next: it goes on, or it is as it was. Where the thread ends nothing is said of it.
 abbrev pub Comes : Instr → Held → Held → Turn → Progress → Type 0
 Comes i old new turn (goes marks z) = (turn ≡ t.Went (mark_of i marks)) × (new ≡ holding old z)
 Comes i old new turn (asks q) = (turn ≡ t.Asks q) × (new ≡ old)

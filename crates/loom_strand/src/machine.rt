@@ -220,6 +220,17 @@ impl Machine {
         self.values.drop_last(n as usize);
     }
 
+    /// Takes off so many arguments and gives them.
+    pub fn take_arguments(&mut self, n: u8) -> Args
+        requires { n ≤ 4 }
+        ensures args { result ≡ arguments self.old.state n }
+        ensures rest { self.new ≡ holding self.old (without_arguments self.old.state n) }
+    {
+        let args = self.arguments(n);
+        self.drop_arguments(n);
+        args
+    }
+
     /// Into a new frame, called from this place.
     pub fn enter(&mut self, entrance: Entrance, func: u8, args: Args, place: u16)
         requires { length self.old.state.below < self.old.most_frames }

@@ -55,8 +55,7 @@ fn call(machine: &mut Machine, flow: &Flow, i: &Instr, func: u8, n: u8) -> Turn
     }
     match entrance_of(flow, func) {
         Some(entrance) => {
-            let args = machine.arguments(n);
-            machine.drop_arguments(n);
+            let args = machine.take_arguments(n);
             machine.enter(entrance, func, args, i.place);
             Turn::Went(Mark::Entry(func))
         }

@@ -1,5 +1,6 @@
 mod Tells
 mod Continues
+mod Ticks
 pub mod Stacks
 pub mod Locals
 pub mod Room

@@ -22,15 +22,15 @@ mod Meeting
 mod Placed
 pub mod Places
 mod Plain
-mod Relations
+pub mod Relations
 mod Roles
-mod Running
+pub mod Running
 mod Simple
 pub mod Sizes
 mod Standing
 mod Statements
-mod Steps
-mod Straight
+pub mod Steps
+pub mod Straight
 pub mod Traces
 mod Trees
 mod Truths

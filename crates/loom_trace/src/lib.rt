@@ -5,6 +5,7 @@ pub mod entry;
 pub mod journal;
 pub mod laws;
 pub mod line;
+pub mod request;
 pub mod row;
 #[cfg(test)]
 mod tests;

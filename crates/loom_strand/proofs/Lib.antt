@@ -1,0 +1,8 @@
+mod Tells
+mod Continues
+mod Ticks
+pub mod Stacks
+pub mod Locals
+pub mod Room
+pub mod Turns
+pub mod Few

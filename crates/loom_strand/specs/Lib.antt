@@ -1,0 +1,5 @@
+pub mod Machine
+pub mod Asked
+pub mod Part
+pub mod Held
+pub mod Turned

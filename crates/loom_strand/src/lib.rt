@@ -1,0 +1,10 @@
+//! One thread: what it asks for next, and what it was answered.
+#![tactic(auto)]
+
+mod ask;
+mod frame;
+mod machine;
+mod operate;
+mod progress;
+mod turn;
+mod values;

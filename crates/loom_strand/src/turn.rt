@@ -1,0 +1,22 @@
+//! What comes of an instruction.
+
+use loom_trace::request::Request;
+
+/// Which entry or back-edge place an instruction passes.
+#[derive(Clone, Copy, Debug, Drop)]
+pub(crate) enum Mark {
+    Silent,
+    /// The entry place of the function of this number.
+    Entry(u8),
+    /// The back edge of this place.
+    Edge(u16),
+}
+
+#[derive(Clone, Copy, Debug, Drop)]
+pub(crate) enum Turn {
+    Went(Mark),
+    Asks(Request),
+    Ends,
+    /// There is no instruction.
+    Nothing,
+}

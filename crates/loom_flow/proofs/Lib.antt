@@ -33,4 +33,4 @@ pub mod Steps
 pub mod Straight
 pub mod Traces
 mod Trees
-mod Truths
+pub mod Truths

@@ -1,7 +1,7 @@
 -- What flat code keeps of a program, and what its instructions keep to.
 use Rattle.std.specs.Prelude.{slice_get, Contains, IsBitSet, ℕ, suc, ◌+◌, ◌-◌, ◌≡◌, ◌≤◌, ◌<◌, ◌↔◌, ℤ, List, Option, Some, None, map, length}
 use Rattle.loom_tree.specs.Tree.{Function, Source}
-use Rattle.loom_lang.specs.Rules.{IsLawful}
+use Rattle.loom_lang.specs.Rules.{IsLawful, cell_count}
 use Rattle.loom_lang.specs.Places.{Place, entry, inside, back_edge, out, places, place_at, line_of_place}
 use Rattle.loom_lang.specs.Trace.{Item, Outcome, IsTrace}
 use Rattle.loom_flow.specs.declared.code.Step.{Step}
@@ -112,3 +112,26 @@ AllKeepFunctions = (p : Source) → IsLawful p → KeepsFunctions (lowered p)
 -- where no expression has more nodes than these
 abbrev pub AllHaveOperands : Type 0
 AllHaveOperands = (p : Source) → IsLawful p → (n : ℕ) → IsSmall n p → HasOperands (lowered p) (n + 4)
+
+-- Numbers
+
+-- The function has so many parameters.
+abbrev pub HasParams : Source → ℕ → ℕ → Type 0
+HasParams p f n = (g : Function) × (slice_get p.funcs f ≡ Some g) × (n ≡ length g.params)
+
+-- The numbers in an instruction are those of the program.
+abbrev pub HasNumbers : Source → Step → Type 0
+HasNumbers p (s.Read w d) = w < cell_count p.words
+HasNumbers p (s.ReadCell a n d) = a.first + a.count ≤ cell_count p.words
+HasNumbers p (s.Write w a) = w < cell_count p.words
+HasNumbers p (s.WriteCell a n b) = a.first + a.count ≤ cell_count p.words
+HasNumbers p (s.Lock m) = m < length p.mutexes
+HasNumbers p (s.Unlock m) = m < length p.mutexes
+HasNumbers p (s.Down x) = x < length p.semas
+HasNumbers p (s.Up x) = x < length p.semas
+HasNumbers p (s.Spawn f n d) = HasParams p f n
+HasNumbers p (s.Call f n) = HasParams p f n
+HasNumbers p _ = Unit {0}
+
+abbrev pub AllHaveNumbers : Type 0
+AllHaveNumbers = (p : Source) → IsLawful p → (at : ℕ) (i : Instr) → slice_get (lowered p).code at ≡ Some i → HasNumbers p i.step

@@ -11,6 +11,7 @@ use Rattle.loom_lang.specs.Trace.{Act, lock, down, join}
 use Rattle.loom_law.specs.Event.{Event, entry_of, is_target, targets, deeds}
 use Rattle.loom_law.specs.Replay.{Spawned, Store, start, thread_at, replay, IsDisabled}
 use Rattle.loom_law.specs.Run.{AreRun, IsTraced}
+use Rattle.loom_law.specs.Part.{IsPart}
 
 -- Threads and their last entries
 
@@ -130,10 +131,27 @@ Ends limit stop s front k.Limit = (is_stopped stop front ≡ false) × (is_at_li
 Ends limit stop s front k.Done = (is_over limit stop front ≡ false) × AllEnded s
 Ends limit stop s front k.Stuck = (is_over limit stop front ≡ false) × IsStalled s front
 
+-- Parts of threads
+
+-- whether the thread made the entry, and not because it was blocked
+abbrev pub is_part_of : ℕ → Entry → Bool
+is_part_of t (e.Blocked u l x) = false
+is_part_of t x = is_thread t (thread_of x)
+
+abbrev pub part_of : ℕ → List Entry → List Entry
+part_of t [] = []
+part_of t (x ∷ xs) = if is_part_of t x then x ∷ part_of t xs else part_of t xs
+
+-- These are the entries of a trace of the function with which the thread was spawned, with a tick at each thousandth place.
+abbrev pub HasPart : Source → ℕ → Option Spawned → List Entry → Type 0
+HasPart p t None es = es ≡ []
+HasPart p t (Some x) es = IsPart p t x.func x.args es
+
 -- What stands at the end of `front`, with `rest` behind it. The events so far are `xs`.
 abbrev pub Stands : Source → ℕ → (Entry → Bool) → List Entry → List Event → Entry → List Entry → Type 0
 Stands p limit stop front xs (e.Finish kind) rest = (rest ≡ []) × Ends limit stop (replay (start p) xs) front kind
 Stands p limit stop front xs (e.Blocked t l what) rest = (is_over limit stop front ≡ false) × MayBlock p front xs t l what
+Stands p limit stop front xs (e.Tick t l k) rest = is_over limit stop front ≡ false
 Stands p limit stop front xs x rest = (is_over limit stop front ≡ false) × (is_target x ≡ true)
 
 -- The journal is finished: its last entry is `Finish`.
@@ -147,6 +165,8 @@ pub record IsLawful (p : Source) (limit : ℕ) (stop : Entry → Bool) (es : Lis
   pub events : List Event
   pub told : map entry_of events ≡ targets es
   pub run : AreRun p events
+  -- each thread's entries are those of a trace
+  pub parts : (t : ℕ) → HasPart p t (thread_at (replay (start p) events) t) (part_of t es)
   -- each entry stands rightly behind those before it
   pub stands : (front : List Entry) (x : Entry) (rest : List Entry) → es ≡ front ++ x ∷ rest
       → Stands p limit stop front (take (length (targets front)) events) x rest

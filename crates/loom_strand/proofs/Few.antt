@@ -15,7 +15,8 @@ use Rattle.loom_flow.specs.Flat.{Flat}
 use Rattle.loom_flow.specs.Code.{IsLowered}
 use Rattle.loom_flow.specs.Counted.{takes_right, takes_simple, takes_body}
 use Rattle.loom_flow.specs.Lowered.{operand_of, unless_there, variable_step, steps_to, operand_steps, argument_steps, call_steps, spawn_steps, store_step, value_steps, set_steps, simple_steps, instr, instrs, size, place_count, body_code, functions_code}
-use Rattle.loom_flow.proofs.Known.{first_of, second_of, few_in}
+use Rattle.loom_flow.proofs.Known.{few_in}
+use Rattle.loom_flow.proofs.Truths.{first_of, second_of}
 use Rattle.loom_flow.proofs.Counts.{function_takes}
 use Rattle.loom_strand.specs.Turned.{HasFewArguments}
 

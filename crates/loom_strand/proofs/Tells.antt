@@ -14,7 +14,7 @@ use Rattle.loom_flow.proofs.Running.{ever}
 use Rattle.loom_trace.specs.declared.request.Request.{Request}
 use Rattle.loom_trace.specs.declared.request.Request.TheVariants as r
 use Rattle.loom_strand.specs.Machine.{Progress, goes, asks, ends, nothing, either, in_array, returns, enters, progress, answered}
-use Rattle.loom_strand.specs.Asked.{granted, trapped}
+use Rattle.loom_law.specs.Asked.{granted, trapped}
 
 -- What comes of an instruction is among what it gives.
 abbrev pub Tells : Flat → Thread → Lists → (ℤ → State) → Progress → Type 0

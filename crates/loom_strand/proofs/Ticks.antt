@@ -6,21 +6,8 @@ use Rattle.loom_lang.specs.Trace.{Item, Act, made, begins, done, edge, enter, ou
 use Rattle.loom_trace.specs.declared.entry.Entry.{Entry}
 use Rattle.loom_trace.specs.declared.entry.Entry.TheVariants as e
 use Rattle.loom_law.specs.Event.{entry_by}
-use Rattle.loom_strand.specs.Part.{tick_after, IsPassed, AreTold}
-
--- how many places were passed, and one more
-abbrev pub passed_one : ℕ → ℕ
-passed_one n = if suc n == tick_after then 0 else suc n
-
--- behind items
-abbrev pub passed : ℕ → List Item → ℕ
-passed n [] = n
-passed n (made l a ∷ is) = passed 0 is
-passed n (enter f ∷ is) = passed (passed_one n) is
-passed n (edge l ∷ is) = passed (passed_one n) is
-passed n (begins l env ∷ is) = passed n is
-passed n (done l ∷ is) = passed n is
-passed n (out f ∷ is) = passed n is
+use Rattle.loom_law.specs.Part.{tick_after, IsPassed, AreTold}
+use Rattle.loom_strand.specs.Kept.{passed_one, passed}
 
 pub passed_append : (n : ℕ) (is js : List Item) → passed n (is ++ js) ≡ passed (passed n is) js
 passed_append n [] js = refl

@@ -1,5 +1,5 @@
 -- What a thread's machine holds, and how much it has room for.
-use Rattle.std.specs.Prelude.{Bool, true, false, slice_get, ℕ, List, ℤ, Option, Some, None, [], ◌∷◌}
+use Rattle.std.specs.Prelude.{Bool, true, false, slice_get, ℕ, List, ℤ, pos, replicate, Option, Some, None, [], ◌∷◌}
 use Rattle.loom_flow.specs.declared.code.Site.{Site}
 use Rattle.loom_flow.specs.declared.code.Entrance.{Entrance}
 use Rattle.loom_flow.specs.Flat.{Frame, State, frame_locals, resume}
@@ -27,6 +27,14 @@ pub record Held : Type 0 where
 -- the same room, with another state
 abbrev pub holding : Held → State → Held
 holding m z = record m { state = z }
+
+-- before the start
+abbrev pub blank : State
+blank = record { at = 0; values = []; func = 0; locals = replicate 32 (pos 0); below = [] }
+
+-- at the start of a thread's function
+abbrev pub at_start : ℕ → Entrance → List ℤ → State
+at_start f e vs = record { at = e.start; values = []; func = f; locals = frame_locals e vs; below = [] }
 
 -- in a new frame, called from this place
 abbrev pub inside : State → ℕ → ℕ → List ℤ → Entrance → State

@@ -1,5 +1,6 @@
 pub mod Machine
-pub mod Asked
-pub mod Part
 pub mod Held
 pub mod Turned
+pub mod Next
+pub mod Strand
+pub mod Kept

@@ -6,5 +6,6 @@ mod frame;
 mod machine;
 mod operate;
 mod progress;
+pub mod stage;
 mod turn;
 mod values;

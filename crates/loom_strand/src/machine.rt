@@ -3,7 +3,7 @@ ghost use Rattle.std.specs.Prelude.{slice_get, ◌≡◌, ◌<◌, ◌≤◌, �
 ghost use Rattle.loom_flow.specs.Flat.{State, operand, without, given, forward, jumped, arguments, without_arguments, frame_locals, resume};
 ghost use Rattle.loom_lang.specs.Values.{is_zero};
 ghost use Rattle.loom_flow.specs.Depth.{put};
-ghost use Rattle.loom_strand.specs.Held.{holding, inside, back, branched};
+ghost use Rattle.loom_strand.specs.Held.{holding, blank, at_start, inside, back, branched};
 
 use crate::frame::{Frame, Frames};
 use crate::values::Values;
@@ -16,7 +16,7 @@ use std::marker::Model;
 /// Where a thread is, with room for its values and its frames.
 #[derive(Debug, Drop)]
 pub(crate) struct Machine {
-    at: u32,
+    at: usize,
     values: Values,
     func: u8,
     locals: [i64; 32],
@@ -36,31 +36,34 @@ impl Model for Machine {
 }
 
 impl Machine {
-    /// At the start of a function, with room for so many values and frames. An `Err` is want of memory.
-    pub fn make(
-        alloc: Global,
-        func: u8,
-        entrance: Entrance,
-        args: Args,
-        values: usize,
-        frames: usize,
-    ) -> Result<Machine, NoMemory>
-        ensures { IfOk result (λ m. m ≡ record { state = record { at = entrance.start; values = []; func = func; locals = frame_locals entrance args; below = [] }; most_values = values; most_frames = frames }) }
+    /// With room for so many values and frames. An `Err` is want of memory.
+    pub fn make(alloc: Global, values: usize, frames: usize) -> Result<Machine, NoMemory>
+        ensures { IfOk result (λ m. m ≡ record { state = blank; most_values = values; most_frames = frames }) }
     {
         let values = Values::make(alloc, values)?;
         let below = Frames::make(alloc, frames)?;
-        let locals = first_locals(entrance, args);
         Ok(Machine {
-            at: entrance.start,
+            at: 0,
             values,
-            func,
-            locals,
+            func: 0,
+            locals: [0; 32],
             below,
         })
     }
 
+    /// To the start of a function. No frame waits, and there is no value.
+    pub fn begin(&mut self, func: u8, entrance: Entrance, args: Args)
+        requires { self.old.state ≡ blank }
+        ensures { self.new ≡ holding self.old (at_start func entrance args) }
+    {
+        let locals = first_locals(entrance, args);
+        self.at = entrance.start as usize;
+        self.func = func;
+        self.locals = locals;
+    }
+
     /// The number of the next instruction.
-    pub fn at(&self) -> u32
+    pub fn at(&self) -> usize
         ensures { result ≡ self.now.state.at }
     {
         self.at
@@ -123,7 +126,7 @@ impl Machine {
 
     /// To the next instruction.
     pub fn forward(&mut self)
-        requires { self.old.state.at < 4294967295 }
+        requires { self.old.state.at < 18446744073709551615 }
         ensures { self.new ≡ holding self.old (forward self.old.state) }
     {
         self.at += 1;
@@ -133,12 +136,12 @@ impl Machine {
     pub fn jump(&mut self, to: u32)
         ensures { self.new ≡ holding self.old (jumped self.old.state to) }
     {
-        self.at = to;
+        self.at = to as usize;
     }
 
     /// Leaves a value where it belongs, and goes to the next instruction.
     pub fn leave(&mut self, target: Target, v: i64)
-        requires before { self.old.state.at < 4294967295 }
+        requires before { self.old.state.at < 18446744073709551615 }
         requires room { length self.old.state.values + put target ≤ self.old.most_values }
         ensures { self.new ≡ holding self.old (forward (given self.old.state target v)) }
     {
@@ -149,7 +152,7 @@ impl Machine {
     /// The same where an operand is taken.
     #[tactic(auto, using(crate::proofs::Room::put_one, crate::proofs::Room::fewer))]
     pub fn replace(&mut self, a: Operand, target: Target, v: i64)
-        requires before { self.old.state.at < 4294967295 }
+        requires before { self.old.state.at < 18446744073709551615 }
         requires room { length self.old.state.values < self.old.most_values }
         ensures { self.new ≡ holding self.old (forward (given (without self.old.state a) target v)) }
     {
@@ -160,7 +163,7 @@ impl Machine {
     /// The same where two are, the second one first.
     #[tactic(auto, using(crate::proofs::Room::fewer))]
     pub fn replace_two(&mut self, a: Operand, b: Operand, target: Target, v: i64)
-        requires before { self.old.state.at < 4294967295 }
+        requires before { self.old.state.at < 18446744073709551615 }
         requires room { length self.old.state.values < self.old.most_values }
         ensures { self.new ≡ holding self.old (forward (given (without (without self.old.state b) a) target v)) }
     {
@@ -170,7 +173,7 @@ impl Machine {
 
     /// Takes off an operand, and goes to the next instruction.
     pub fn pass(&mut self, a: Operand)
-        requires { self.old.state.at < 4294967295 }
+        requires { self.old.state.at < 18446744073709551615 }
         ensures { self.new ≡ holding self.old (forward (without self.old.state a)) }
     {
         self.drop_operand(a);
@@ -179,7 +182,7 @@ impl Machine {
 
     /// Takes off an operand, and goes to an instruction if it is 0, or to the next one.
     pub fn branch(&mut self, a: Operand, to: u32)
-        requires { self.old.state.at < 4294967295 }
+        requires { self.old.state.at < 18446744073709551615 }
         ensures { self.new ≡ holding self.old (branched (is_zero (operand self.old.state a)) (jumped (without self.old.state a) to) (forward (without self.old.state a))) }
     {
         if self.operand(a) == 0 {
@@ -242,7 +245,7 @@ impl Machine {
             locals,
             site: place,
         });
-        self.at = entrance.start;
+        self.at = entrance.start as usize;
         self.func = func;
         let first = first_locals(entrance, args);
         self.locals = first;
@@ -270,11 +273,11 @@ impl Machine {
 
 // Where a frame goes on.
 #[tactic(auto, using(std::proofs::lemmas::Option::slice_get_cases))]
-fn resume_at(sites: &[Site], place: u16) -> u32
+fn resume_at(sites: &[Site], place: u16) -> usize
     ensures { result ≡ resume (slice_get sites.now place) }
 {
     match sites.get(place as usize) {
-        Some(site) => site.resume,
+        Some(site) => site.resume as usize,
         None => 0,
     }
 }

@@ -21,7 +21,7 @@ use loom_trace::request::Request;
 use loom_tree::expression::Op;
 
 fn apply(machine: &mut Machine, i: &Instr, op: Op, a: Operand, b: Operand, target: Target) -> Turn
-    requires before { machine.old.state.at < 4294967295 }
+    requires before { machine.old.state.at < 18446744073709551615 }
     requires room { length machine.old.state.values < machine.old.most_values }
     ensures { Comes i.now machine.old machine.new result (either (divides op && is_zero (operand machine.old.state b)) (asks (r.Trap i.now.line 1)) (goes [] (forward (given (without (without machine.old.state b) a) target (applied op (operand (without machine.old.state b) a) (operand machine.old.state b)))))) }
 {
@@ -78,7 +78,7 @@ fn end_frame(machine: &mut Machine, flow: &Flow, v: i64) -> Turn
 // An operand's value is left, by itself, negated or inverted.
 
 fn moved(machine: &mut Machine, a: Operand, target: Target) -> Turn
-    requires before { machine.old.state.at < 4294967295 }
+    requires before { machine.old.state.at < 18446744073709551615 }
     requires room { length machine.old.state.values < machine.old.most_values }
     ensures turn { result ≡ t.Went m.Silent }
     ensures state { machine.new ≡ holding machine.old (forward (given (without machine.old.state a) target (operand machine.old.state a))) }
@@ -88,7 +88,7 @@ fn moved(machine: &mut Machine, a: Operand, target: Target) -> Turn
 }
 
 fn negate(machine: &mut Machine, a: Operand, target: Target) -> Turn
-    requires before { machine.old.state.at < 4294967295 }
+    requires before { machine.old.state.at < 18446744073709551615 }
     requires room { length machine.old.state.values < machine.old.most_values }
     ensures turn { result ≡ t.Went m.Silent }
     ensures state { machine.new ≡ holding machine.old (forward (given (without machine.old.state a) target (negated (operand machine.old.state a)))) }
@@ -98,7 +98,7 @@ fn negate(machine: &mut Machine, a: Operand, target: Target) -> Turn
 }
 
 fn invert(machine: &mut Machine, a: Operand, target: Target) -> Turn
-    requires before { machine.old.state.at < 4294967295 }
+    requires before { machine.old.state.at < 18446744073709551615 }
     requires room { length machine.old.state.values < machine.old.most_values }
     ensures turn { result ≡ t.Went m.Silent }
     ensures state { machine.new ≡ holding machine.old (forward (given (without machine.old.state a) target (inverted (operand machine.old.state a)))) }
@@ -109,7 +109,7 @@ fn invert(machine: &mut Machine, a: Operand, target: Target) -> Turn
 
 // The next instruction.
 fn forward(machine: &mut Machine) -> Turn
-    requires { machine.old.state.at < 4294967295 }
+    requires { machine.old.state.at < 18446744073709551615 }
     ensures turn { result ≡ t.Went m.Silent }
     ensures state { machine.new ≡ holding machine.old (forward machine.old.state) }
 {
@@ -118,7 +118,7 @@ fn forward(machine: &mut Machine) -> Turn
 }
 
 fn discard(machine: &mut Machine) -> Turn
-    requires { machine.old.state.at < 4294967295 }
+    requires { machine.old.state.at < 18446744073709551615 }
     ensures turn { result ≡ t.Went m.Silent }
     ensures state { machine.new ≡ holding machine.old (forward (without machine.old.state o.Top)) }
 {
@@ -135,7 +135,7 @@ fn jump(machine: &mut Machine, to: u32, mark: Mark) -> Turn
 }
 
 fn branch(machine: &mut Machine, a: Operand, to: u32) -> Turn
-    requires { machine.old.state.at < 4294967295 }
+    requires { machine.old.state.at < 18446744073709551615 }
     ensures turn { result ≡ t.Went m.Silent }
     ensures state { machine.new ≡ holding machine.old (branched (is_zero (operand machine.old.state a)) (jumped (without machine.old.state a) to) (forward (without machine.old.state a))) }
 {
@@ -154,7 +154,7 @@ fn give_back(machine: &mut Machine, flow: &Flow, a: Operand) -> Turn
 }
 
 fn step(machine: &mut Machine, flow: &Flow, i: &Instr) -> Turn
-    requires before { machine.old.state.at < 4294967295 }
+    requires before { machine.old.state.at < 18446744073709551615 }
     requires room { length machine.old.state.values < machine.old.most_values }
     requires frames { 255 ≤ machine.old.most_frames }
     requires few { HasFewArguments i.now.step }
@@ -191,12 +191,11 @@ fn step(machine: &mut Machine, flow: &Flow, i: &Instr) -> Turn
 
 /// One instruction.
 pub(crate) fn advance(machine: &mut Machine, flow: &Flow) -> Turn
-    requires code { length flow.now.code < 4294967296 }
     requires room { length machine.old.state.values < machine.old.most_values }
     requires frames { 255 ≤ machine.old.most_frames }
     ensures { Advances flow.now machine.old machine.new result (slice_get flow.now.code machine.old.state.at) }
 {
-    match flow.code().get(machine.at() as usize) {
+    match flow.code().get(machine.at()) {
         Some(i) => step(machine, flow, i),
         None => Turn::Nothing,
     }
@@ -205,7 +204,7 @@ pub(crate) fn advance(machine: &mut Machine, flow: &Flow) -> Turn
 /// Behind the answer to what an instruction asked for, with the value that it gives.
 #[tactic(auto, using(crate::proofs::Room::put_one, crate::proofs::Room::fewer))]
 pub(crate) fn answer(machine: &mut Machine, step: Step, v: i64)
-    requires before { machine.old.state.at < 4294967295 }
+    requires before { machine.old.state.at < 18446744073709551615 }
     requires room { length machine.old.state.values < machine.old.most_values }
     ensures { machine.new ≡ holding machine.old (answered machine.old.state step v) }
 {

@@ -6,3 +6,6 @@ pub mod Locals
 pub mod Room
 pub mod Turns
 pub mod Few
+pub mod Falls
+mod Marks
+pub mod Gone

@@ -18,7 +18,7 @@ use Rattle.loom_strand.specs.declared.stage.Birth.{Birth}
 use Rattle.loom_strand.specs.declared.stage.Stage.{Stage}
 use Rattle.loom_strand.specs.declared.stage.Stage.TheVariants as stage
 use Rattle.loom_strand.specs.Machine.{asks, progress}
-use Rattle.loom_strand.specs.Held.{Held}
+use Rattle.loom_strand.specs.Held.{Held, blank}
 use Rattle.loom_strand.specs.Next.{IsEnded, has_none, has_ended}
 use Rattle.loom_strand.specs.Strand.{Strand}
 
@@ -125,7 +125,15 @@ IsAt stage.Stops s (Some b) = IsStopping s.program s.thread b s.entries s.wanted
 IsAt stage.Over s (Some b) = HasStopped s.program s.thread b s.entries s.wanted
 IsAt _ s None = ⊥
 
+-- The machine has its room as long as it is needed.
+abbrev pub KeepsRoom : Stage → Flat → Held → Type 0
+KeepsRoom stage.Waits c m = HasRoom c m × (m.state ≡ blank)
+KeepsRoom stage.Runs c m = HasRoom c m
+KeepsRoom _ c m = Unit {0}
+
 pub record IsKept (s : Strand) : Type 0 where
   pub lawful : IsLawful s.program
-  pub room : HasRoom (lowered s.program) s.inside.held
+  pub room : KeepsRoom s.inside.stage (lowered s.program) s.inside.held
+  -- no place more was passed than goes without a tick
+  pub few : s.inside.passed < tick_after
   pub stage : IsAt s.inside.stage s s.birth

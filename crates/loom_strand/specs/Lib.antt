@@ -4,3 +4,4 @@ pub mod Turned
 pub mod Next
 pub mod Strand
 pub mod Kept
+pub mod Ran

@@ -6,6 +6,7 @@ mod frame;
 mod machine;
 mod operate;
 mod progress;
+mod run;
 pub mod stage;
 mod turn;
 mod values;

@@ -38,7 +38,7 @@ fn apply(machine: &mut Machine, i: &Instr, op: Op, a: Operand, b: Operand, targe
 }
 
 #[tactic(auto, using(std::proofs::lemmas::Option::slice_get_cases))]
-fn entrance_of(flow: &Flow, func: u8) -> Option<Entrance>
+pub(crate) fn entrance_of(flow: &Flow, func: u8) -> Option<Entrance>
     ensures { result ≡ slice_get flow.now.entrances func }
 {
     flow.entrances().get(func as usize).copied()

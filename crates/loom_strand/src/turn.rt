@@ -20,3 +20,13 @@ pub(crate) enum Turn {
     /// There is no instruction.
     Nothing,
 }
+
+/// What a private run comes to.
+#[derive(Clone, Copy, Debug, Drop)]
+pub(crate) enum Stop {
+    Asks(Request),
+    /// This entry or back-edge place is the thousandth since the last entry.
+    Ticks(u16),
+    /// The last frame ended.
+    Ends,
+}

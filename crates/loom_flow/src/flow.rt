@@ -1,5 +1,6 @@
 //! The flat code of a program, with its program.
-ghost use Rattle.std.specs.Prelude.{ℕ, ◌≡◌, ◌↔◌, ◌<◌, Some, Contains, IsBitSet, length, option_map, slice_get};
+ghost use Rattle.std.specs.Prelude.{ℕ, ◌≡◌, ◌↔◌, ◌<◌, Some, Contains, IsBitSet, IfOk, length, option_map, slice_get};
+ghost use Rattle.std.specs.Arc.{arc_value};
 ghost use Rattle.loom_tree.specs.Tree.{Function};
 ghost use Rattle.loom_lang.specs.Places.{places, place_at, line_of_place};
 ghost use Rattle.loom_flow.specs.Code.{IsLowered};
@@ -7,12 +8,14 @@ ghost use Rattle.loom_flow.specs.Lowered.{calls_body};
 
 use crate::code::{Entrance, Instr, Site};
 use loom_lang::program::Program;
+use loom_tree::name::NoMemory;
 use std::marker::Model;
+use std::sync::Arc;
 
 /// Flat code, and the program that it stands for.
 #[derive(Debug, Drop)]
 pub struct Flow {
-    program: Program,
+    program: Arc<Program>,
     code: Vec<Instr>,
     sites: Vec<Site>,
     entrances: Vec<Entrance>,
@@ -20,6 +23,7 @@ pub struct Flow {
 }
 
 impl Model for Flow {
+    ghost use Rattle.std.specs.Arc.{arc_value};
     ghost use Rattle.loom_flow.specs.Flat.{Flat};
     ghost use Rattle.loom_flow.specs.Code.{flat_code, IsLowered};
 
@@ -27,21 +31,21 @@ impl Model for Flow {
 
     ghost coded = { flat_code };
 
-    ghost view = { λ c. record { program = c.program; code = c.code.items; sites = c.sites.items; entrances = c.entrances.items; calls = c.calls.items } };
+    ghost view = { λ c. record { program = arc_value c.program; code = c.code.items; sites = c.sites.items; entrances = c.entrances.items; calls = c.calls.items } };
 
-    ghost invariant = { λ c. IsLowered (record { program = c.program; code = c.code.items; sites = c.sites.items; entrances = c.entrances.items; calls = c.calls.items }) };
+    ghost invariant = { λ c. IsLowered (record { program = arc_value c.program; code = c.code.items; sites = c.sites.items; entrances = c.entrances.items; calls = c.calls.items }) };
 }
 
 impl Flow {
     pub(crate) fn new(
-        program: Program,
+        program: Arc<Program>,
         code: Vec<Instr>,
         sites: Vec<Site>,
         entrances: Vec<Entrance>,
         calls: Vec<u64>,
     ) -> Flow
-        requires { IsLowered (record { program = program; code = code.items; sites = sites.items; entrances = entrances.items; calls = calls.items }) }
-        ensures flat { result ≡ record { program = program; code = code.items; sites = sites.items; entrances = entrances.items; calls = calls.items } }
+        requires { IsLowered (record { program = arc_value program; code = code.items; sites = sites.items; entrances = entrances.items; calls = calls.items }) }
+        ensures flat { result ≡ record { program = arc_value program; code = code.items; sites = sites.items; entrances = entrances.items; calls = calls.items } }
         ensures lowered { IsLowered result }
     {
         Flow {
@@ -59,6 +63,14 @@ impl Flow {
         ensures lowered { IsLowered self.now }
     {
         &self.program
+    }
+
+    /// The program, shared. An `Err` is want of memory.
+    pub fn share(&self) -> Result<Arc<Program>, NoMemory>
+        ensures program { IfOk result (λ p. arc_value p ≡ self.now.program) }
+        ensures lowered { IsLowered self.now }
+    {
+        Ok(Arc::try_clone(&self.program)?)
     }
 
     /// The instructions, by their numbers.

@@ -1,12 +1,14 @@
 //! The flat code of a program, with its program.
-ghost use Rattle.std.specs.Prelude.{ℕ, ◌≡◌, ◌↔◌, ◌<◌, Some, Contains, IsBitSet, IfOk, length, option_map, slice_get};
+ghost use Rattle.std.specs.Prelude.{ℕ, ◌≡◌, ◌↔◌, ◌≤◌, ◌<◌, Some, Contains, IsBitSet, IfOk, length, option_map, slice_get};
 ghost use Rattle.std.specs.Arc.{arc_value};
 ghost use Rattle.loom_tree.specs.Tree.{Function};
 ghost use Rattle.loom_lang.specs.Places.{places, place_at, line_of_place};
 ghost use Rattle.loom_flow.specs.Code.{IsLowered};
 ghost use Rattle.loom_flow.specs.Lowered.{calls_body};
+ghost use Rattle.loom_flow.specs.Depth.{depth_before};
 
 use crate::code::{Entrance, Instr, Site};
+use crate::depth::most_before;
 use loom_lang::program::Program;
 use loom_tree::name::NoMemory;
 use std::marker::Model;
@@ -130,5 +132,12 @@ impl Flow {
         ensures { (f : Function) (g : ℕ) → slice_get self.now.program.funcs func ≡ Some f → IsBitSet result g ↔ Contains (calls_body self.now.program f.body) g }
     {
         self.calls()[func as usize]
+    }
+
+    /// How many values wait at most before an instruction.
+    pub fn most_values(&self) -> usize
+        ensures { (at d : ℕ) → at < length self.now.code → depth_before self.now at ≡ Some d → d ≤ result }
+    {
+        most_before(self.code())
     }
 }

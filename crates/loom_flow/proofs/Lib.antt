@@ -3,6 +3,7 @@ mod Balanced
 pub mod Bodies
 pub mod CallSets
 pub mod Counts
+mod Deepest
 pub mod Depths
 mod Each
 mod EachSimple

@@ -1,18 +1,23 @@
 //! The flat code of a program, with its program.
-ghost use Rattle.std.specs.Prelude.{ℕ, ◌≡◌, ◌↔◌, ◌<◌, Some, Contains, IsBitSet, length, option_map, slice_get};
+ghost use Rattle.std.specs.Prelude.{ℕ, ◌≡◌, ◌↔◌, ◌≤◌, ◌<◌, Some, Contains, IsBitSet, IfOk, length, option_map, slice_get};
+ghost use Rattle.std.specs.Arc.{arc_value};
 ghost use Rattle.loom_tree.specs.Tree.{Function};
 ghost use Rattle.loom_lang.specs.Places.{places, place_at, line_of_place};
 ghost use Rattle.loom_flow.specs.Code.{IsLowered};
 ghost use Rattle.loom_flow.specs.Lowered.{calls_body};
+ghost use Rattle.loom_flow.specs.Depth.{depth_before};
 
 use crate::code::{Entrance, Instr, Site};
+use crate::depth::most_before;
 use loom_lang::program::Program;
+use loom_tree::name::NoMemory;
 use std::marker::Model;
+use std::sync::Arc;
 
 /// Flat code, and the program that it stands for.
 #[derive(Debug, Drop)]
 pub struct Flow {
-    program: Program,
+    program: Arc<Program>,
     code: Vec<Instr>,
     sites: Vec<Site>,
     entrances: Vec<Entrance>,
@@ -20,6 +25,7 @@ pub struct Flow {
 }
 
 impl Model for Flow {
+    ghost use Rattle.std.specs.Arc.{arc_value};
     ghost use Rattle.loom_flow.specs.Flat.{Flat};
     ghost use Rattle.loom_flow.specs.Code.{flat_code, IsLowered};
 
@@ -27,21 +33,21 @@ impl Model for Flow {
 
     ghost coded = { flat_code };
 
-    ghost view = { λ c. record { program = c.program; code = c.code.items; sites = c.sites.items; entrances = c.entrances.items; calls = c.calls.items } };
+    ghost view = { λ c. record { program = arc_value c.program; code = c.code.items; sites = c.sites.items; entrances = c.entrances.items; calls = c.calls.items } };
 
-    ghost invariant = { λ c. IsLowered (record { program = c.program; code = c.code.items; sites = c.sites.items; entrances = c.entrances.items; calls = c.calls.items }) };
+    ghost invariant = { λ c. IsLowered (record { program = arc_value c.program; code = c.code.items; sites = c.sites.items; entrances = c.entrances.items; calls = c.calls.items }) };
 }
 
 impl Flow {
     pub(crate) fn new(
-        program: Program,
+        program: Arc<Program>,
         code: Vec<Instr>,
         sites: Vec<Site>,
         entrances: Vec<Entrance>,
         calls: Vec<u64>,
     ) -> Flow
-        requires { IsLowered (record { program = program; code = code.items; sites = sites.items; entrances = entrances.items; calls = calls.items }) }
-        ensures flat { result ≡ record { program = program; code = code.items; sites = sites.items; entrances = entrances.items; calls = calls.items } }
+        requires { IsLowered (record { program = arc_value program; code = code.items; sites = sites.items; entrances = entrances.items; calls = calls.items }) }
+        ensures flat { result ≡ record { program = arc_value program; code = code.items; sites = sites.items; entrances = entrances.items; calls = calls.items } }
         ensures lowered { IsLowered result }
     {
         Flow {
@@ -59,6 +65,14 @@ impl Flow {
         ensures lowered { IsLowered self.now }
     {
         &self.program
+    }
+
+    /// The program, shared. An `Err` is want of memory.
+    pub fn share(&self) -> Result<Arc<Program>, NoMemory>
+        ensures program { IfOk result (λ p. arc_value p ≡ self.now.program) }
+        ensures lowered { IsLowered self.now }
+    {
+        Ok(Arc::try_clone(&self.program)?)
     }
 
     /// The instructions, by their numbers.
@@ -118,5 +132,12 @@ impl Flow {
         ensures { (f : Function) (g : ℕ) → slice_get self.now.program.funcs func ≡ Some f → IsBitSet result g ↔ Contains (calls_body self.now.program f.body) g }
     {
         self.calls()[func as usize]
+    }
+
+    /// How many values wait at most before an instruction.
+    pub fn most_values(&self) -> usize
+        ensures { (at d : ℕ) → at < length self.now.code → depth_before self.now at ≡ Some d → d ≤ result }
+    {
+        most_before(self.code())
     }
 }

@@ -6,6 +6,7 @@
 mod block;
 mod calls;
 pub mod code;
+mod depth;
 mod expression;
 pub mod flow;
 pub mod laws;

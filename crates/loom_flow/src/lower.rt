@@ -17,6 +17,7 @@ use loom_lang::program::Program;
 use loom_tree::name::NoMemory;
 use loom_tree::statement::{Func, Names};
 use std::alloc::Global;
+use std::sync::Arc;
 
 /// Where the function stands that is put next.
 fn entrance(code: &[Instr], sites: &[Site], f: &Func) -> Result<Entrance, NoMemory>
@@ -120,5 +121,6 @@ pub fn lower(alloc: Global, p: &Program) -> Result<Flow, NoMemory>
         entrances,
         calls,
     } = put_all(alloc, &mut scope, &p.funcs().0)?;
-    Ok(Flow::new(scope.program, code, sites, entrances, calls))
+    let program = Arc::new(alloc, scope.program)?;
+    Ok(Flow::new(program, code, sites, entrances, calls))
 }

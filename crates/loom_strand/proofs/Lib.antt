@@ -6,3 +6,5 @@ pub mod Locals
 pub mod Room
 pub mod Turns
 pub mod Few
+mod Small
+mod Sound

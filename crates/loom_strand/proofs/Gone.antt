@@ -81,7 +81,7 @@ carried c a b d before mark w h = λ f vs items g.
 
 moved_sound : (c : Flat) (b d : Held) (mark : Mark) → IsLowered c → Moved c b d mark → IsSound c b.state → IsSound c d.state
 moved_sound c b d mark l w h =
-    subst (λ (x : Held). IsSound c x.state) (sym w.is) (sound_goes c l b.state w.behind w.instruction w.marks w.there w.goes h)
+    subst (λ (x : Held). IsSound c x.state) (sym w.is) (sound_goes c b.state w.behind w.instruction w.marks l w.there w.goes h)
 
 moved_room : (c : Flat) (b d : Held) (mark : Mark) → Moved c b d mark → HasRoom c b → HasRoom c d
 moved_room c b d mark w h = subst (HasRoom c) (sym w.is) (record { values = h.values; frames = h.frames })
@@ -235,7 +235,7 @@ came_nothing : (c : Flat) (a b : Held) (i : Instr) → IsLowered c → IsSound c
 came_nothing c a b i l s e (goes marks z) p h = let no : t.Nothing ≡ t.Went (mark_of i marks) = h.0 in cc
 came_nothing c a b i l s e (asks r) p h = let no : t.Nothing ≡ t.Asks r = h.0 in cc
 came_nothing c a b i l s e (ends marks) p h = let no : t.Nothing ≡ t.Ends = h in cc
-came_nothing c a b i l s e nothing p h = never_nothing c l a.state i e s p
+came_nothing c a b i l s e nothing p h = never_nothing c a.state i l e s p
 
 pub gone_to_nothing : (c : Flat) (a b : Held) → IsLowered c → IsSound c a.state → (o : Option Instr) → slice_get c.code a.state.at ≡ o → Advances c a b t.Nothing o → ⊥
 gone_to_nothing c a b l s None e x = always_there c a.state s e

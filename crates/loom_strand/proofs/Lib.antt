@@ -6,6 +6,8 @@ pub mod Locals
 pub mod Room
 pub mod Turns
 pub mod Few
+mod Small
+mod Sound
 pub mod Falls
 mod Marks
 pub mod Gone

@@ -1,0 +1,152 @@
+-- Each turn of a run keeps what is known of it.
+use Rattle.std.proofs.Common.{ℕ, zero, suc, ◌<◌, ◌≤◌, ◌≡◌, ◌==◌, ◌⊎◌, inl, inr, ℤ, pos, Bool, true, false, not, ◌&&◌, List, [], ◌∷◌, ◌++◌, length, slice_get, slice_set, Option, Some, None, refl, sym, ap, subst, ◌∙◌, append_assoc, append-nil, arith}
+use Rattle.std.specs.Prelude.{is_some, slice_index_or}
+use Rattle.std.proofs.lemmas.Bool.{and_parts}
+use Rattle.std.proofs.lemmas.List.{length-set}
+use Rattle.std.proofs.lemmas.Option.{slice_get-get_or}
+use Rattle.loom_tree.specs.Tree.{Source}
+use Rattle.loom_lang.specs.Rules.{cell_count}
+use Rattle.loom_lang.specs.Trace.{Act, division, index, frames, begin, end, trap, read, write, print}
+use Rattle.loom_flow.specs.declared.code.Step.{Step}
+use Rattle.loom_flow.specs.declared.code.Step.TheVariants as s
+use Rattle.loom_flow.specs.declared.code.Instr.{Instr}
+use Rattle.loom_flow.specs.Lowered.{lowered}
+use Rattle.loom_trace.specs.declared.entry.Entry.{Entry}
+use Rattle.loom_trace.specs.declared.entry.Entry.TheVariants as e
+use Rattle.loom_trace.specs.declared.request.Request.{Request}
+use Rattle.loom_trace.specs.declared.request.Request.TheVariants as r
+use Rattle.loom_law.specs.Event.{Event}
+use Rattle.loom_law.specs.Replay.{Spawned, Store, start, thread_at, IsRunning, IsAllowed, IsAllowedAct, MayDo, after, after_act, replay, AreAllowed}
+use Rattle.loom_law.specs.Asked.{IsAnswerTo, HasNumbers}
+use Rattle.loom_strand.specs.Next.{IsAskedIn, is_begin, is_end, has_none, has_ended}
+use Rattle.loom_top.specs.Built.{runs_alone, all_alone, is_nil, is_built}
+use Rattle.loom_top.specs.Turn.{answer_to, words_behind}
+use Rattle.loom_top.specs.Driven.{event, events_in, events_of, is_own, all_own, alone, IsDriven}
+
+-- One entry more
+
+own_append : (es : List Entry) (x : Entry) → all_own es ≡ true → is_own x ≡ true → all_own (es ++ x ∷ []) ≡ true
+own_append [] x h o = rw o refl
+own_append (y ∷ es) x h o = let parts = and_parts (is_own y) (all_own es) h in rw parts.0 (own_append es x parts.1 o)
+
+events_append : (es : List Entry) (x : Entry) → events_of (es ++ x ∷ []) ≡ events_of es ++ events_in x
+events_append [] x = append-nil (events_in x)
+events_append (y ∷ es) x = ap (λ z. events_in y ++ z) (events_append es x) ∙ sym (append_assoc (events_in y) (events_of es) (events_in x))
+
+some_more : (es : List Entry) (x : Entry) → has_none (es ++ x ∷ []) ≡ false
+some_more [] x = refl
+some_more (y ∷ es) x = refl
+
+ended_last : (es : List Entry) (x : Entry) → has_ended (es ++ x ∷ []) ≡ is_end x
+ended_last [] x = refl
+ended_last (y ∷ []) x = refl
+ended_last (y ∷ z ∷ es) x = ended_last (z ∷ es) x
+
+-- One event more
+
+allowed_more : (s : Store) (xs ys : List Event) → AreAllowed s xs → AreAllowed (replay s xs) ys → AreAllowed s (xs ++ ys)
+allowed_more s [] ys h g = g
+allowed_more s (x ∷ xs) ys h g = (h.0, allowed_more (after s x) xs ys h.1 g)
+
+replay_more : (s : Store) (xs ys : List Event) → replay s (xs ++ ys) ≡ replay (replay s xs) ys
+replay_more s [] ys = refl
+replay_more s (x ∷ xs) ys = replay_more (after s x) xs ys
+
+-- Thread 1 goes on by an entry that tells these events; `begun` says whether it made one before.
+goes_on : (p : Source) (f : ℕ) (es : List Entry) (vs us : List ℤ) (x : Entry) (begun : Bool) → IsDriven p f es vs → is_own x ≡ true → length us ≡ length vs
+    → has_none es ≡ not begun → has_ended es ≡ false → AreAllowed (alone p f vs begun false) (events_in x)
+    → replay (alone p f vs begun false) (events_in x) ≡ alone p f us true (is_end x) → IsDriven p f (es ++ x ∷ []) us
+goes_on p f es vs us x begun d own cells none lives allowed leads =
+    let before : replay (start p) (events_of es) ≡ alone p f vs begun false = d.store ∙ rw (none, lives) (twice begun) in
+    let P : List Event → Type 0 = λ z. AreAllowed (start p) z in
+    let Q : Store → Type 0 = λ z. AreAllowed z (events_in x) in
+    record {
+      own = own_append es x d.own own;
+      allowed = subst P (sym (events_append es x)) (allowed_more (start p) (events_of es) (events_in x) d.allowed (subst Q (sym before) allowed));
+      store =
+          ap (replay (start p)) (events_append es x) ∙ replay_more (start p) (events_of es) (events_in x)
+          ∙ ap (λ z. replay z (events_in x)) before ∙ leads ∙ rw (some_more es x, ended_last es x) refl;
+      cells = cells ∙ d.cells;
+    }
+  where
+    twice : (b : Bool) → alone p f vs (not (not b)) false ≡ alone p f vs b false
+    twice true = refl
+    twice false = refl
+
+running : (p : Source) (f : ℕ) (vs : List ℤ) → IsRunning (alone p f vs true false) 1
+running p f vs = record { state = record { func = f; args = []; begun = true; ended = false }; is = refl; begun = refl; not_ended = refl }
+
+-- Requests that don't come
+
+not_alone : (is : List Instr) (at : ℕ) (i : Instr) → all_alone is ≡ true → slice_get is at ≡ Some i → runs_alone i.step ≡ true
+not_alone [] at i a h = cc
+not_alone (j ∷ is) zero i a h = let same : j ≡ i = cc in ap (λ (z : Instr). runs_alone z.step) (sym same) ∙ (and_parts (runs_alone j.step) (all_alone is) a).0
+not_alone (j ∷ is) (suc at) i a h = not_alone is at i (and_parts (runs_alone j.step) (all_alone is) a).1 h
+
+no_spawn : (p : Source) (l f : ℕ) (vs : List ℤ) → all_alone (lowered p).code ≡ true → IsAskedIn (lowered p) (r.Spawn l f vs) → ⊥
+no_spawn p l f vs a h =
+    let all : runs_alone h.1.step ≡ true = not_alone (lowered p).code h.0 h.1 a h.2 in
+    let one : runs_alone h.1.step ≡ false = ap runs_alone h.5 in
+    cc
+
+no_join : (p : Source) (l : ℕ) (v : ℤ) → all_alone (lowered p).code ≡ true → IsAskedIn (lowered p) (r.Join l v) → ⊥
+no_join p l v a h =
+    let all : runs_alone h.1.step ≡ true = not_alone (lowered p).code h.0 h.1 a h.2 in
+    let one : runs_alone h.1.step ≡ false = ap runs_alone h.4 in
+    cc
+
+nothing_in : {A : Type 0} (xs : List A) (n : ℕ) → is_nil xs ≡ true → n < length xs → ⊥
+nothing_in [] n e h = omega (arith, h)
+nothing_in (x ∷ xs) n e h = cc
+
+-- A turn
+
+trap_goes : (p : Source) (f : ℕ) (es : List Entry) (vs : List ℤ) (l n : ℕ) → IsDriven p f es vs → HasNumbers p (r.Trap l n) → has_none es ≡ false → has_ended es ≡ false
+    → IsDriven p f (es ++ e.Trap 1 l n ∷ []) vs
+trap_goes p f es vs l n d (inl h) none lives =
+    subst (λ (z : ℕ). IsDriven p f (es ++ e.Trap 1 l z ∷ []) vs) (sym h) (goes_on p f es vs vs (e.Trap 1 l 1) true d refl refl none lives ((running p f vs, tt), tt) refl)
+trap_goes p f es vs l n d (inr (inl h)) none lives =
+    subst (λ (z : ℕ). IsDriven p f (es ++ e.Trap 1 l z ∷ []) vs) (sym h) (goes_on p f es vs vs (e.Trap 1 l 2) true d refl refl none lives ((running p f vs, tt), tt) refl)
+trap_goes p f es vs l n d (inr (inr h)) none lives =
+    subst (λ (z : ℕ). IsDriven p f (es ++ e.Trap 1 l z ∷ []) vs) (sym h) (goes_on p f es vs vs (e.Trap 1 l 6) true d refl refl none lives ((running p f vs, tt), tt) refl)
+
+pub turn_driven : (p : Source) (f : ℕ) (es : List Entry) (vs : List ℤ) (q : Request) → is_built p ≡ true → IsDriven p f es vs → HasNumbers p q → IsAskedIn (lowered p) q
+    → is_begin q ≡ has_none es → has_ended es ≡ false → IsDriven p f (es ++ answer_to vs q ∷ []) (words_behind vs q)
+turn_driven p f es vs (r.Begin l) b d n a begins lives =
+    goes_on p f es vs vs (e.Begin 1 l) false d refl refl (sym begins) lives
+    (record { state = record { func = f; args = []; begun = false; ended = false }; is = refl; not_begun = refl }, tt) refl
+turn_driven p f es vs (r.End l) b d n a begins lives = goes_on p f es vs vs (e.End 1 l) true d refl refl (sym begins) lives ((running p f vs, tt), tt) refl
+turn_driven p f es vs (r.Trap l k) b d n a begins lives = trap_goes p f es vs l k d n (sym begins) lives
+turn_driven p f es vs (r.Read l w) b d n a begins lives =
+    goes_on p f es vs vs (e.Read 1 l w (slice_index_or vs w (pos 0))) true d refl refl (sym begins) lives
+    ((running p f vs, slice_get-get_or vs w (pos 0) (omega (arith, n, d.cells))), tt) refl
+turn_driven p f es vs (r.Write l w v) b d n a begins lives =
+    goes_on p f es vs (slice_set vs w v) (e.Write 1 l w v) true d refl (length-set vs w v) (sym begins) lives ((running p f vs, tt), tt) refl
+turn_driven p f es vs (r.Lock l m) b d n a begins lives = absurd (nothing_in p.mutexes m (and_parts (is_nil p.mutexes) _ b).0 n)
+turn_driven p f es vs (r.Unlock l m) b d n a begins lives = absurd (nothing_in p.mutexes m (and_parts (is_nil p.mutexes) _ b).0 n)
+turn_driven p f es vs (r.Down l x) b d n a begins lives = absurd (nothing_in p.semas x (and_parts (is_nil p.semas) _ (and_parts (is_nil p.mutexes) _ b).1).0 n)
+turn_driven p f es vs (r.Up l x) b d n a begins lives = absurd (nothing_in p.semas x (and_parts (is_nil p.semas) _ (and_parts (is_nil p.mutexes) _ b).1).0 n)
+turn_driven p f es vs (r.Spawn l g us) b d n a begins lives =
+    absurd (no_spawn p l g us (and_parts (is_nil p.semas) (all_alone (lowered p).code) (and_parts (is_nil p.mutexes) _ b).1).1 a)
+turn_driven p f es vs (r.Join l u) b d n a begins lives =
+    absurd (no_join p l u (and_parts (is_nil p.semas) (all_alone (lowered p).code) (and_parts (is_nil p.mutexes) _ b).1).1 a)
+turn_driven p f es vs (r.Print l u) b d n a begins lives = goes_on p f es vs vs (e.Print 1 l u) true d refl refl (sym begins) lives ((running p f vs, tt), tt) refl
+turn_driven p f es vs (r.Tick l k) b d n a begins lives = goes_on p f es vs vs (e.Tick 1 l k) true d refl refl (sym begins) lives tt refl
+
+-- The entry answers the request.
+pub answers : (p : Source) (vs : List ℤ) (q : Request) → HasNumbers p q → IsAnswerTo 1 q (answer_to vs q)
+answers p vs (r.Begin l) n = inl (pos 0, refl)
+answers p vs (r.End l) n = inl (pos 0, refl)
+answers p vs (r.Trap l k) (inl h) = subst (λ (z : ℕ). IsAnswerTo 1 (r.Trap l z) (e.Trap 1 l z)) (sym h) (inr refl)
+answers p vs (r.Trap l k) (inr (inl h)) = subst (λ (z : ℕ). IsAnswerTo 1 (r.Trap l z) (e.Trap 1 l z)) (sym h) (inr refl)
+answers p vs (r.Trap l k) (inr (inr h)) = subst (λ (z : ℕ). IsAnswerTo 1 (r.Trap l z) (e.Trap 1 l z)) (sym h) (inr refl)
+answers p vs (r.Read l w) n = inl (slice_index_or vs w (pos 0), refl)
+answers p vs (r.Write l w v) n = inl (pos 0, refl)
+answers p vs (r.Lock l m) n = inl (pos 0, refl)
+answers p vs (r.Unlock l m) n = inl (pos 0, refl)
+answers p vs (r.Down l x) n = inl (pos 0, refl)
+answers p vs (r.Up l x) n = inl (pos 0, refl)
+answers p vs (r.Spawn l g us) n = inr refl
+answers p vs (r.Join l u) n = inr refl
+answers p vs (r.Print l u) n = inl (pos 0, refl)
+answers p vs (r.Tick l k) n = refl

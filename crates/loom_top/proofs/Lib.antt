@@ -1,9 +1,8 @@
-pub mod Facts
-pub mod Traced
-pub mod Replayed
-pub mod Whole
-pub mod Coded
-pub mod Few
+pub mod Own
+pub mod Turns
+pub mod Finished
+pub mod Begun
+pub mod UnderWay
 pub mod Words
 pub mod Written
 pub mod Top

@@ -20,7 +20,7 @@ use Rattle.loom_law.specs.Replay.{Spawned, Store, start, thread_at, IsRunning, I
 use Rattle.loom_law.specs.Asked.{IsAnswerTo, HasNumbers}
 use Rattle.loom_strand.specs.Next.{IsAskedIn, is_begin, is_end, has_none, has_ended}
 use Rattle.loom_top.specs.Built.{runs_alone, all_alone, is_nil, is_built}
-use Rattle.loom_top.specs.Turn.{answer_to, words_behind}
+use Rattle.loom_top.specs.Turn.{AsksAlone, IsGranted}
 use Rattle.loom_top.specs.Driven.{event, events_in, events_of, is_own, all_own, alone, IsDriven}
 
 -- One entry more
@@ -99,6 +99,22 @@ nothing_in : {A : Type 0} (xs : List A) (n : ℕ) → is_nil xs ≡ true → n <
 nothing_in [] n e h = omega (arith, h)
 nothing_in (x ∷ xs) n e h = cc
 
+-- Nothing else is asked for.
+pub asks_alone : (p : Source) (q : Request) → is_built p ≡ true → HasNumbers p q → IsAskedIn (lowered p) q → AsksAlone (cell_count p.words) q
+asks_alone p (r.Begin l) b n a = tt
+asks_alone p (r.End l) b n a = tt
+asks_alone p (r.Trap l k) b n a = tt
+asks_alone p (r.Read l w) b n a = n
+asks_alone p (r.Write l w v) b n a = n
+asks_alone p (r.Lock l m) b n a = nothing_in p.mutexes m (and_parts (is_nil p.mutexes) _ b).0 n
+asks_alone p (r.Unlock l m) b n a = nothing_in p.mutexes m (and_parts (is_nil p.mutexes) _ b).0 n
+asks_alone p (r.Down l x) b n a = nothing_in p.semas x (and_parts (is_nil p.semas) _ (and_parts (is_nil p.mutexes) _ b).1).0 n
+asks_alone p (r.Up l x) b n a = nothing_in p.semas x (and_parts (is_nil p.semas) _ (and_parts (is_nil p.mutexes) _ b).1).0 n
+asks_alone p (r.Spawn l g us) b n a = no_spawn p l g us (and_parts (is_nil p.semas) (all_alone (lowered p).code) (and_parts (is_nil p.mutexes) _ b).1).1 a
+asks_alone p (r.Join l u) b n a = no_join p l u (and_parts (is_nil p.semas) (all_alone (lowered p).code) (and_parts (is_nil p.mutexes) _ b).1).1 a
+asks_alone p (r.Print l u) b n a = tt
+asks_alone p (r.Tick l k) b n a = tt
+
 -- A turn
 
 trap_goes : (p : Source) (f : ℕ) (es : List Entry) (vs : List ℤ) (l n : ℕ) → IsDriven p f es vs → HasNumbers p (r.Trap l n) → has_none es ≡ false → has_ended es ≡ false
@@ -110,43 +126,50 @@ trap_goes p f es vs l n d (inr (inl h)) none lives =
 trap_goes p f es vs l n d (inr (inr h)) none lives =
     subst (λ (z : ℕ). IsDriven p f (es ++ e.Trap 1 l z ∷ []) vs) (sym h) (goes_on p f es vs vs (e.Trap 1 l 6) true d refl refl none lives ((running p f vs, tt), tt) refl)
 
-pub turn_driven : (p : Source) (f : ℕ) (es : List Entry) (vs : List ℤ) (q : Request) → is_built p ≡ true → IsDriven p f es vs → HasNumbers p q → IsAskedIn (lowered p) q
-    → is_begin q ≡ has_none es → has_ended es ≡ false → IsDriven p f (es ++ answer_to vs q ∷ []) (words_behind vs q)
-turn_driven p f es vs (r.Begin l) b d n a begins lives =
-    goes_on p f es vs vs (e.Begin 1 l) false d refl refl (sym begins) lives
-    (record { state = record { func = f; args = []; begun = false; ended = false }; is = refl; not_begun = refl }, tt) refl
-turn_driven p f es vs (r.End l) b d n a begins lives = goes_on p f es vs vs (e.End 1 l) true d refl refl (sym begins) lives ((running p f vs, tt), tt) refl
-turn_driven p f es vs (r.Trap l k) b d n a begins lives = trap_goes p f es vs l k d n (sym begins) lives
-turn_driven p f es vs (r.Read l w) b d n a begins lives =
-    goes_on p f es vs vs (e.Read 1 l w (slice_index_or vs w (pos 0))) true d refl refl (sym begins) lives
-    ((running p f vs, slice_get-get_or vs w (pos 0) (omega (arith, n, d.cells))), tt) refl
-turn_driven p f es vs (r.Write l w v) b d n a begins lives =
-    goes_on p f es vs (slice_set vs w v) (e.Write 1 l w v) true d refl (length-set vs w v) (sym begins) lives ((running p f vs, tt), tt) refl
-turn_driven p f es vs (r.Lock l m) b d n a begins lives = absurd (nothing_in p.mutexes m (and_parts (is_nil p.mutexes) _ b).0 n)
-turn_driven p f es vs (r.Unlock l m) b d n a begins lives = absurd (nothing_in p.mutexes m (and_parts (is_nil p.mutexes) _ b).0 n)
-turn_driven p f es vs (r.Down l x) b d n a begins lives = absurd (nothing_in p.semas x (and_parts (is_nil p.semas) _ (and_parts (is_nil p.mutexes) _ b).1).0 n)
-turn_driven p f es vs (r.Up l x) b d n a begins lives = absurd (nothing_in p.semas x (and_parts (is_nil p.semas) _ (and_parts (is_nil p.mutexes) _ b).1).0 n)
-turn_driven p f es vs (r.Spawn l g us) b d n a begins lives =
-    absurd (no_spawn p l g us (and_parts (is_nil p.semas) (all_alone (lowered p).code) (and_parts (is_nil p.mutexes) _ b).1).1 a)
-turn_driven p f es vs (r.Join l u) b d n a begins lives =
-    absurd (no_join p l u (and_parts (is_nil p.semas) (all_alone (lowered p).code) (and_parts (is_nil p.mutexes) _ b).1).1 a)
-turn_driven p f es vs (r.Print l u) b d n a begins lives = goes_on p f es vs vs (e.Print 1 l u) true d refl refl (sym begins) lives ((running p f vs, tt), tt) refl
-turn_driven p f es vs (r.Tick l k) b d n a begins lives = goes_on p f es vs vs (e.Tick 1 l k) true d refl refl (sym begins) lives tt refl
+same_driven : (p : Source) (f : ℕ) (es : List Entry) (vs us : List ℤ) (x y : Entry) → x ≡ y → us ≡ vs → IsDriven p f (es ++ y ∷ []) vs → IsDriven p f (es ++ x ∷ []) us
+same_driven p f es vs us x y one all h = rw (one, all) h
+
+pub turn_driven : (p : Source) (f : ℕ) (es : List Entry) (vs us : List ℤ) (q : Request) (x : Entry) → IsDriven p f es vs → HasNumbers p q
+    → is_begin q ≡ has_none es → has_ended es ≡ false → IsGranted vs us q x → IsDriven p f (es ++ x ∷ []) us
+turn_driven p f es vs us (r.Begin l) x d n begins lives g =
+    same_driven p f es vs us x _ g.0 g.1 (goes_on p f es vs vs (e.Begin 1 l) false d refl refl (sym begins) lives
+    (record { state = record { func = f; args = []; begun = false; ended = false }; is = refl; not_begun = refl }, tt) refl)
+turn_driven p f es vs us (r.End l) x d n begins lives g =
+    same_driven p f es vs us x _ g.0 g.1 (goes_on p f es vs vs (e.End 1 l) true d refl refl (sym begins) lives ((running p f vs, tt), tt) refl)
+turn_driven p f es vs us (r.Trap l k) x d n begins lives g = same_driven p f es vs us x _ g.0 g.1 (trap_goes p f es vs l k d n (sym begins) lives)
+turn_driven p f es vs us (r.Read l w) x d n begins lives g =
+    same_driven p f es vs us x _ g.2 g.3 (goes_on p f es vs vs (e.Read 1 l w g.0) true d refl refl (sym begins) lives ((running p f vs, g.1), tt) refl)
+turn_driven p f es vs us (r.Write l w v) x d n begins lives g =
+    same_driven p f es (slice_set vs w v) us x _ g.0 g.1
+    (goes_on p f es vs (slice_set vs w v) (e.Write 1 l w v) true d refl (length-set vs w v) (sym begins) lives ((running p f vs, tt), tt) refl)
+turn_driven p f es vs us (r.Lock l m) x d n begins lives g = absurd g
+turn_driven p f es vs us (r.Unlock l m) x d n begins lives g = absurd g
+turn_driven p f es vs us (r.Down l m) x d n begins lives g = absurd g
+turn_driven p f es vs us (r.Up l m) x d n begins lives g = absurd g
+turn_driven p f es vs us (r.Spawn l m ws) x d n begins lives g = absurd g
+turn_driven p f es vs us (r.Join l u) x d n begins lives g = absurd g
+turn_driven p f es vs us (r.Print l u) x d n begins lives g =
+    same_driven p f es vs us x _ g.0 g.1 (goes_on p f es vs vs (e.Print 1 l u) true d refl refl (sym begins) lives ((running p f vs, tt), tt) refl)
+turn_driven p f es vs us (r.Tick l k) x d n begins lives g =
+    same_driven p f es vs us x _ g.0 g.1 (goes_on p f es vs vs (e.Tick 1 l k) true d refl refl (sym begins) lives tt refl)
 
 -- The entry answers the request.
-pub answers : (p : Source) (vs : List ℤ) (q : Request) → HasNumbers p q → IsAnswerTo 1 q (answer_to vs q)
-answers p vs (r.Begin l) n = inl (pos 0, refl)
-answers p vs (r.End l) n = inl (pos 0, refl)
-answers p vs (r.Trap l k) (inl h) = subst (λ (z : ℕ). IsAnswerTo 1 (r.Trap l z) (e.Trap 1 l z)) (sym h) (inr refl)
-answers p vs (r.Trap l k) (inr (inl h)) = subst (λ (z : ℕ). IsAnswerTo 1 (r.Trap l z) (e.Trap 1 l z)) (sym h) (inr refl)
-answers p vs (r.Trap l k) (inr (inr h)) = subst (λ (z : ℕ). IsAnswerTo 1 (r.Trap l z) (e.Trap 1 l z)) (sym h) (inr refl)
-answers p vs (r.Read l w) n = inl (slice_index_or vs w (pos 0), refl)
-answers p vs (r.Write l w v) n = inl (pos 0, refl)
-answers p vs (r.Lock l m) n = inl (pos 0, refl)
-answers p vs (r.Unlock l m) n = inl (pos 0, refl)
-answers p vs (r.Down l x) n = inl (pos 0, refl)
-answers p vs (r.Up l x) n = inl (pos 0, refl)
-answers p vs (r.Spawn l g us) n = inr refl
-answers p vs (r.Join l u) n = inr refl
-answers p vs (r.Print l u) n = inl (pos 0, refl)
-answers p vs (r.Tick l k) n = refl
+trap_answers : (p : Source) (l k : ℕ) → HasNumbers p (r.Trap l k) → IsAnswerTo 1 (r.Trap l k) (e.Trap 1 l k)
+trap_answers p l k (inl h) = subst (λ (z : ℕ). IsAnswerTo 1 (r.Trap l z) (e.Trap 1 l z)) (sym h) (inr refl)
+trap_answers p l k (inr (inl h)) = subst (λ (z : ℕ). IsAnswerTo 1 (r.Trap l z) (e.Trap 1 l z)) (sym h) (inr refl)
+trap_answers p l k (inr (inr h)) = subst (λ (z : ℕ). IsAnswerTo 1 (r.Trap l z) (e.Trap 1 l z)) (sym h) (inr refl)
+
+pub answers : (p : Source) (vs us : List ℤ) (q : Request) (x : Entry) → HasNumbers p q → IsGranted vs us q x → IsAnswerTo 1 q x
+answers p vs us (r.Begin l) x n g = inl (pos 0, g.0)
+answers p vs us (r.End l) x n g = inl (pos 0, g.0)
+answers p vs us (r.Trap l k) x n g = subst (λ (z : Entry). IsAnswerTo 1 (r.Trap l k) z) (sym g.0) (trap_answers p l k n)
+answers p vs us (r.Read l w) x n g = inl (g.0, g.2)
+answers p vs us (r.Write l w v) x n g = inl (pos 0, g.0)
+answers p vs us (r.Lock l m) x n g = absurd g
+answers p vs us (r.Unlock l m) x n g = absurd g
+answers p vs us (r.Down l m) x n g = absurd g
+answers p vs us (r.Up l m) x n g = absurd g
+answers p vs us (r.Spawn l m ws) x n g = absurd g
+answers p vs us (r.Join l u) x n g = absurd g
+answers p vs us (r.Print l u) x n g = inl (pos 0, g.0)
+answers p vs us (r.Tick l k) x n g = g.0

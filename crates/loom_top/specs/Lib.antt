@@ -1,6 +1,7 @@
 pub mod Built
-pub mod Plain
-pub mod Kinds
+pub mod Run
+pub mod Turn
+pub mod Driven
 pub mod Command
 pub mod Code
 pub mod Answers

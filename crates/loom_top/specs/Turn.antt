@@ -1,28 +1,29 @@
 -- One turn of a run of one thread: what its request is granted.
-use Rattle.std.specs.Prelude.{ℤ, pos, List, slice_index_or, slice_set}
+use Rattle.std.specs.Prelude.{ℕ, ◌≡◌, ◌<◌, ℤ, List, slice_get, slice_set, Some}
 use Rattle.loom_trace.specs.declared.entry.Entry.{Entry}
 use Rattle.loom_trace.specs.declared.entry.Entry.TheVariants as e
 use Rattle.loom_trace.specs.declared.request.Request.{Request}
 use Rattle.loom_trace.specs.declared.request.Request.TheVariants as r
 
--- The entry that answers a request of thread 1 where the words have these values. The requests for other threads, mutexes and semaphores
--- don't come from a program of one thread.
-abbrev pub answer_to : List ℤ → Request → Entry
-answer_to vs (r.Begin l) = e.Begin 1 l
-answer_to vs (r.End l) = e.End 1 l
-answer_to vs (r.Trap l n) = e.Trap 1 l n
-answer_to vs (r.Read l w) = e.Read 1 l w (slice_index_or vs w (pos 0))
-answer_to vs (r.Write l w v) = e.Write 1 l w v
-answer_to vs (r.Lock l m) = e.Lock 1 l m
-answer_to vs (r.Unlock l m) = e.Unlock 1 l m
-answer_to vs (r.Down l s) = e.Down 1 l s
-answer_to vs (r.Up l s) = e.Up 1 l s
-answer_to vs (r.Spawn l f us) = e.Trap 1 l 5
-answer_to vs (r.Join l u) = e.Trap 1 l 4
-answer_to vs (r.Print l u) = e.Print 1 l u
-answer_to vs (r.Tick l k) = e.Tick 1 l k
+-- It asks for no other thread, for no mutex and no semaphore, and only for one of `n` words.
+abbrev pub AsksAlone : ℕ → Request → Type 0
+AsksAlone n (r.Read l w) = w < n
+AsksAlone n (r.Write l w v) = w < n
+AsksAlone n (r.Lock l m) = ⊥
+AsksAlone n (r.Unlock l m) = ⊥
+AsksAlone n (r.Down l s) = ⊥
+AsksAlone n (r.Up l s) = ⊥
+AsksAlone n (r.Spawn l f us) = ⊥
+AsksAlone n (r.Join l u) = ⊥
+AsksAlone n _ = Unit {0}
 
--- the words' values behind the answer
-abbrev pub words_behind : List ℤ → Request → List ℤ
-words_behind vs (r.Write l w v) = slice_set vs w v
-words_behind vs _ = vs
+-- Thread 1 asks for this where the words have the values `vs`. The entry answers it, and the values are then `us`.
+abbrev pub IsGranted : List ℤ → List ℤ → Request → Entry → Type 0
+IsGranted vs us (r.Begin l) x = (x ≡ e.Begin 1 l) × (us ≡ vs)
+IsGranted vs us (r.End l) x = (x ≡ e.End 1 l) × (us ≡ vs)
+IsGranted vs us (r.Trap l n) x = (x ≡ e.Trap 1 l n) × (us ≡ vs)
+IsGranted vs us (r.Read l w) x = (v : ℤ) × (slice_get vs w ≡ Some v) × (x ≡ e.Read 1 l w v) × (us ≡ vs)
+IsGranted vs us (r.Write l w v) x = (x ≡ e.Write 1 l w v) × (us ≡ slice_set vs w v)
+IsGranted vs us (r.Print l v) x = (x ≡ e.Print 1 l v) × (us ≡ vs)
+IsGranted vs us (r.Tick l k) x = (x ≡ e.Tick 1 l k) × (us ≡ vs)
+IsGranted vs us _ x = ⊥

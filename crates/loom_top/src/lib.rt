@@ -6,6 +6,7 @@ mod built;
 mod code;
 mod command;
 mod run;
+mod start;
 pub mod status;
 #[cfg(test)]
 mod tests;

@@ -1,14 +1,15 @@
-use Rattle.std.proofs.Common.{◌<◌, List, subst, arith}
-use Rattle.loom_trace.specs.declared.entry.Entry.{Entry}
-use Rattle.loom_top.specs.Answers.{IsDone}
-use Rattle.loom_top.specs.Plain.{function_events}
-use Rattle.loom_top.proofs.Whole.{run_lawful}
+use Rattle.std.proofs.Common.{◌≡◌, List, ℤ, ap, ◌∙◌, flat_map}
+use Rattle.loom_tree.specs.declared.item.Word.{Word}
+use Rattle.loom_law.specs.Replay.{start, first_values}
+use Rattle.loom_top.proofs.UnderWay.{first_way}
 use Rattle.loom_top.proofs.run.run.Goals as goal
 
-pub returns : goal.returns
-returns c =
-    let p = c.args.program.now in
-    let few : function_events p.words p.funcs < 100000 = omega (arith, c.requires.few) in
-    let done = run_lawful p 100000 c.words-words.ensures.rules c.requires.built few in
-    let P : List Entry → Type 0 = λ z. IsDone p z in
-    subst P (cc (c.run_first.ensures, c.words-words.ensures.words, c.as_slice.ensures.value, c.funcs.ensures.funcs, c.behind-program.view_is)) (record { lawful = done.0; finished = done.1 })
+pub drive-kind-requires-clause-begun : goal.drive-kind-requires-clause-begun
+drive-kind-requires-clause-begun c =
+    let words : List Word = c.as_slice.result.now in
+    let same : words ≡ c.args.flow.now.program.words = cc (c.as_slice.ensures.value, c.behind-program.view_is, c.words.ensures.words, c.program-program.ensures.program) in
+    let values : c.deref_mut.result.now ≡ (start c.args.flow.now.program).words =
+    c.deref_mut.ensures.value ∙ c.in_ok-words.ensures ∙ ap (flat_map (λ (x : Word). first_values x.cells x.first)) same in
+    let number = rw c.program-program.ensures.program at c.main_number.ensures.number in
+    let function = rw c.program-program.ensures.program at c.main_number.ensures.function in
+    (c.main_number.result, first_way c.in_ok-strand.ensures c.start.ensures c.in_ok-journal.ensures.empty c.in_ok-journal.ensures.room values number function)

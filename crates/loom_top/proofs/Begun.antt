@@ -1,0 +1,92 @@
+-- Where a run begins.
+use Rattle.std.proofs.Common.{ℕ, zero, suc, ◌+◌, ◌≡◌, inl, ◌==◌, Bool, true, false, not, ◌&&◌, ◌||◌, ℤ, pos, List, [], ◌∷◌, ◌++◌, map, flat_map, length, length-append, slice_get, Option, Some, None, refl, sym, ap, subst, ◌∙◌, arith, codes, if◌then◌else◌}
+use Rattle.std.specs.Prelude.{option_map, replicate}
+use Rattle.std.specs.Cmp.Lexicographic.{pointwise, same_text}
+use Rattle.std.proofs.lemmas.List.{length-replicate}
+use Rattle.std.proofs.lemmas.Bool.{and_parts, eqb-true}
+use Rattle.loom_tree.specs.declared.item.Word.{Word}
+use Rattle.loom_tree.specs.Tree.{Function, Source}
+use Rattle.loom_lang.specs.Rules.{is_in, is_distinct, takes, shared_names, cells_of, cell_count, IsLawful}
+use Rattle.loom_lang.specs.Numbers.{position, function_number}
+use Rattle.loom_lang.specs.Trace.{Open, thread}
+use Rattle.loom_law.specs.Part.{IsPart}
+use Rattle.loom_law.specs.Asked.{IsFunctionWith}
+use Rattle.loom_law.specs.Replay.{first_values, main_thread, Spawned, Store, start}
+use Rattle.loom_top.specs.Driven.{alone, IsDriven}
+
+-- The number of `main`
+
+distinct_behind : (xs ys : List (List ℕ)) → is_distinct (xs ++ ys) ≡ true → is_distinct ys ≡ true
+distinct_behind [] ys h = h
+distinct_behind (x ∷ xs) ys h = distinct_behind xs ys (and_parts (not (is_in x (xs ++ ys))) (is_distinct (xs ++ ys)) h).1
+
+abbrev names : List Function → List (List ℕ)
+names fs = map (λ (f : Function). f.name) fs
+
+taken_in : (fs : List Function) (x : List ℕ) (n : ℕ) → takes fs x n ≡ true → is_in x (names fs) ≡ true
+taken_in [] x n h = cc
+taken_in (f ∷ fs) x n h = here (pointwise ◌==◌ f.name x) h (taken_in fs x n)
+  where
+    here : (b : Bool) → ((b && length f.params == n) || takes fs x n) ≡ true → (takes fs x n ≡ true → is_in x (names fs) ≡ true) → (b || is_in x (names fs)) ≡ true
+    here true h behind = refl
+    here false h behind = behind h
+
+-- the first function of that name has so many parameters
+pub record IsFound (fs : List Function) (x : List ℕ) (n : ℕ) : Type 0 where
+  pub number : ℕ
+  pub function : Function
+  pub first : position x (names fs) ≡ Some number
+  pub is : slice_get fs number ≡ Some function
+  pub params : length function.params ≡ n
+
+found : (fs : List Function) (x : List ℕ) (n : ℕ) → is_distinct (names fs) ≡ true → takes fs x n ≡ true → IsFound fs x n
+found [] x n d h = cc
+found (f ∷ fs) x n d h = here (pointwise ◌==◌ f.name x) (length f.params == n) refl refl h (found fs x n (and_parts (not (is_in f.name (names fs))) (is_distinct (names fs)) d).1)
+  where
+    here : (b c : Bool) → pointwise ◌==◌ f.name x ≡ b → (length f.params == n) ≡ c → ((b && c) || takes fs x n) ≡ true → (takes fs x n ≡ true → IsFound fs x n)
+        → IsFound (f ∷ fs) x n
+    here true true is many g behind = record { number = 0; function = f; first = rw is refl; is = refl; params = eqb-true (length f.params) n many }
+    here true false is many g behind =
+        let same : f.name ≡ x = same_text f.name x (sym is) in
+        let again : is_in f.name (names fs) ≡ true = ap (λ z. is_in z (names fs)) same ∙ taken_in fs x n g in
+        let once : not (is_in f.name (names fs)) ≡ true = (and_parts (not (is_in f.name (names fs))) (is_distinct (names fs)) d).0 in
+        let never : not true ≡ true = ap not (sym again) ∙ once in
+        cc
+    here false c is many g behind =
+        let b = behind g in
+        record { number = suc b.number; function = b.function; first = rw is (ap (option_map suc) b.first); is = b.is; params = b.params }
+
+pub main_found : (p : Source) → IsLawful p → IsFound p.funcs (codes "main") 0
+main_found p h = found p.funcs (codes "main") 0 (distinct_behind (shared_names p) (names p.funcs) h.once) h.main
+
+pub main_function : (p : Source) (f : ℕ) → IsFound p.funcs (codes "main") 0 → function_number p (codes "main") ≡ Some f → IsFunctionWith p f []
+main_function p f h is =
+    let same : h.number ≡ f = cc (h.first) in
+    (h.function, subst (λ (z : ℕ). slice_get p.funcs z ≡ Some h.function) same h.is, sym h.params)
+
+-- The words
+
+many_values : (w : Word) (c : Option ℕ) → w.cells ≡ c → length (first_values w.cells w.first) ≡ cells_of w
+many_values w None is = rw is refl
+many_values w (Some n) is = rw is (length-replicate n w.first)
+
+many_cells : (ws : List Word) → length (flat_map (λ (x : Word). first_values x.cells x.first) ws) ≡ cell_count ws
+many_cells [] = refl
+many_cells (w ∷ ws) =
+    let rest : List ℤ = flat_map (λ (x : Word). first_values x.cells x.first) ws in
+    length-append (first_values w.cells w.first) rest ∙ ap (λ z. z + length rest) (many_values w w.cells refl) ∙ ap (λ z. cells_of w + z) (many_cells ws)
+
+-- Before the first entry
+
+pub first_driven : (p : Source) (f : ℕ) → function_number p (codes "main") ≡ Some f → IsDriven p f [] (start p).words
+first_driven p f is = record {
+  own = refl;
+  allowed = tt;
+  store = ap (λ (z : Option ℕ). record { words = (start p).words; holders = (start p).holders; semas = (start p).semas; spawned = main_thread z }) is;
+  cells = many_cells p.words;
+}
+
+pub first_part : (p : Source) (f : ℕ) → IsFunctionWith p f [] → IsPart p 1 f [] []
+first_part p f h =
+    let P : Option Function → Type 0 = λ z. thread p z f [] 0 [] Open in
+    record { items = []; outcome = Open; trace = record { most_turns = 0; gives = subst P (sym h.1) (inl (refl, refl)) }; told = refl }

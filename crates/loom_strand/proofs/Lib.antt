@@ -8,3 +8,5 @@ pub mod Turns
 pub mod Few
 mod Small
 mod Sound
+mod Marks
+mod Falls

@@ -10,3 +10,4 @@ mod Small
 mod Sound
 mod Marks
 mod Falls
+mod Asking

@@ -29,7 +29,8 @@ asked_either : (P : Request → Type 0) (b : Bool) (p q : Progress) → (b ≡ t
 asked_either P true p q f g = f refl
 asked_either P false p q f g = g refl
 
-asked_cell : (P : Request → Type 0) (line : ℕ) (a : Array) (v : ℤ) (ask : ℕ → Request) → ((k : ℕ) → k < a.count → P (ask (a.first + k))) → P (r.Trap line 2) → Asked P (in_array line a v ask)
+asked_cell : (P : Request → Type 0) (line : ℕ) (a : Array) (v : ℤ) (ask : ℕ → Request)
+    → ((k : ℕ) → k < a.count → P (ask (a.first + k))) → P (r.Trap line 2) → Asked P (in_array line a v ask)
 asked_cell P line a (pos k) ask f trap =
     asked_either P (nat_lt k a.count) (asks (ask (a.first + k))) (asks (r.Trap line 2)) (λ e. f k (ltb-true k a.count e)) (λ e. trap)
 asked_cell P line a (negsuc k) ask f trap = trap

@@ -7,7 +7,7 @@ pub mod Room
 pub mod Turns
 pub mod Few
 mod Small
-mod Sound
-mod Marks
-mod Falls
-mod Asking
+pub mod Sound
+pub mod Marks
+pub mod Falls
+pub mod Asking

@@ -49,7 +49,8 @@ marks_cell : (c : Flat) (i : Instr) (x : Step) (a : Array) (v : ℤ) (ask : ℕ 
 marks_cell c i x a (pos k) ask = marks_either c i x (nat_lt k a.count) (asks (ask (a.first + k))) (asks (r.Trap i.line 2)) tt tt
 marks_cell c i x a (negsuc k) ask = tt
 
-marks_returns : (c : Flat) (i : Instr) (x : Step) (marks : List Item) (vs : List ℤ) (v : ℤ) (fs : List Frame) → AreQuiet marks → mark_of i marks ≡ m.Silent → Marks c i x (returns c marks vs v fs)
+marks_returns : (c : Flat) (i : Instr) (x : Step) (marks : List Item) (vs : List ℤ) (v : ℤ) (fs : List Frame)
+    → AreQuiet marks → mark_of i marks ≡ m.Silent → Marks c i x (returns c marks vs v fs)
 marks_returns c i x marks vs v [] h e = h
 marks_returns c i x marks vs v (f ∷ fs) h e = subst (HasMark c i x marks) (sym e) h
 
@@ -94,7 +95,8 @@ marks_goes c z z' i marks k p e =
 
 -- An instruction without a mark, and the last one, tell nothing.
 
-pub silent_told : (c : Flat) (z z' : State) (i : Instr) (marks : List Item) → progress c z i i.step ≡ goes marks z' → mark_of i marks ≡ m.Silent → (p : Source) (t n : ℕ) → AreTold p t n marks []
+pub silent_told : (c : Flat) (z z' : State) (i : Instr) (marks : List Item)
+    → progress c z i i.step ≡ goes marks z' → mark_of i marks ≡ m.Silent → (p : Source) (t n : ℕ) → AreTold p t n marks []
 silent_told c z z' i marks h e p t n = (marks_goes c z z' i marks m.Silent h e p t n).0
 
 pub silent_passed : (c : Flat) (z z' : State) (i : Instr) (marks : List Item) → progress c z i i.step ≡ goes marks z' → mark_of i marks ≡ m.Silent → (n : ℕ) → passed n marks ≡ n
@@ -111,13 +113,15 @@ end_passed c z i marks h n = (marks_ends c z i marks h c.program 0 n).1
 
 -- The place that is passed
 
-pub entry_marked : (c : Flat) (z z' : State) (i : Instr) (marks : List Item) (f : ℕ) → IsLowered c → slice_get c.code z.at ≡ Some i → progress c z i i.step ≡ goes marks z' → mark_of i marks ≡ m.Entry f
+pub entry_marked : (c : Flat) (z z' : State) (i : Instr) (marks : List Item) (f : ℕ)
+    → IsLowered c → slice_get c.code z.at ≡ Some i → progress c z i i.step ≡ goes marks z' → mark_of i marks ≡ m.Entry f
     → (marks ≡ enter f ∷ []) × ((e : Entrance) × (slice_get c.entrances f ≡ Some e) × (place_at c.program e.place ≡ Some (entry f)))
 entry_marked c z z' i marks f l there h e =
     let here : (marks ≡ enter f ∷ []) × ((d : Entrance) × (slice_get c.entrances f ≡ Some d)) = marks_goes c z z' i marks (m.Entry f) h e in
     (here.0, (here.1.0, here.1.1, (instructions_of c c.program l refl).entrances f here.1.0 here.1.1))
 
-pub edge_marked : (c : Flat) (z z' : State) (i : Instr) (marks : List Item) (k : ℕ) → IsLowered c → slice_get c.code z.at ≡ Some i → progress c z i i.step ≡ goes marks z' → mark_of i marks ≡ m.Edge k
+pub edge_marked : (c : Flat) (z z' : State) (i : Instr) (marks : List Item) (k : ℕ)
+    → IsLowered c → slice_get c.code z.at ≡ Some i → progress c z i i.step ≡ goes marks z' → mark_of i marks ≡ m.Edge k
     → (marks ≡ edge i.line ∷ []) × (place_at c.program k ≡ Some (back_edge i.line))
 edge_marked c z z' i marks k l there h e =
     let here : (marks ≡ edge i.line ∷ []) × (k ≡ i.place) × ((n : ℕ) → place_of n i.line i.step ≡ back_edge i.line) = marks_goes c z z' i marks (m.Edge k) h e in

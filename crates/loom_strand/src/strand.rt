@@ -43,7 +43,7 @@ pub struct Strand {
 
 impl Model for Strand {
     ghost use Rattle.std.specs.Prelude.{vec_capacity};
-    ghost use Rattle.std_alloc.specs.Arc.{arc_value};
+    ghost use Rattle.std.specs.Arc.{arc_value};
     ghost use Rattle.loom_strand.specs.Strand.{Strand};
     ghost use Rattle.loom_strand.specs.Kept.{IsKept};
 

@@ -12,3 +12,4 @@ pub mod Stacks
 pub mod Tells
 pub mod Ticks
 pub mod Turns
+pub mod Entrances

@@ -44,10 +44,14 @@ pub struct Strand {
 impl Model for Strand {
     ghost use Rattle.std.specs.Prelude.{vec_capacity};
     ghost use Rattle.std.specs.Arc.{arc_value};
+    ghost use Rattle.std.specs.Coded.{codes};
+    ghost use Rattle.loom_tree.specs.Code.{source_code};
     ghost use Rattle.loom_strand.specs.Strand.{Strand};
     ghost use Rattle.loom_strand.specs.Kept.{IsKept};
 
     ghost Value = { Strand };
+
+    ghost coded = { Prim.hlevel (codes, source_code) };
 
     ghost view = { λ s. record {
       program = arc_value s.program;
@@ -71,6 +75,7 @@ impl Model for Strand {
 }
 
 // The line of a function.
+#[tactic(auto, using(crate::proofs::Entrances::entrance_place, crate::proofs::Entrances::entrance_line, crate::proofs::Entrances::no_line))]
 fn line_of(flow: &Flow, func: u8) -> u32
     ensures line { result ≡ line_of_function (slice_get flow.now.program.funcs func) }
     ensures lowered { IsLowered flow.now }

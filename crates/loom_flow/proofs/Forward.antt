@@ -213,7 +213,7 @@ starts_of p f h =
     subst (HasStart (lowered p)) (sym (ap or_zero h.1)) (e.0, e.1, omega (arith, (stands p h.0 e.0 e.1).2.inside))
 
 -- a function that a program that keeps the rules has keeps them
-lawful_at : (p : Source) (fs : List Function) (n : ℕ) (g : Function) → AreLawfulFunctions p fs → slice_get fs n ≡ Some g → IsLawfulFunction p g
+pub lawful_at : (p : Source) (fs : List Function) (n : ℕ) (g : Function) → AreLawfulFunctions p fs → slice_get fs n ≡ Some g → IsLawfulFunction p g
 lawful_at p [] n g l h = cc
 lawful_at p (f ∷ fs) zero g l h = subst (IsLawfulFunction p) (same_element f g h) l.0
 lawful_at p (f ∷ fs) (suc n) g l h = lawful_at p fs n g l.1 h

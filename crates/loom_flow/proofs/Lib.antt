@@ -7,6 +7,7 @@ mod Deepest
 pub mod Depths
 mod Each
 mod EachSimple
+pub mod EachStep
 mod Effects
 mod Expressions
 pub mod Forward
@@ -20,6 +21,7 @@ pub mod Located
 pub mod Lookups
 mod Lying
 mod Meeting
+pub mod Numbered
 mod Placed
 pub mod Places
 mod Plain

@@ -28,7 +28,7 @@ nowhere : (n : ℕ) → None ≡ Some n → ⊥
 nowhere n e = cc
 
 -- a name that is nowhere in the list isn't in it
-not_in : (x : List ℕ) (ys : List (List ℕ)) → position x ys ≡ None → is_in x ys ≡ true → ⊥
+pub not_in : (x : List ℕ) (ys : List (List ℕ)) → position x ys ≡ None → is_in x ys ≡ true → ⊥
 not_in x ys e h = let g : (n : ℕ) × (position x ys ≡ Some n) = has_position x ys h in nowhere g.0 (sym e ∙ g.1)
 
 -- Words and arrays
@@ -53,7 +53,7 @@ array_here : (n : ℕ) (cells : Option ℕ) → is_some cells ≡ true → (firs
 array_here n None h = cc
 array_here n (Some k) h = (n, k, refl)
 
-never : (a : Bool) → a ≡ true → not a ≡ true → ⊥
+pub never : (a : Bool) → a ≡ true → not a ≡ true → ⊥
 never true e f = cc
 never false e f = cc
 
@@ -77,7 +77,7 @@ is_in_front : (x : List ℕ) (xs ys : List (List ℕ)) → is_in x xs ≡ true �
 is_in_front x [] ys h = cc
 is_in_front x (y ∷ xs) ys h = elim (pointwise ◌==◌ y x) as (λ b. (b || is_in x xs) ≡ true → (b || is_in x (xs ++ ys)) ≡ true) [ true ↦ λ e. refl | false ↦ λ e. is_in_front x xs ys e ] h
 
-distinct_front : (xs ys : List (List ℕ)) → is_distinct (xs ++ ys) ≡ true → is_distinct xs ≡ true
+pub distinct_front : (xs ys : List (List ℕ)) → is_distinct (xs ++ ys) ≡ true → is_distinct xs ≡ true
 distinct_front [] ys h = refl
 distinct_front (x ∷ xs) ys h =
     let g : (not (is_in x (xs ++ ys)) ≡ true) × (is_distinct (xs ++ ys) ≡ true) = both _ _ h in
@@ -100,7 +100,7 @@ function_in (f ∷ fs) x h =
       | false ↦ λ e. function_in fs x e
     ] h
 
-sema_in : (ss : List Sema) (x : List ℕ) → is_sema ss x ≡ true → is_in x (map (λ (s : Sema). s.name) ss) ≡ true
+pub sema_in : (ss : List Sema) (x : List ℕ) → is_sema ss x ≡ true → is_in x (map (λ (s : Sema). s.name) ss) ≡ true
 sema_in [] x h = cc
 sema_in (s ∷ ss) x h =
     elim (pointwise ◌==◌ s.name x) as (λ b. (b || is_sema ss x) ≡ true → (b || is_in x (map (λ (r : Sema). r.name) ss)) ≡ true) [

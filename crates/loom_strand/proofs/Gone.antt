@@ -24,8 +24,8 @@ use Rattle.loom_strand.specs.Ran.{place_marked, place_entered, Counts, Passes, C
 use Rattle.loom_strand.proofs.Continues.{goes_continues, ends_stops}
 use Rattle.loom_strand.proofs.Ticks.{told_append, passed_append, told_tick_place}
 use Rattle.loom_strand.proofs.Sound.{sound_goes, never_nothing, always_there, values_fit}
-use Rattle.loom_strand.proofs.Marks.{silent_told, silent_passed, ends_told, entry_marked, edge_marked}
-use Rattle.loom_strand.proofs.Falls.{left, falls_silent, falls_entry, falls_edge}
+use Rattle.loom_strand.proofs.Marks.{silent_told, silent_passed, end_told, entry_marked, edge_marked}
+use Rattle.loom_strand.proofs.Falls.{left, falls_silent, falls_passing}
 
 -- at the start
 pub gone_nowhere : (c : Flat) (a : Held) (n : ℕ) → IsSound c a.state → HasRoom c a → n < 1000 → HasGone c a a n n
@@ -163,11 +163,11 @@ entered c f en h = ap place_entered h
 pub gone_on : (c : Flat) (a b d : Held) (n k k' : ℕ) (mark : Mark) → IsLowered c → HasGone c a b n k → Moved c b d mark → Passes c k k' mark None → HasGone c a d n k'
 gone_on c a b d n k k' m.Silent l h w x = subst (HasGone c a d n) (sym x.0) (gone_silent c a b d n k l h w)
 gone_on c a b d n k k' (m.Entry f) l h w x =
-    let told : (w.marks ≡ enter f ∷ []) × ((en : Entrance) × (slice_get c.entrances f ≡ Some en) × (place_at c.program en.place ≡ Some (entry f))) = entry_marked c l b.state w.behind w.instruction w.marks f w.there w.goes w.marked in
+    let told : (w.marks ≡ enter f ∷ []) × ((en : Entrance) × (slice_get c.entrances f ≡ Some en) × (place_at c.program en.place ≡ Some (entry f))) = entry_marked c b.state w.behind w.instruction w.marks f l w.there w.goes w.marked in
     let how : ((suc k == tick_after) ≡ false) × (k' ≡ suc k) = unticked c k k' (m.Entry f) (suc k == tick_after) x in
     gone_place c a b d n k k' (entry f) (m.Entry f) l h w (one_entry c.program w.marks f told.0) how.0 how.1
 gone_on c a b d n k k' (m.Edge j) l h w x =
-    let told : (w.marks ≡ edge w.instruction.line ∷ []) × (place_at c.program j ≡ Some (back_edge w.instruction.line)) = edge_marked c l b.state w.behind w.instruction w.marks j w.there w.goes w.marked in
+    let told : (w.marks ≡ edge w.instruction.line ∷ []) × (place_at c.program j ≡ Some (back_edge w.instruction.line)) = edge_marked c b.state w.behind w.instruction w.marks j l w.there w.goes w.marked in
     let how : ((suc k == tick_after) ≡ false) × (k' ≡ suc k) = unticked c k k' (m.Edge j) (suc k == tick_after) x in
     gone_place c a b d n k k' (back_edge w.instruction.line) (m.Edge j) l h w (one_edge c.program w.marks w.instruction.line told.0) how.0 how.1
 
@@ -175,12 +175,12 @@ gone_on c a b d n k k' (m.Edge j) l h w x =
 pub gone_to_tick : (c : Flat) (a b d : Held) (n k k' j : ℕ) (mark : Mark) → IsLowered c → HasGone c a b n k → Moved c b d mark → Passes c k k' mark (Some j) → HasTicked c a d n k' j
 gone_to_tick c a b d n k k' j m.Silent l h w x = let no : ◌≡◌ {A = Option ℕ} (Some j) None = x.1 in absurd (let y : ⊥ = cc in y)
 gone_to_tick c a b d n k k' j (m.Entry f) l h w x =
-    let told : (w.marks ≡ enter f ∷ []) × ((en : Entrance) × (slice_get c.entrances f ≡ Some en) × (place_at c.program en.place ≡ Some (entry f))) = entry_marked c l b.state w.behind w.instruction w.marks f w.there w.goes w.marked in
+    let told : (w.marks ≡ enter f ∷ []) × ((en : Entrance) × (slice_get c.entrances f ≡ Some en) × (place_at c.program en.place ≡ Some (entry f))) = entry_marked c b.state w.behind w.instruction w.marks f l w.there w.goes w.marked in
     let how : ((suc k == tick_after) ≡ true) × (k' ≡ 0) × (j ≡ place_marked c (m.Entry f)) = ticked c k k' j (m.Entry f) (suc k == tick_after) x in
     ticked_place c a b d n k k' j (entry f) (m.Entry f) l h w (one_entry c.program w.marks f told.0) how.0 how.1
     (subst (λ i. place_at c.program i ≡ Some (entry f)) (sym (how.2 ∙ entered c f told.1.0 told.1.1)) told.1.2)
 gone_to_tick c a b d n k k' j (m.Edge i) l h w x =
-    let told : (w.marks ≡ edge w.instruction.line ∷ []) × (place_at c.program i ≡ Some (back_edge w.instruction.line)) = edge_marked c l b.state w.behind w.instruction w.marks i w.there w.goes w.marked in
+    let told : (w.marks ≡ edge w.instruction.line ∷ []) × (place_at c.program i ≡ Some (back_edge w.instruction.line)) = edge_marked c b.state w.behind w.instruction w.marks i l w.there w.goes w.marked in
     let how : ((suc k == tick_after) ≡ true) × (k' ≡ 0) × (j ≡ i) = ticked c k k' j (m.Edge i) (suc k == tick_after) x in
     ticked_place c a b d n k k' j (back_edge w.instruction.line) (m.Edge i) l h w (one_edge c.program w.marks w.instruction.line told.0) how.0 how.1
     (subst (λ o. place_at c.program o ≡ Some (back_edge w.instruction.line)) (sym how.2) told.1)
@@ -188,15 +188,15 @@ gone_to_tick c a b d n k k' j (m.Edge i) l h w x =
 -- the measure falls
 pub moved_falls : (c : Flat) (b d : Held) (k k' : ℕ) (mark : Mark) → IsLowered c → IsSound c b.state → Moved c b d mark → Passes c k k' mark None → k' < 1000 → left c k' d.state < left c k b.state
 moved_falls c b d k k' m.Silent l h w x few =
-    subst (λ j. left c j d.state < left c k b.state) (sym x.0) (subst (λ (y : Held). left c k y.state < left c k b.state) (sym w.is) (falls_silent c l b.state w.behind w.instruction w.marks w.there w.goes w.marked h k))
+    subst (λ j. left c j d.state < left c k b.state) (sym x.0) (subst (λ (y : Held). left c k y.state < left c k b.state) (sym w.is) (falls_silent c b.state w.behind w.instruction w.marks l w.there w.goes w.marked h k))
 moved_falls c b d k k' (m.Entry f) l h w x few =
     let more : k' ≡ suc k = (unticked c k k' (m.Entry f) (suc k == tick_after) x).1 in
     subst (λ j. left c j d.state < left c k b.state) (sym more) (subst (λ (y : Held). left c (suc k) y.state < left c k b.state) (sym w.is)
-    (falls_entry c l b.state w.behind w.instruction w.marks f w.there w.goes w.marked h k (subst (λ j. j < 1000) more few)))
+    (falls_passing c b.state w.behind w.instruction w.marks l w.there w.goes h k (subst (λ j. j < 1000) more few)))
 moved_falls c b d k k' (m.Edge i) l h w x few =
     let more : k' ≡ suc k = (unticked c k k' (m.Edge i) (suc k == tick_after) x).1 in
     subst (λ j. left c j d.state < left c k b.state) (sym more) (subst (λ (y : Held). left c (suc k) y.state < left c k b.state) (sym w.is)
-    (falls_edge c l b.state w.behind w.instruction w.marks i w.there w.goes w.marked h k (subst (λ j. j < 1000) more few)))
+    (falls_passing c b.state w.behind w.instruction w.marks l w.there w.goes h k (subst (λ j. j < 1000) more few)))
 
 -- The run comes to a request, or to the end of the last frame.
 
@@ -227,7 +227,7 @@ gone_to_end c a b d n k h (Some i) e x =
       marks = h.marks ++ how.0;
       carries = λ f vs items g. subst (Stops c (thread_of c.program f) f vs) (append_assoc items h.marks how.0)
           (ends_stops c (thread_of c.program f) f vs (items ++ h.marks) b.state i how.0 e how.1 (h.carries f vs items g));
-      silent = λ s. told_append c.program s n h.marks how.0 [] [] (h.silent s) (ends_told c b.state i how.0 how.1 c.program s (passed n h.marks));
+      silent = λ s. told_append c.program s n h.marks how.0 [] [] (h.silent s) (end_told c b.state i how.0 how.1 c.program s (passed n h.marks));
     }, h.few)
 
 -- There is always an instruction, and something comes of it.

@@ -1,13 +1,15 @@
-mod Tells
-mod Continues
-mod Ticks
-pub mod Stacks
-pub mod Locals
-pub mod Room
-pub mod Turns
-pub mod Few
-mod Small
-mod Sound
+pub mod Asking
+pub mod Continues
 pub mod Falls
-mod Marks
+pub mod Few
 pub mod Gone
+pub mod Locals
+pub mod Marks
+pub mod Room
+pub mod Small
+pub mod Sound
+pub mod Stacks
+pub mod Tells
+pub mod Ticks
+pub mod Turns
+pub mod Entrances

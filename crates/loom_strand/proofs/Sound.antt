@@ -69,7 +69,8 @@ keeps_cell : (c : Flat) (line : ℕ) (a : Array) (v : ℤ) (behind : ℤ → Sta
 keeps_cell c line a (pos i) behind ask h = keeps_either c (nat_lt i a.count) behind (asks (ask (a.first + i))) (asks (r.Trap line 2)) (λ u d e. h u) (λ u d e. h u)
 keeps_cell c line a (negsuc i) behind ask h = λ u d e. h u
 
-keeps_returns : (c : Flat) (behind : ℤ → State) (marks : List Item) (vs : List ℤ) (v : ℤ) (fs : List Frame) → length vs ≡ 0 → length fs ≤ 255 → AllGoOn c fs → Keeps c behind (returns c marks vs v fs)
+keeps_returns : (c : Flat) (behind : ℤ → State) (marks : List Item) (vs : List ℤ) (v : ℤ) (fs : List Frame)
+    → length vs ≡ 0 → length fs ≤ 255 → AllGoOn c fs → Keeps c behind (returns c marks vs v fs)
 keeps_returns c behind marks vs v [] e n h = tt
 keeps_returns c behind marks vs v (f ∷ fs) e n h =
     record { inside = h.0.inside; values = h.0.values ∙ ap {B = Option ℕ} Some (ap suc (sym e)); frames = omega (arith, n); below = h.1 }
@@ -143,20 +144,26 @@ progress_keeps c z i s.Out h starts leads depth = keeps_returns c (answered z s.
 
 -- at an instruction of the code
 
-keeps_at : (c : Flat) (z : State) (i : Instr) → IsLowered c → slice_get c.code z.at ≡ Some i → IsSound c z → Keeps c (answered z i.step) (progress c z i i.step)
-keeps_at c z i l e h =
+pub leads_at : (c : Flat) (z : State) (i : Instr) → IsLowered c → slice_get c.code z.at ≡ Some i → LeadsInto (λ to. to < length c.code) c z.at i i.step
+leads_at c z i l e = subst JumpsForward (sym l.is) (lowered_forward c.program l.lawful) z.at i e
+
+pub depth_at : (c : Flat) (z : State) (i : Instr) → IsLowered c → slice_get c.code z.at ≡ Some i → IsSound c z → KeepsDepth c z.at (length z.values) i.step
+depth_at c z i l e h =
     let operands : (n : ℕ) × HasOperands c n = has_operands c l in
     let found : (d : ℕ) × (depth_before c z.at ≡ Some d) × (d ≤ operands.0) × KeepsDepth c z.at d i.step = operands.1.instructions z.at i e in
-    let forwards : JumpsForward c = subst JumpsForward (sym l.is) (lowered_forward c.program l.lawful) in
     let same : found.0 ≡ length z.values = cc (found.1, h.values) in
-    progress_keeps c z i i.step h operands.1.starts (forwards z.at i e) (subst (λ d. KeepsDepth c z.at d i.step) same found.3)
+    subst (λ d. KeepsDepth c z.at d i.step) same found.3
+
+keeps_at : (c : Flat) (z : State) (i : Instr) → IsLowered c → slice_get c.code z.at ≡ Some i → IsSound c z → Keeps c (answered z i.step) (progress c z i i.step)
+keeps_at c z i l e h = progress_keeps c z i i.step h (has_operands c l).1.starts (leads_at c z i l e) (depth_at c z i l e h)
 
 pub sound_start : (c : Flat) → IsLowered c → (n : ℕ) (e : Entrance) → slice_get c.entrances n ≡ Some e → (vs : List ℤ) → IsSound c (at_start n e vs)
 sound_start c l n e is vs =
     let keeps : KeepsFunctions c = subst KeepsFunctions (sym l.is) (lowered_keeps c.program l.lawful) in
     record { inside = keeps.inside n e.start (keeps.starts n e is); values = (has_operands c l).1.starts n e is; frames = omega arith; below = tt }
 
-pub sound_goes : (c : Flat) (z z' : State) (i : Instr) (marks : List Item) → IsLowered c → slice_get c.code z.at ≡ Some i → progress c z i i.step ≡ goes marks z' → IsSound c z → IsSound c z'
+pub sound_goes : (c : Flat) (z z' : State) (i : Instr) (marks : List Item)
+    → IsLowered c → slice_get c.code z.at ≡ Some i → progress c z i i.step ≡ goes marks z' → IsSound c z → IsSound c z'
 sound_goes c z z' i marks l e p h = subst (Keeps c (answered z i.step)) p (keeps_at c z i l e h)
 
 pub sound_answered : (c : Flat) (z : State) (i : Instr) (q : Request) (v : ℤ) (d : Deed)

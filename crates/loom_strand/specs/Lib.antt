@@ -5,3 +5,4 @@ pub mod Next
 pub mod Strand
 pub mod Kept
 pub mod Ran
+pub mod Replied

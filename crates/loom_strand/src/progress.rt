@@ -3,6 +3,7 @@ ghost use Rattle.std.specs.Prelude.{◌≡◌, ◌<◌, ◌≤◌, ◌&&◌, suc
 ghost use Rattle.loom_lang.specs.Values.{is_zero, applied, divides, negated, inverted};
 ghost use Rattle.loom_lang.specs.Trace.{frame_limit};
 ghost use Rattle.loom_flow.specs.declared.code.Operand.TheVariants as o;
+ghost use Rattle.loom_flow.specs.Code.{IsLowered};
 ghost use Rattle.loom_flow.specs.Flat.{operand, without, given, forward, jumped, arguments, without_arguments};
 ghost use Rattle.loom_trace.specs.declared.request.Request.TheVariants as r;
 ghost use Rattle.loom_strand.specs.declared.turn.Mark.TheVariants as m;
@@ -39,7 +40,8 @@ fn apply(machine: &mut Machine, i: &Instr, op: Op, a: Operand, b: Operand, targe
 
 #[tactic(auto, using(std::proofs::lemmas::Option::slice_get_cases))]
 pub(crate) fn entrance_of(flow: &Flow, func: u8) -> Option<Entrance>
-    ensures { result ≡ slice_get flow.now.entrances func }
+    ensures found { result ≡ slice_get flow.now.entrances func }
+    ensures lowered { IsLowered flow.now }
 {
     flow.entrances().get(func as usize).copied()
 }

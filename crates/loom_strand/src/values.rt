@@ -92,7 +92,8 @@ impl Values {
     }
 }
 
-fn args_of(values: &[i64]) -> Args
+/// The arguments that a slice has.
+pub(crate) fn args_of(values: &[i64]) -> Args
     requires { length values.now ≤ 4 }
     ensures { result ≡ values.now }
 {

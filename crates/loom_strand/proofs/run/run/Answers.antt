@@ -1,30 +1,37 @@
-use Rattle.std.proofs.Common.{rules, ◌≡◌, ◌<◌, ◌==◌, suc, ℕ, ◌+◌, ◌-◌, ◌*◌, ◌≤◌, length, ◌/◌, ◌%◌, Bool, true, false, nat_eq, nat_lt, List, [], ◌∷◌, ◌++◌, slice_index_or, slice_set, bit_and, bit_or, Fits, w8, w32, w64, Bor, MutBor}
-use Rattle.loom_flow.specs.Code.{IsLowered}
-use Rattle.loom_strand.specs.Kept.{IsSound, HasRoom}
-use Rattle.loom_law.specs.Part.{tick_after}
-use Rattle.loom_strand.specs.Ran.{place_marked, Counts, Passes, Ran}
+use Rattle.std.proofs.Common.{refl, slice_get}
+use Rattle.loom_strand.specs.declared.turn.Mark.{Mark}
+use Rattle.loom_strand.proofs.Gone.{Moved, gone_nowhere, advanced_moved, gone_on, gone_to_tick, moved_falls, gone_to_end, gone_to_nothing}
 use Rattle.loom_strand.proofs.run.run.Goals as goal
 
--- src/run.rt:63:5
 pub run-init : goal.run-init
-run-init c = ?
+run-init c = gone_nowhere c.args.flow.now c.args.machine.now c.args.passed.now c.requires.sound c.requires.room c.requires.few
 
--- src/run.rt:67:21
 pub returns-in-Some : goal.returns-in-Some
-returns-in-Some c = ?
+returns-in-Some c =
+    let moved : Moved c.args.flow.now c.run.machine c.advance.new.machine c.in-Went.mark =
+        advanced_moved c.args.flow.now c.run.machine c.advance.new.machine c.in-Went.mark (slice_get c.args.flow.now.code c.run.machine.state.at) refl c.in-Went.ensures in
+    gone_to_tick c.args.flow.now c.args.machine.now c.run.machine c.advance.new.machine c.args.passed.now c.run.passed c.pass.new.passed c.in-Some.place c.in-Went.mark
+    c.requires.lowered c.run.invariant moved c.in-Some.ensures
 
--- src/run.rt:63:5
 pub run-smaller : goal.run-smaller
-run-smaller c = ?
+run-smaller c =
+    let moved : Moved c.args.flow.now c.run.machine c.advance.new.machine c.in-Went.mark =
+        advanced_moved c.args.flow.now c.run.machine c.advance.new.machine c.in-Went.mark (slice_get c.args.flow.now.code c.run.machine.state.at) refl c.in-Went.ensures in
+    moved_falls c.args.flow.now c.run.machine c.advance.new.machine c.run.passed c.pass.new.passed c.in-Went.mark c.requires.lowered c.run.invariant.sound moved c.in_default.ensures
+    (gone_on c.args.flow.now c.args.machine.now c.run.machine c.advance.new.machine c.args.passed.now c.run.passed c.pass.new.passed c.in-Went.mark c.requires.lowered c.run.invariant moved c.in_default.ensures).few
 
--- src/run.rt:63:5
 pub run-preserved : goal.run-preserved
-run-preserved c = ?
+run-preserved c =
+    let moved : Moved c.args.flow.now c.run.machine c.advance.new.machine c.in-Went.mark =
+        advanced_moved c.args.flow.now c.run.machine c.advance.new.machine c.in-Went.mark (slice_get c.args.flow.now.code c.run.machine.state.at) refl c.in-Went.ensures in
+    gone_on c.args.flow.now c.args.machine.now c.run.machine c.advance.new.machine c.args.passed.now c.run.passed c.pass.new.passed c.in-Went.mark c.requires.lowered c.run.invariant moved c.in_default.ensures
 
--- src/run.rt:71:27
 pub returns-in-Ends : goal.returns-in-Ends
-returns-in-Ends c = ?
+returns-in-Ends c =
+    gone_to_end c.args.flow.now c.args.machine.now c.run.machine c.advance.new.machine c.args.passed.now c.run.passed c.run.invariant
+    (slice_get c.args.flow.now.code c.run.machine.state.at) refl c.in-Ends.ensures
 
--- src/run.rt:72:30
 pub unreachable-requires : goal.unreachable-requires
-unreachable-requires c = ?
+unreachable-requires c =
+    gone_to_nothing c.args.flow.now c.run.machine c.advance.new.machine c.requires.lowered c.run.invariant.sound
+    (slice_get c.args.flow.now.code c.run.machine.state.at) refl c.in-Nothing.ensures

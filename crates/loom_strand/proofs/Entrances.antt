@@ -1,0 +1,50 @@
+-- Functions and where they begin.
+use Rattle.std.proofs.Common.{ℕ, suc, zero, ◌+◌, ◌≡◌, ◌<◌, ◌≤◌, List, [], ◌∷◌, ◌++◌, ℤ, Option, Some, None, refl, sym, ap, subst, ◌∙◌, slice_get, length, arith}
+use Rattle.std.specs.Prelude.{option_map}
+use Rattle.std.proofs.lemmas.Option.{slice_get_within}
+use Rattle.loom_tree.specs.Tree.{Function, Source}
+use Rattle.loom_lang.specs.Rules.{IsLawful, locals_of}
+use Rattle.loom_lang.specs.Places.{Place, entry, places, place_at, line_of_place, line_of_function}
+use Rattle.loom_flow.specs.declared.code.Entrance.{Entrance}
+use Rattle.loom_flow.specs.Flat.{Flat}
+use Rattle.loom_flow.specs.Lowered.{size, place_count, entrances}
+use Rattle.loom_flow.specs.Code.{IsLowered}
+use Rattle.loom_flow.proofs.Kept.{instructions_of, as_many_sites}
+
+-- Each function has its entrance.
+
+no_function_of : (p : Source) (at place : ℕ) (fs : List Function) (n : ℕ) → slice_get (entrances p at place fs) n ≡ None → slice_get fs n ≡ None
+no_function_of p at place [] n e = refl
+no_function_of p at place (f ∷ fs) zero e = let no : ◌≡◌ {A = Option Entrance} (Some (record { start = at; place = place; params = length f.params })) None = e in absurd (let x : ⊥ = cc in x)
+no_function_of p at place (f ∷ fs) (suc n) e = no_function_of p (suc (at + size p (locals_of f) f.body)) (suc (suc (place + place_count f.body))) fs n e
+
+entrance_of_function : (p : Source) (at place : ℕ) (fs : List Function) (n : ℕ) (g : Function) → slice_get fs n ≡ Some g → (e : Entrance) × (slice_get (entrances p at place fs) n ≡ Some e)
+entrance_of_function p at place [] n g e = let no : ◌≡◌ {A = Option Function} None (Some g) = e in absurd (let x : ⊥ = cc in x)
+entrance_of_function p at place (f ∷ fs) zero g e = (record { start = at; place = place; params = length f.params }, refl)
+entrance_of_function p at place (f ∷ fs) (suc n) g e = entrance_of_function p (suc (at + size p (locals_of f) f.body)) (suc (suc (place + place_count f.body))) fs n g e
+
+pub no_function : (c : Flat) (n : ℕ) → IsLowered c → slice_get c.entrances n ≡ None → slice_get c.program.funcs n ≡ None
+no_function c n l e = no_function_of c.program 0 1 c.program.funcs n (ap (λ (z : Flat). slice_get z.entrances n) (sym l.is) ∙ e)
+
+pub has_entrance : (c : Flat) (n : ℕ) (g : Function) → IsLowered c → slice_get c.program.funcs n ≡ Some g → (e : Entrance) × (slice_get c.entrances n ≡ Some e)
+has_entrance c n g l h =
+    let there : (e : Entrance) × (slice_get (entrances c.program 0 1 c.program.funcs) n ≡ Some e) = entrance_of_function c.program 0 1 c.program.funcs n g h in
+    (there.0, ap (λ (z : Flat). slice_get z.entrances n) l.is ∙ there.1)
+
+-- Its place has the line of the function.
+
+entered_at : (c : Flat) (n : ℕ) (e : Entrance) → IsLowered c → slice_get c.entrances n ≡ Some e → place_at c.program e.place ≡ Some (entry n)
+entered_at c n e l h = (instructions_of c c.program l refl).entrances n e h
+
+pub entrance_place : (c : Flat) (n : ℕ) (e : Entrance) → IsLowered c → slice_get c.entrances n ≡ Some e → e.place < length c.sites
+entrance_place c n e l h =
+    subst (λ m. e.place < m) (sym (as_many_sites c l)) (slice_get_within (places c.program) e.place (entry n) (entered_at c n e l h))
+
+same_line : (m n : ℕ) → ◌≡◌ {A = Option ℕ} (Some m) (Some n) → m ≡ n
+same_line m n e = cc
+
+pub entrance_line : (c : Flat) (n m : ℕ) (e : Entrance) → IsLowered c → slice_get c.entrances n ≡ Some e → option_map (line_of_place c.program) (place_at c.program e.place) ≡ Some m → m ≡ line_of_function (slice_get c.program.funcs n)
+entrance_line c n m e l h is = sym (same_line (line_of_function (slice_get c.program.funcs n)) m (sym (ap (option_map (line_of_place c.program)) (entered_at c n e l h)) ∙ is))
+
+pub no_line : (c : Flat) (n : ℕ) → IsLowered c → slice_get c.entrances n ≡ None → 0 ≡ line_of_function (slice_get c.program.funcs n)
+no_line c n l h = sym (ap line_of_function (no_function c n l h))

@@ -1,0 +1,192 @@
+//! Threads.
+ghost use Rattle.std.specs.Prelude.{◌≡◌, ◌<◌, [], ◌∷◌, ◌++◌, IfOk, Some, None, length, slice_get};
+ghost use Rattle.loom_lang.specs.Places.{line_of_function};
+ghost use Rattle.loom_flow.specs.Code.{IsLowered};
+ghost use Rattle.loom_law.specs.Asked.{IsAnswer, IsFunctionWith};
+ghost use Rattle.loom_strand.specs.declared.stage.Stage.TheVariants as stage;
+ghost use Rattle.loom_strand.specs.Strand.{IsNew, IsSame, IsStarted, HasPart, Wants};
+
+use crate::machine::Machine;
+use crate::progress::entrance_of;
+use crate::reply::{Reply, begin, reply_of, take};
+use crate::run::run;
+use crate::stage::{Birth, Stage, Want};
+use crate::turn::Stop;
+use crate::values::args_of;
+use loom_flow::flow::Flow;
+use loom_lang::program::Program;
+use loom_trace::entry::Entry;
+use loom_trace::request::Request;
+use loom_tree::name::NoMemory;
+use std::alloc::Global;
+use std::marker::Model;
+use std::sync::Arc;
+
+// How many frames may wait below the newest one.
+const FRAMES: usize = 255;
+
+/// One thread: what it did so far, and where it is.
+///
+/// It keeps its entries, with room for as many as it may make, and shares the program with the flat code that it runs.
+#[derive(Debug, Drop)]
+pub struct Strand {
+    program: Arc<Program>,
+    thread: u8,
+    birth: Option<Birth>,
+    stage: Stage,
+    wanted: Option<Request>,
+    // entry and back-edge places since the last entry
+    passed: u32,
+    machine: Machine,
+    entries: Vec<Entry>,
+}
+
+impl Model for Strand {
+    ghost use Rattle.std.specs.Prelude.{vec_capacity};
+    ghost use Rattle.std.specs.Arc.{arc_value};
+    ghost use Rattle.std.specs.Coded.{codes};
+    ghost use Rattle.loom_tree.specs.Code.{source_code};
+    ghost use Rattle.loom_strand.specs.Strand.{Strand};
+    ghost use Rattle.loom_strand.specs.Kept.{IsKept};
+
+    ghost Value = { Strand };
+
+    ghost coded = { Prim.hlevel (codes, source_code) };
+
+    ghost view = { λ s. record {
+      program = arc_value s.program;
+      thread = s.thread;
+      limit = vec_capacity s.entries;
+      birth = s.birth;
+      entries = s.entries.items;
+      wanted = s.wanted;
+      inside = record { stage = s.stage; passed = s.passed; held = s.machine };
+    } };
+
+    ghost invariant = { λ s. IsKept (record {
+      program = arc_value s.program;
+      thread = s.thread;
+      limit = vec_capacity s.entries;
+      birth = s.birth;
+      entries = s.entries.items;
+      wanted = s.wanted;
+      inside = record { stage = s.stage; passed = s.passed; held = s.machine };
+    }) };
+}
+
+// The line of a function.
+#[tactic(auto, using(crate::proofs::Entrances::entrance_place, crate::proofs::Entrances::entrance_line, crate::proofs::Entrances::no_line))]
+fn line_of(flow: &Flow, func: u8) -> u32
+    ensures line { result ≡ line_of_function (slice_get flow.now.program.funcs func) }
+    ensures lowered { IsLowered flow.now }
+{
+    match entrance_of(flow, func) {
+        Some(entrance) => flow.place_line(entrance.place),
+        None => 0,
+    }
+}
+
+impl Strand {
+    /// A thread of this number that wasn't started, with room for 256 frames and so many entries. It takes all of its memory here. An `Err`
+    /// is want of memory.
+    pub fn make(alloc: Global, flow: &Flow, thread: u8, limit: u32) -> Result<Strand, NoMemory>
+        ensures { IfOk result (λ s. IsNew flow.now.program thread limit s) }
+    {
+        let program = flow.share()?;
+        let machine = Machine::make(alloc, flow.most_values() + 1, FRAMES)?;
+        let entries = Vec::with_capacity(alloc, limit as usize)?;
+        Ok(Strand {
+            program,
+            thread,
+            birth: None,
+            stage: Stage::Waits,
+            wanted: None,
+            passed: 0,
+            machine,
+            entries,
+        })
+    }
+
+    /// Gives the thread its function and its arguments. It hasn't begun yet.
+    pub fn start(&mut self, func: u8, args: &[i64])
+        requires unborn { self.old.birth ≡ None }
+        requires function { IsFunctionWith self.old.program func args.now }
+        ensures { IsSame self.old (Some (record { func = func; args = args.now })) [] self.new }
+    {
+        let args = args_of(args);
+        self.birth = Some(Birth { func, args });
+    }
+
+    /// Goes on up to the next request, which it asks for, and for the same again until it is answered. A thread that has made its `End` has
+    /// ended.
+    pub fn run_private(&mut self, flow: &Flow) -> Want
+        requires started { IsStarted self.old.birth }
+        requires program { flow.now.program ≡ self.old.program }
+        ensures same { IsSame self.old self.old.birth self.old.entries self.new }
+        ensures wants { Wants self.new self.new.birth result }
+    {
+        if self.wanted.is_none() {
+            self.go_on(flow);
+        }
+        match self.wanted {
+            Some(request) => Want::Ask(request),
+            None => Want::Ended,
+        }
+    }
+
+    // Up to the next request.
+    fn go_on(&mut self, flow: &Flow)
+        requires started { IsStarted self.old.birth }
+        requires program { flow.now.program ≡ self.old.program }
+        requires answered { self.old.wanted ≡ None }
+        ensures same { IsSame self.old self.old.birth self.old.entries self.new }
+        ensures over { self.new.wanted ≡ None → self.new.inside.stage ≡ stage.Over }
+    {
+        let Some(birth) = self.birth else {
+            return;
+        };
+        let line = line_of(flow, birth.func);
+        match self.stage {
+            Stage::Waits => self.wanted = Some(Request::Begin { line }),
+            Stage::Runs => match run(&mut self.machine, &mut self.passed, flow) {
+                Stop::Asks(request) => self.wanted = Some(request),
+                Stop::Ticks(place) => {
+                    let line = flow.place_line(place);
+                    self.wanted = Some(Request::Tick { line, place });
+                }
+                Stop::Ends => {
+                    self.stage = Stage::Stops;
+                    self.wanted = Some(Request::End { line });
+                }
+            },
+            Stage::Stops => self.wanted = Some(Request::End { line }),
+            Stage::Over => {}
+        }
+    }
+
+    /// The thread takes an answer to what it asked for, and keeps the entry.
+    pub fn answer(&mut self, flow: &Flow, e: Entry)
+        requires program { flow.now.program ≡ self.old.program }
+        requires answers { IsAnswer self.old.thread self.old.wanted e }
+        requires room { length self.old.entries < self.old.limit }
+        ensures same { IsSame self.old self.old.birth (self.old.entries ++ e ∷ []) self.new }
+        ensures part { HasPart self.new self.new.birth }
+    {
+        match reply_of(self.birth, self.wanted, &e) {
+            Reply::Begins(birth) => {
+                begin(&mut self.machine, flow, birth);
+                self.stage = Stage::Runs;
+                self.passed = 1;
+            }
+            Reply::Ticks => {}
+            Reply::Gives(value) => {
+                take(&mut self.machine, flow, value);
+                self.passed = 0;
+            }
+            Reply::Traps => self.stage = Stage::Stops,
+            Reply::Ends => self.stage = Stage::Over,
+        }
+        self.wanted = None;
+        self.entries.push_reserved(e);
+    }
+}

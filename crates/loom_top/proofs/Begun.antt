@@ -1,6 +1,6 @@
 -- Where a run begins.
-use Rattle.std.proofs.Common.{ℕ, zero, suc, ◌+◌, ◌≡◌, inl, ◌==◌, Bool, true, false, not, ◌&&◌, ◌||◌, ℤ, pos, List, [], ◌∷◌, ◌++◌, map, flat_map, length, length-append, slice_get, Option, Some, None, refl, sym, ap, subst, ◌∙◌, arith, codes, if◌then◌else◌}
-use Rattle.std.specs.Prelude.{option_map, replicate}
+use Rattle.std.proofs.Common.{ℕ, suc, ◌+◌, ◌≡◌, inl, ◌==◌, Bool, true, false, not, ◌&&◌, ◌||◌, ℤ, List, [], ◌∷◌, ◌++◌, map, flat_map, length, length-append, slice_get, Option, Some, None, refl, sym, ap, subst, ◌∙◌, codes}
+use Rattle.std.specs.Prelude.{option_map}
 use Rattle.std.specs.Cmp.Lexicographic.{pointwise, same_text}
 use Rattle.std.proofs.lemmas.List.{length-replicate}
 use Rattle.std.proofs.lemmas.Bool.{and_parts, eqb-true}
@@ -11,8 +11,8 @@ use Rattle.loom_lang.specs.Numbers.{position, function_number}
 use Rattle.loom_lang.specs.Trace.{Open, thread}
 use Rattle.loom_law.specs.Part.{IsPart}
 use Rattle.loom_law.specs.Asked.{IsFunctionWith}
-use Rattle.loom_law.specs.Replay.{first_values, main_thread, Spawned, Store, start}
-use Rattle.loom_top.specs.Driven.{alone, IsDriven}
+use Rattle.loom_law.specs.Replay.{first_values, main_thread, start}
+use Rattle.loom_top.specs.Driven.{IsDriven}
 
 -- The number of `main`
 

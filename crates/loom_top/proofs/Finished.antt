@@ -1,5 +1,5 @@
 -- A run's journal is lawful, and finished.
-use Rattle.std.proofs.Common.{ℕ, zero, suc, ◌<◌, ◌≤◌, ◌≡◌, ◌==◌, ◌≢◌, ◌⊎◌, inl, inr, ℤ, Bool, true, false, not, ◌&&◌, ◌||◌, List, [], ◌∷◌, ◌++◌, map, take, length, slice_get, Option, Some, None, refl, sym, ap, subst, ◌∙◌, append-nil, arith, eqb, if◌then◌else◌}
+use Rattle.std.proofs.Common.{ℕ, zero, suc, ◌<◌, ◌≤◌, ◌≡◌, ◌==◌, ◌⊎◌, inl, inr, ℤ, Bool, true, false, not, List, [], ◌∷◌, ◌++◌, map, take, length, Option, Some, None, refl, sym, ap, subst, ◌∙◌, append-nil, arith, if◌then◌else◌}
 use Rattle.std.proofs.lemmas.List.{length-map}
 use Rattle.std.proofs.lemmas.Bool.{and_parts, eq-eqb, ne_eqb}
 use Rattle.std.proofs.Math.Seq.{take-length}
@@ -9,11 +9,11 @@ use Rattle.loom_trace.specs.declared.entry.Entry.TheVariants as e
 use Rattle.loom_trace.specs.declared.entry.Ending.{Ending}
 use Rattle.loom_trace.specs.declared.entry.Ending.TheVariants as k
 use Rattle.loom_lang.specs.Trace.{Finished}
-use Rattle.loom_law.specs.Event.{Event, entry_of, is_target, targets, deeds}
+use Rattle.loom_law.specs.Event.{Event, entry_of, targets, deeds}
 use Rattle.loom_law.specs.Replay.{Spawned, Store, start, thread_at, replay}
 use Rattle.loom_law.specs.Run.{IsTraced, IsThreadTraced, AreRun}
 use Rattle.loom_law.specs.Part.{IsPart}
-use Rattle.loom_law.specs.Lawful.{thread_of, is_some_thread, thread_entries, last_thread_entry, stops_at, is_over, is_at_limit, AllEnded, part_of, HasPart, Ends, Stands, IsFinished, IsLawful}
+use Rattle.loom_law.specs.Lawful.{thread_of, is_some_thread, thread_entries, last_thread_entry, stops_at, is_over, is_at_limit, AllEnded, part_of, HasPart, Ends, Stands, IsLawful}
 use Rattle.loom_strand.specs.Next.{has_none, has_ended, IsEnded}
 use Rattle.loom_top.specs.Run.{never, IsRunOf}
 use Rattle.loom_top.specs.Driven.{events_of, is_own, all_own, alone, IsDriven}

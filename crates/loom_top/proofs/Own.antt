@@ -1,18 +1,18 @@
 -- Entries of thread 1 alone, and their events.
-use Rattle.std.proofs.Common.{ℕ, suc, ◌<◌, ◌≤◌, ◌≡◌, ◌==◌, ℤ, Bool, true, false, ◌&&◌, List, [], ◌∷◌, ◌++◌, map, length, Option, Some, None, refl, sym, ap, subst, ◌∙◌, arith, if◌then◌else◌}
+use Rattle.std.proofs.Common.{ℕ, suc, ◌≡◌, ◌==◌, Bool, true, false, List, [], ◌∷◌, ◌++◌, map, length, Option, Some, None, refl, sym, ap, subst, ◌∙◌, if◌then◌else◌}
 use Rattle.std.specs.Prelude.{is_some}
 use Rattle.std.proofs.lemmas.Bool.{and_parts, eqb-true}
 use Rattle.loom_tree.specs.Tree.{Source}
 use Rattle.loom_lang.specs.Places.{Place, entry, back_edge}
 use Rattle.loom_lang.specs.Trace.{Cause, division, index, not_held, not_spawned, threads, frames, overflow, Act, begin, end, trap, read, write, lock, unlock, down, up, spawn, join, print, reason, Item, made, begins, done, edge, enter, out}
-use Rattle.loom_lang.specs.Acts.{Deed, acts}
+use Rattle.loom_lang.specs.Acts.{acts}
 use Rattle.loom_trace.specs.declared.entry.Entry.{Entry}
 use Rattle.loom_trace.specs.declared.entry.Entry.TheVariants as e
-use Rattle.loom_law.specs.Event.{Event, entry_by, entry_of, is_target, targets, deeds}
+use Rattle.loom_law.specs.Event.{Event, entry_by, entry_of, targets, deeds}
 use Rattle.loom_law.specs.Part.{tick_after, IsPassed, AreTold}
 use Rattle.loom_law.specs.Asked.{cause_of}
 use Rattle.loom_law.specs.Lawful.{thread_of, is_some_thread, thread_entries, is_part_of, part_of}
-use Rattle.loom_top.specs.Driven.{event, trap_events, events_in, events_of, is_own, all_own}
+use Rattle.loom_top.specs.Driven.{trap_events, events_in, events_of, is_own, all_own}
 
 -- One entry
 

@@ -1,14 +1,9 @@
 -- Each turn of a run keeps what is known of it.
-use Rattle.std.proofs.Common.{ℕ, zero, suc, ◌<◌, ◌≤◌, ◌≡◌, ◌==◌, ◌⊎◌, inl, inr, ℤ, pos, Bool, true, false, not, ◌&&◌, List, [], ◌∷◌, ◌++◌, length, slice_get, slice_set, Option, Some, None, refl, sym, ap, subst, ◌∙◌, append_assoc, append-nil, arith}
-use Rattle.std.specs.Prelude.{is_some, slice_index_or}
+use Rattle.std.proofs.Common.{ℕ, zero, suc, ◌<◌, ◌≡◌, inl, inr, ℤ, pos, Bool, true, false, not, List, [], ◌∷◌, ◌++◌, length, slice_get, slice_set, Some, refl, sym, ap, subst, ◌∙◌, append_assoc, append-nil, arith}
 use Rattle.std.proofs.lemmas.Bool.{and_parts}
 use Rattle.std.proofs.lemmas.List.{length-set}
-use Rattle.std.proofs.lemmas.Option.{slice_get-get_or}
 use Rattle.loom_tree.specs.Tree.{Source}
 use Rattle.loom_lang.specs.Rules.{cell_count}
-use Rattle.loom_lang.specs.Trace.{Act, division, index, frames, begin, end, trap, read, write, print}
-use Rattle.loom_flow.specs.declared.code.Step.{Step}
-use Rattle.loom_flow.specs.declared.code.Step.TheVariants as s
 use Rattle.loom_flow.specs.declared.code.Instr.{Instr}
 use Rattle.loom_flow.specs.Lowered.{lowered}
 use Rattle.loom_trace.specs.declared.entry.Entry.{Entry}
@@ -16,12 +11,12 @@ use Rattle.loom_trace.specs.declared.entry.Entry.TheVariants as e
 use Rattle.loom_trace.specs.declared.request.Request.{Request}
 use Rattle.loom_trace.specs.declared.request.Request.TheVariants as r
 use Rattle.loom_law.specs.Event.{Event}
-use Rattle.loom_law.specs.Replay.{Spawned, Store, start, thread_at, IsRunning, IsAllowed, IsAllowedAct, MayDo, after, after_act, replay, AreAllowed}
+use Rattle.loom_law.specs.Replay.{Store, start, IsRunning, after, replay, AreAllowed}
 use Rattle.loom_law.specs.Asked.{IsAnswerTo, HasNumbers}
 use Rattle.loom_strand.specs.Next.{IsAskedIn, is_begin, is_end, has_none, has_ended}
 use Rattle.loom_top.specs.Built.{runs_alone, all_alone, is_nil, is_built}
 use Rattle.loom_top.specs.Turn.{AsksAlone, IsGranted}
-use Rattle.loom_top.specs.Driven.{event, events_in, events_of, is_own, all_own, alone, IsDriven}
+use Rattle.loom_top.specs.Driven.{events_in, events_of, is_own, all_own, alone, IsDriven}
 
 -- One entry more
 

@@ -1,7 +1,6 @@
 -- A thread, the journal and the words, from turn to turn.
-use Rattle.std.proofs.Common.{ℕ, ◌+◌, ◌<◌, ◌≡◌, ℤ, true, false, List, [], ◌∷◌, ◌++◌, length, length-append, Option, Some, refl, sym, ap, subst, ◌∙◌, arith, codes}
+use Rattle.std.proofs.Common.{ℕ, ◌+◌, ◌<◌, ◌≡◌, ℤ, true, false, List, [], ◌∷◌, ◌++◌, length, length-append, Option, Some, sym, ap, subst, ◌∙◌, arith, codes}
 use Rattle.loom_tree.specs.Tree.{Source}
-use Rattle.loom_lang.specs.Rules.{cell_count}
 use Rattle.loom_lang.specs.Numbers.{function_number}
 use Rattle.loom_flow.specs.Lowered.{lowered}
 use Rattle.loom_trace.specs.declared.entry.Entry.{Entry}
@@ -11,7 +10,7 @@ use Rattle.loom_trace.specs.declared.request.Request.{Request}
 use Rattle.loom_trace.specs.Journal.{Contents}
 use Rattle.loom_law.specs.Part.{IsPart}
 use Rattle.loom_law.specs.Replay.{start}
-use Rattle.loom_law.specs.Asked.{IsFunctionWith, HasNumbers, IsAnswer, IsAnswerTo}
+use Rattle.loom_law.specs.Asked.{IsFunctionWith, HasNumbers, IsAnswer}
 use Rattle.loom_strand.specs.declared.stage.Birth.{Birth}
 use Rattle.loom_strand.specs.declared.stage.Want.{Want}
 use Rattle.loom_strand.specs.declared.stage.Want.TheVariants as want
@@ -20,7 +19,7 @@ use Rattle.loom_strand.specs.Strand.{Strand, IsNew, IsSame, HasPart, AsksFor, Is
 use Rattle.loom_top.specs.Built.{is_built}
 use Rattle.loom_top.specs.Run.{IsRunOf}
 use Rattle.loom_top.specs.Turn.{AsksAlone, IsGranted}
-use Rattle.loom_top.specs.Driven.{IsDriven, IsUnderWay}
+use Rattle.loom_top.specs.Driven.{IsUnderWay}
 use Rattle.loom_top.proofs.Begun.{first_driven, first_part}
 use Rattle.loom_top.proofs.Turns.{asks_alone, answers, turn_driven}
 use Rattle.loom_top.proofs.Finished.{done_run}

@@ -1,4 +1,4 @@
-use Rattle.std.proofs.Common.{ℕ, ◌≡◌, ◌<◌, ◌+◌, ◌∷◌, [], length, length-append, ap, ◌∙◌, arith}
+use Rattle.std.proofs.Common.{◌≡◌, ◌<◌, ◌+◌, ◌∷◌, [], length, length-append, ap, ◌∙◌, arith}
 use Rattle.loom_top.proofs.Finished.{limit_run}
 use Rattle.loom_top.proofs.UnderWay.{over_done, asking, way_alone, way_answers, way_on}
 use Rattle.loom_top.proofs.run.drive.Goals as goal

@@ -1,4 +1,4 @@
-use Rattle.std.proofs.Common.{◌≡◌, List, ℤ, ap, ◌∙◌, flat_map}
+use Rattle.std.proofs.Common.{◌≡◌, List, ap, ◌∙◌, flat_map}
 use Rattle.loom_tree.specs.declared.item.Word.{Word}
 use Rattle.loom_law.specs.Replay.{start, first_values}
 use Rattle.loom_top.proofs.UnderWay.{first_way}

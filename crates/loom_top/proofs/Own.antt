@@ -19,7 +19,8 @@ use Rattle.loom_top.specs.Driven.{trap_events, events_in, events_of, is_own, all
 reason_told : (n : ℕ) (c : Cause) → cause_of n ≡ Some c → reason c ≡ n
 reason_told n c h = go (n == 1) (n == 2) (n == 6) refl refl refl h
   where
-    go : (x y z : Bool) → (n == 1) ≡ x → (n == 2) ≡ y → (n == 6) ≡ z → (if x then Some division else (if y then Some index else (if z then Some frames else None))) ≡ Some c → reason c ≡ n
+    go : (x y z : Bool) → (n == 1) ≡ x → (n == 2) ≡ y → (n == 6) ≡ z
+        → (if x then Some division else (if y then Some index else (if z then Some frames else None))) ≡ Some c → reason c ≡ n
     go true y z i j k h = let is : division ≡ c = cc in ap reason (sym is) ∙ sym (eqb-true n 1 i)
     go false true z i j k h = let is : index ≡ c = cc in ap reason (sym is) ∙ sym (eqb-true n 2 j)
     go false false true i j k h = let is : frames ≡ c = cc in ap reason (sym is) ∙ sym (eqb-true n 6 k)

@@ -6,4 +6,5 @@ use Rattle.loom_top.proofs.start.main_position.Given as goal
 
 abbrev pub invariant-scan : goal.invariant-scan
 invariant-scan l =
-    position_from l.i (codes "main") (map (λ (f : Function). f.name) (functions_of (drop l.i l.funcs))) ≡ position (codes "main") (map (λ (f : Function). f.name) (functions_of l.funcs))
+    position_from l.i (codes "main") (map (λ (f : Function). f.name) (functions_of (drop l.i l.funcs)))
+    ≡ position (codes "main") (map (λ (f : Function). f.name) (functions_of l.funcs))

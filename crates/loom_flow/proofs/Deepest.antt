@@ -12,6 +12,7 @@ depth_from first is at = depth_after first (map (λ (i : Instr). i.step) (take a
 -- Before instruction `n` there are at most `depth` values, and at most `most` before each one below it.
 pub record IsDeepest (is : List Instr) (n depth most : ℕ) : Type 0 where
   pub few : depth ≤ n
+  pub most_few : most ≤ n
   pub here : (d : ℕ) → depth_from 0 is n ≡ Some d → d ≤ depth
   pub below : (at d : ℕ) → at < n → depth_from 0 is at ≡ Some d → d ≤ most
 
@@ -33,12 +34,13 @@ depth_back first (j ∷ is) (suc at) i r h e =
     ] e
 
 pub deepest_none : (is : List Instr) → IsDeepest is 0 0 0
-deepest_none is = record { few = omega arith; here = λ d e. (let f : 0 ≡ d = same_element 0 d e in omega arith); below = λ at d l e. absurd (omega (arith, l)) }
+deepest_none is = record { few = omega arith; most_few = omega arith; here = λ d e. (let f : 0 ≡ d = same_element 0 d e in omega arith); below = λ at d l e. absurd (omega (arith, l)) }
 
 pub deepest_more : (is : List Instr) (n depth most rest off on more : ℕ) (i : Instr) → n < length is → IsDeepest is n depth most
-    → off ≡ takes_off (get_or is n i).step → rest ≡ depth - off → on ≡ puts_on (get_or is n i).step → on ≤ 1 → most ≤ more → depth ≤ more → IsDeepest is (n + 1) (rest + on) more
-deepest_more is n depth most rest off on more i l h is_off is_rest is_on few above reached = record {
+    → off ≡ takes_off (get_or is n i).step → rest ≡ depth - off → on ≡ puts_on (get_or is n i).step → on ≤ 1 → most ≤ more → depth ≤ more → more ≤ n → IsDeepest is (n + 1) (rest + on) more
+deepest_more is n depth most rest off on more i l h is_off is_rest is_on few above reached bounded = record {
   few = (let f : depth ≤ n = h.few in omega (arith, f, is_rest, few));
+  most_few = omega (arith, bounded);
   here = λ d g.
       let b : (x : ℕ) × (depth_from 0 is n ≡ Some x) × (d ≡ x - takes_off j.step + puts_on j.step) = depth_back 0 is n j d (slice_get-get_or is n i l) (subst (λ m. depth_from 0 is m ≡ Some d) next g) in
       let f : b.0 ≤ depth = h.here b.0 b.1 in

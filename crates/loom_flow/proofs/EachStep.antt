@@ -52,7 +52,8 @@ pub record HoldsOf (p : Source) (P : Step → Type 0) : Type 0 where
 word_behind : (p : Source) (xs : List (List ℕ)) (x : List ℕ) → position x xs ≡ None → (is_in x xs || is_word p.words x) ≡ true → is_word p.words x ≡ true
 word_behind p xs x e h = ⊎_elim (λ (here : is_in x xs ≡ true). absurd (not_in x xs e here)) (λ (there : is_word p.words x ≡ true). there) (or_else (is_in x xs) (is_word p.words x) h)
 
-variable_each : (p : Source) (P : Step → Type 0) (d : Target) (xs : List (List ℕ)) (x : List ℕ) (a : Option ℕ) → HoldsOf p P → position x xs ≡ a → (is_in x xs || is_word p.words x) ≡ true → P (variable_step p d x a)
+variable_each : (p : Source) (P : Step → Type 0) (d : Target) (xs : List (List ℕ)) (x : List ℕ) (a : Option ℕ) → HoldsOf p P → position x xs ≡ a
+    → (is_in x xs || is_word p.words x) ≡ true → P (variable_step p d x a)
 variable_each p P d xs x None h e k = h.read x d (word_behind p xs x e k)
 variable_each p P d xs x (Some j) h e k = h.other _ refl
 
@@ -98,8 +99,8 @@ store_each : (p : Source) (P : Step → Type 0) (xs : List (List ℕ)) (x : List
 store_each p P xs x None h e k = absurd (not_in x xs e k)
 store_each p P xs x (Some j) h e k = h.other _ refl
 
-value_each : (p : Source) (P : Step → Type 0) (xs : List (List ℕ)) (x : List ℕ) (e : Expression) (a : Option ℕ) → HoldsOf p P → position x xs ≡ a → (is_in x xs || is_word p.words x) ≡ true → knows p xs e ≡ true
-    → AllOf P (value_steps p xs x e a)
+value_each : (p : Source) (P : Step → Type 0) (xs : List (List ℕ)) (x : List ℕ) (e : Expression) (a : Option ℕ) → HoldsOf p P → position x xs ≡ a
+    → (is_in x xs || is_word p.words x) ≡ true → knows p xs e ≡ true → AllOf P (value_steps p xs x e a)
 value_each p P xs x e None h is k g = all_append P (operand_steps p xs e) _ (operand_each p P xs e h g) (h.write x (operand_of xs e) (word_behind p xs x is k), tt)
 value_each p P xs x e (Some j) h is k g = steps_each p P xs (target.Local j) e h g
 

@@ -25,15 +25,15 @@ cells_least w = elim w.cells as (λ o. or_zero o ≤ cells_of (record w { cells 
 one_cell : (w : Word) → is_none w.cells ≡ true → cells_of w ≡ 1
 one_cell w h = elim w.cells as (λ o. is_none o ≡ true → cells_of (record w { cells = o }) ≡ 1) [ None ↦ λ e. refl | Some k ↦ λ e. cc ] h
 
-array_within : (n : ℕ) (ws : List Word) (x : List ℕ) → (array_of (cells_from n ws x)).first + (array_of (cells_from n ws x)).count ≤ n + cell_count ws
+abbrev IsWithin : Option Cells → ℕ → Type 0
+IsWithin c n = (array_of c).first + (array_of c).count ≤ n
+
+array_within : (n : ℕ) (ws : List Word) (x : List ℕ) → IsWithin (cells_from n ws x) (n + cell_count ws)
 array_within n [] x = omega arith
-array_within n (w ∷ ws) x =
-    let again : (array_of (cells_from (n + cells_of w) ws x)).first + (array_of (cells_from (n + cells_of w) ws x)).count ≤ n + cells_of w + cell_count ws = array_within (n + cells_of w) ws x in
-    let least : or_zero w.cells ≤ cells_of w = cells_least w in
-    by (pointwise ◌==◌ w.name x) (cells_from (n + cells_of w) ws x) again least
+array_within n (w ∷ ws) x = by (pointwise ◌==◌ w.name x) (cells_from (n + cells_of w) ws x) (array_within (n + cells_of w) ws x) (cells_least w)
   where
-    by : (b : Bool) (o : Option Cells) → (array_of o).first + (array_of o).count ≤ n + cells_of w + cell_count ws → or_zero w.cells ≤ cells_of w
-        → (array_of (if b then Some (record { first = n; count = w.cells }) else o)).first + (array_of (if b then Some (record { first = n; count = w.cells }) else o)).count ≤ n + (cells_of w + cell_count ws)
+    by : (b : Bool) (o : Option Cells) → IsWithin o (n + cells_of w + cell_count ws) → or_zero w.cells ≤ cells_of w
+        → IsWithin (if b then Some (record { first = n; count = w.cells }) else o) (n + (cells_of w + cell_count ws))
     by true o again least = omega arith
     by false o again least = omega arith
 
@@ -66,10 +66,8 @@ word_there p x l h =
     let within : first_cell (cells_from 0 p.words x) < 0 + cell_count p.words = word_within 0 p.words x (distinct_front names _ (distinct_front (shared_names p) _ l.once)) h in
     omega (arith, within)
 
-array_there : (p : Source) (x : List ℕ) → (array_of (cells_named p x)).first + (array_of (cells_named p x)).count ≤ cell_count p.words
-array_there p x =
-    let within : (array_of (cells_from 0 p.words x)).first + (array_of (cells_from 0 p.words x)).count ≤ 0 + cell_count p.words = array_within 0 p.words x in
-    omega (arith, within)
+array_there : (p : Source) (x : List ℕ) → IsWithin (cells_named p x) (cell_count p.words)
+array_there p x = let within : IsWithin (cells_from 0 p.words x) (0 + cell_count p.words) = array_within 0 p.words x in omega (arith, within)
 
 -- Mutexes and semaphores
 

@@ -93,7 +93,8 @@ fn puts_on(step: Step) -> usize
 
 /// The most values that there are before an instruction.
 pub(crate) fn most_before(code: &[Instr]) -> usize
-    ensures { (at d : ℕ) → at < length code.now → depth_after 0 (map (λ (i : instr.Instr). i.step) (take at code.now)) ≡ Some d → d ≤ result }
+    ensures few { result ≤ length code.now }
+    ensures most { (at d : ℕ) → at < length code.now → depth_after 0 (map (λ (i : instr.Instr). i.step) (take at code.now)) ≡ Some d → d ≤ result }
 {
     let mut depth: usize = 0;
     let mut most: usize = 0;

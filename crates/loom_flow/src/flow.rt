@@ -136,7 +136,8 @@ impl Flow {
 
     /// How many values wait at most before an instruction.
     pub fn most_values(&self) -> usize
-        ensures { (at d : ℕ) → at < length self.now.code → depth_before self.now at ≡ Some d → d ≤ result }
+        ensures few { result ≤ length self.now.code }
+        ensures most { (at d : ℕ) → at < length self.now.code → depth_before self.now at ≡ Some d → d ≤ result }
     {
         most_before(self.code())
     }

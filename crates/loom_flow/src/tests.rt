@@ -15,6 +15,9 @@ const STEPS: &str =
 const CHAIN: &str =
     "fn third() {\nskip;\n}\nfn second() {\nthird();\n}\nfn main() {\nif (1) {\nsecond();\n}\nlet t = spawn third();\njoin t;\n}\n";
 
+/// Two sums wait for the product.
+const PRODUCT: &str = "shared x;\nfn main() {\nprint (x + 1) * (x + 2);\n}\n";
+
 fn flow_of(alloc: Global, text: &str) -> Result<Flow, LangError> {
     let bytes = text.as_bytes();
     if bytes.len() > 65536 {
@@ -51,6 +54,23 @@ fn tells_calls(rt: HostRuntime) -> Result<(), Fail> {
     assert_eq!(rt; calls_of(&chain, 0), Some(0));
     assert_eq!(rt; calls_of(&chain, 1), Some(1));
     assert_eq!(rt; calls_of(&chain, 2), Some(2));
+    Ok(())
+}
+
+#[test]
+fn counts_values(rt: HostRuntime) -> Result<(), Fail> {
+    assert_eq!(rt; flow_of(rt.alloc(), CHAIN)?.most_values(), 1);
+    assert_eq!(rt; flow_of(rt.alloc(), STEPS)?.most_values(), 1);
+    assert_eq!(rt; flow_of(rt.alloc(), PRODUCT)?.most_values(), 2);
+    Ok(())
+}
+
+#[test]
+fn shares_its_program(rt: HostRuntime) -> Result<(), Fail> {
+    let flow = flow_of(rt.alloc(), CHAIN)?;
+    let program = flow.share()?;
+    drop(flow);
+    assert_eq!(rt; program.funcs().0.len(), 3);
     Ok(())
 }
 

@@ -1,9 +1,11 @@
--- What a thread asks for has the numbers of its program.
+-- What instructions ask for.
 use Rattle.std.proofs.Common.{ℕ, suc, ◌+◌, ◌&&◌, ◌≡◌, ◌≤◌, ◌<◌, Bool, true, false, List, [], ◌∷◌, ℤ, pos, negsuc, Option, Some, None, refl, inl, inr, subst, ◌∙◌, nat_lt, ltb-true, slice_get, length, length-take, take, arith}
 use Rattle.std.proofs.lemmas.List.{length-reverse}
 use Rattle.loom_lang.specs.Values.{is_zero, applied, divides}
 use Rattle.loom_lang.specs.Trace.{Item, done, out, frame_limit}
 use Rattle.loom_flow.specs.declared.code.Array.{Array}
+use Rattle.loom_flow.specs.declared.code.Operand.{Operand}
+use Rattle.loom_flow.specs.declared.code.Target.{Target}
 use Rattle.loom_flow.specs.declared.code.Step.{Step}
 use Rattle.loom_flow.specs.declared.code.Step.TheVariants as s
 use Rattle.loom_flow.specs.declared.code.Instr.{Instr}
@@ -16,7 +18,7 @@ use Rattle.loom_trace.specs.declared.request.Request.{Request}
 use Rattle.loom_trace.specs.declared.request.Request.TheVariants as r
 use Rattle.loom_law.specs.Asked.{HasNumbers}
 use Rattle.loom_strand.specs.Machine.{Progress, goes, asks, either, in_array, returns, enters, progress}
-use Rattle.loom_strand.specs.Next.{is_begin}
+use Rattle.loom_strand.specs.Next.{IsAskedIn}
 use Rattle.loom_strand.specs.Kept.{IsSound}
 use Rattle.loom_strand.proofs.Sound.{depth_at}
 
@@ -113,35 +115,81 @@ numbers_asked c z line (s.Spawn f n d) h depth = (h.0, h.1, spawned z n depth.0 
 numbers_asked c z line (s.Call f n) h depth = inr (inr refl)
 numbers_asked c z line _ h depth = tt
 
+-- what is asked for
+asks_of : (P : Request → Type 0) (c : Flat) (z : State) (i : Instr) (q : Request) → progress c z i i.step ≡ asks q → Requests P z i.line i.step → P q
+asks_of P c z i q p h = let here : Asked P (asks q) = subst (Asked P) p (progress_asked P c z i i.step h) in here
+
 pub asks_numbers : (c : Flat) (z : State) (i : Instr) (q : Request)
     → IsLowered c → slice_get c.code z.at ≡ Some i → progress c z i i.step ≡ asks q → step.HasNumbers c.program i.step → IsSound c z → HasNumbers c.program q
-asks_numbers c z i q l there p h sound =
-    let here : Asked (HasNumbers c.program) (asks q) =
-    subst (Asked (HasNumbers c.program)) p (progress_asked (HasNumbers c.program) c z i i.step (numbers_asked c z i.line i.step h (depth_at c z i l there sound))) in
-    here
+asks_numbers c z i q l there p h sound = asks_of (HasNumbers c.program) c z i q p (numbers_asked c z i.line i.step h (depth_at c z i l there sound))
 
--- No instruction asks for the thread's begin.
+-- No instruction asks for the thread's begin, its end or a tick.
 
-abbrev IsNoBegin : Request → Type 0
-IsNoBegin q = is_begin q ≡ false
+abbrev pub is_own : Request → Bool
+is_own (r.Begin l) = true
+is_own (r.End l) = true
+is_own (r.Tick l k) = true
+is_own _ = false
 
-no_begin : (z : State) (line : ℕ) (x : Step) → Requests IsNoBegin z line x
-no_begin z line (s.Read w d) = refl
-no_begin z line (s.ReadCell a n d) = ((λ k l. refl), refl)
-no_begin z line (s.Apply o a b d) = refl
-no_begin z line (s.Write w a) = refl
-no_begin z line (s.WriteCell a n b) = ((λ k l. refl), refl)
-no_begin z line (s.Lock k) = refl
-no_begin z line (s.Unlock k) = refl
-no_begin z line (s.Down k) = refl
-no_begin z line (s.Up k) = refl
-no_begin z line (s.Join a) = refl
-no_begin z line (s.Print a) = refl
-no_begin z line (s.Spawn f n d) = refl
-no_begin z line (s.Call f n) = refl
-no_begin z line _ = tt
+abbrev IsNotOwn : Request → Type 0
+IsNotOwn q = is_own q ≡ false
 
-pub never_begins : (c : Flat) (z : State) (i : Instr) (q : Request) → progress c z i i.step ≡ asks q → is_begin q ≡ false
-never_begins c z i q p =
-    let here : Asked IsNoBegin (asks q) = subst (Asked IsNoBegin) p (progress_asked IsNoBegin c z i i.step (no_begin z i.line i.step)) in
-    here
+not_own : (z : State) (line : ℕ) (x : Step) → Requests IsNotOwn z line x
+not_own z line (s.Read w d) = refl
+not_own z line (s.ReadCell a n d) = ((λ k l. refl), refl)
+not_own z line (s.Apply o a b d) = refl
+not_own z line (s.Write w a) = refl
+not_own z line (s.WriteCell a n b) = ((λ k l. refl), refl)
+not_own z line (s.Lock k) = refl
+not_own z line (s.Unlock k) = refl
+not_own z line (s.Down k) = refl
+not_own z line (s.Up k) = refl
+not_own z line (s.Join a) = refl
+not_own z line (s.Print a) = refl
+not_own z line (s.Spawn f n d) = refl
+not_own z line (s.Call f n) = refl
+not_own z line _ = tt
+
+pub never_own : (c : Flat) (z : State) (i : Instr) (q : Request) → progress c z i i.step ≡ asks q → is_own q ≡ false
+never_own c z i q p = asks_of IsNotOwn c z i q p (not_own z i.line i.step)
+
+-- Another thread is asked for by a spawn or a join.
+
+abbrev StepAsks : Step → Request → Type 0
+StepAsks x (r.Spawn l f vs) = (n : ℕ) × (d : Target) × (x ≡ s.Spawn f n d)
+StepAsks x (r.Join l v) = (a : Operand) × (x ≡ s.Join a)
+StepAsks x _ = Unit {0}
+
+step_asks : (z : State) (line : ℕ) (x : Step) → Requests (StepAsks x) z line x
+step_asks z line (s.Read w d) = tt
+step_asks z line (s.ReadCell a n d) = ((λ k l. tt), tt)
+step_asks z line (s.Apply o a b d) = tt
+step_asks z line (s.Write w a) = tt
+step_asks z line (s.WriteCell a n b) = ((λ k l. tt), tt)
+step_asks z line (s.Lock k) = tt
+step_asks z line (s.Unlock k) = tt
+step_asks z line (s.Down k) = tt
+step_asks z line (s.Up k) = tt
+step_asks z line (s.Join a) = (a, refl)
+step_asks z line (s.Print a) = tt
+step_asks z line (s.Spawn f n d) = (n, d, refl)
+step_asks z line (s.Call f n) = tt
+step_asks z line _ = tt
+
+asked_in : (c : Flat) (at : ℕ) (i : Instr) (q : Request) → slice_get c.code at ≡ Some i → StepAsks i.step q → IsAskedIn c q
+asked_in c at i (r.Begin l) there h = tt
+asked_in c at i (r.End l) there h = tt
+asked_in c at i (r.Trap l n) there h = tt
+asked_in c at i (r.Read l w) there h = tt
+asked_in c at i (r.Write l w v) there h = tt
+asked_in c at i (r.Lock l m) there h = tt
+asked_in c at i (r.Unlock l m) there h = tt
+asked_in c at i (r.Down l x) there h = tt
+asked_in c at i (r.Up l x) there h = tt
+asked_in c at i (r.Spawn l f vs) there h = (at, i, there, h.0, h.1, h.2)
+asked_in c at i (r.Join l v) there h = (at, i, there, h.0, h.1)
+asked_in c at i (r.Print l v) there h = tt
+asked_in c at i (r.Tick l k) there h = tt
+
+pub asks_in : (c : Flat) (z : State) (i : Instr) (q : Request) → slice_get c.code z.at ≡ Some i → progress c z i i.step ≡ asks q → IsAskedIn c q
+asks_in c z i q there p = asked_in c z.at i q there (asks_of (StepAsks i.step) c z i q p (step_asks z i.line i.step))

@@ -13,3 +13,8 @@ pub mod Tells
 pub mod Ticks
 pub mod Turns
 pub mod Entrances
+pub mod Wanted
+pub mod Replies
+pub mod Answered
+pub mod Followed
+pub mod Resumed

@@ -1,5 +1,5 @@
 -- What an answer does to a thread.
-use Rattle.std.specs.Prelude.{ℕ, Bool, true, false, ℤ, pos, Option, Some, None, slice_get, if◌then◌else◌}
+use Rattle.std.specs.Prelude.{ℕ, ◌≡◌, ◌<◌, Bool, true, false, List, length, ℤ, pos, Option, Some, None, slice_get, if◌then◌else◌}
 use Rattle.loom_flow.specs.declared.code.Instr.{Instr}
 use Rattle.loom_flow.specs.declared.code.Entrance.{Entrance}
 use Rattle.loom_trace.specs.declared.entry.Entry.{Entry}
@@ -7,10 +7,12 @@ use Rattle.loom_trace.specs.declared.entry.Entry.TheVariants as e
 use Rattle.loom_trace.specs.declared.request.Request.{Request}
 use Rattle.loom_trace.specs.declared.request.Request.TheVariants as r
 use Rattle.loom_strand.specs.declared.stage.Birth.{Birth}
+use Rattle.loom_strand.specs.declared.stage.Stage.{Stage}
+use Rattle.loom_strand.specs.declared.stage.Stage.TheVariants as stage
 use Rattle.loom_strand.specs.declared.reply.Reply.{Reply}
 use Rattle.loom_strand.specs.declared.reply.Reply.TheVariants as reply
 use Rattle.loom_strand.specs.Machine.{answered}
-use Rattle.loom_strand.specs.Held.{Held, holding, at_start}
+use Rattle.loom_strand.specs.Held.{Held, holding, blank, at_start}
 
 abbrev pub is_trap : Entry → Bool
 is_trap (e.Trap t l n) = true
@@ -54,3 +56,17 @@ begun m b (Some e) = holding m (at_start b.func e b.args)
 abbrev pub taken : Held → ℤ → Option Instr → Held
 taken m v None = m
 taken m v (Some i) = holding m (answered m.state i.step v)
+
+-- The machine can take the answer.
+abbrev pub CanFollow : Held → Reply → Type 0
+CanFollow m (reply.Begins b) = m.state ≡ blank
+CanFollow m (reply.Gives v) = length m.state.values < m.most_values
+CanFollow m _ = Unit {0}
+
+-- What follows an answer: the machine, how far the thread is, and how many places it passed since its last entry.
+abbrev pub Follows : List Entrance → List Instr → Held → Held → ℕ → Reply → Stage → ℕ → Type 0
+Follows es is old new n (reply.Begins b) x k = (new ≡ begun old b (slice_get es b.func)) × (x ≡ stage.Runs) × (k ≡ 1)
+Follows es is old new n reply.Ticks x k = (new ≡ old) × (x ≡ stage.Runs) × (k ≡ n)
+Follows es is old new n (reply.Gives v) x k = (new ≡ taken old v (slice_get is old.state.at)) × (x ≡ stage.Runs) × (k ≡ 0)
+Follows es is old new n reply.Traps x k = (new ≡ old) × (x ≡ stage.Stops) × (k ≡ n)
+Follows es is old new n reply.Ends x k = (new ≡ old) × (x ≡ stage.Over) × (k ≡ n)

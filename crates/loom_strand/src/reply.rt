@@ -1,12 +1,12 @@
 //! What an answer does to a thread.
 ghost use Rattle.std.specs.Prelude.{◌≡◌, ◌<◌, length, slice_get};
 ghost use Rattle.loom_strand.specs.Held.{blank};
-ghost use Rattle.loom_strand.specs.Replied.{is_trap, value_given, begins, granted_reply, reply_of, begun, taken};
+ghost use Rattle.loom_strand.specs.Replied.{is_trap, value_given, begins, granted_reply, reply_of, begun, taken, CanFollow, Follows};
 
 use crate::machine::Machine;
-use crate::progress::{answer, entrance_of};
-use crate::stage::Birth;
-use loom_flow::flow::Flow;
+use crate::progress::answer;
+use crate::stage::{Birth, Stage};
+use loom_flow::code::{Entrance, Instr};
 use loom_trace::entry::Entry;
 use loom_trace::request::Request;
 
@@ -88,22 +88,49 @@ pub(crate) fn reply_of(birth: Option<Birth>, wanted: Option<Request>, e: &Entry)
     }
 }
 
-/// To the start of the thread's function.
-pub(crate) fn begin(machine: &mut Machine, flow: &Flow, birth: Birth)
+// To the start of the thread's function.
+#[tactic(auto, using(std::proofs::lemmas::Option::slice_get_cases))]
+fn begin(machine: &mut Machine, entrances: &[Entrance], birth: Birth)
     requires { machine.old.state ≡ blank }
-    ensures { machine.new ≡ begun machine.old birth (slice_get flow.now.entrances birth.func) }
+    ensures { machine.new ≡ begun machine.old birth (slice_get entrances.now birth.func) }
 {
-    if let Some(entrance) = entrance_of(flow, birth.func) {
-        machine.begin(birth.func, entrance, birth.args);
+    if let Some(entrance) = entrances.get(birth.func as usize) {
+        machine.begin(birth.func, *entrance, birth.args);
     }
 }
 
-/// Behind the answer to what the instruction asked for.
-pub(crate) fn take(machine: &mut Machine, flow: &Flow, value: i64)
+// Behind the answer to what the instruction asked for.
+fn take(machine: &mut Machine, code: &[Instr], value: i64)
     requires { length machine.old.state.values < machine.old.most_values }
-    ensures { machine.new ≡ taken machine.old value (slice_get flow.now.code machine.old.state.at) }
+    ensures { machine.new ≡ taken machine.old value (slice_get code.now machine.old.state.at) }
 {
-    if let Some(i) = flow.code().get(machine.at()) {
+    if let Some(i) = code.get(machine.at()) {
         answer(machine, i.step, value);
+    }
+}
+
+/// What an answer leaves: how far the thread is, and how many places it passed since its last entry.
+pub(crate) fn follow(
+    machine: &mut Machine,
+    entrances: &[Entrance],
+    code: &[Instr],
+    reply: Reply,
+    passed: u32,
+) -> (Stage, u32)
+    requires { CanFollow machine.old reply }
+    ensures { Follows entrances.now code.now machine.old machine.new passed reply result.0 result.1 }
+{
+    match reply {
+        Reply::Begins(birth) => {
+            begin(machine, entrances, birth);
+            (Stage::Runs, 1)
+        }
+        Reply::Ticks => (Stage::Runs, passed),
+        Reply::Gives(value) => {
+            take(machine, code, value);
+            (Stage::Runs, 0)
+        }
+        Reply::Traps => (Stage::Stops, passed),
+        Reply::Ends => (Stage::Over, passed),
     }
 }

@@ -8,7 +8,7 @@ ghost use Rattle.loom_strand.specs.Strand.{IsNew, IsSame, IsStarted, HasPart, Wa
 
 use crate::machine::Machine;
 use crate::progress::entrance_of;
-use crate::reply::{Reply, begin, reply_of, take};
+use crate::reply::{follow, reply_of};
 use crate::run::run;
 use crate::stage::{Birth, Stage, Want};
 use crate::turn::Stop;
@@ -172,20 +172,16 @@ impl Strand {
         ensures same { IsSame self.old self.old.birth (self.old.entries ++ e ∷ []) self.new }
         ensures part { HasPart self.new self.new.birth }
     {
-        match reply_of(self.birth, self.wanted, &e) {
-            Reply::Begins(birth) => {
-                begin(&mut self.machine, flow, birth);
-                self.stage = Stage::Runs;
-                self.passed = 1;
-            }
-            Reply::Ticks => {}
-            Reply::Gives(value) => {
-                take(&mut self.machine, flow, value);
-                self.passed = 0;
-            }
-            Reply::Traps => self.stage = Stage::Stops,
-            Reply::Ends => self.stage = Stage::Over,
-        }
+        let reply = reply_of(self.birth, self.wanted, &e);
+        let (stage, passed) = follow(
+            &mut self.machine,
+            flow.entrances(),
+            flow.code(),
+            reply,
+            self.passed,
+        );
+        self.stage = stage;
+        self.passed = passed;
         self.wanted = None;
         self.entries.push_reserved(e);
     }

@@ -14,9 +14,9 @@ use crate::command::command_of;
 use crate::run::run;
 use crate::status::Status;
 use crate::write::put_journal;
+use loom_flow::lower::lower;
 use loom_io::shelf::{Shelf, ShelfError};
 use loom_io::sink::{Sink, SinkFailed};
-use loom_flow::lower::lower;
 use loom_io::whole::put_all;
 use loom_lang::parse::{LangError, parse_program};
 use loom_trace::entry::Ending;
@@ -124,7 +124,12 @@ fn answer<F: Shelf, K: Sink>(alloc: Global, words: &[&str], shelf: &mut F, sink:
     };
     match shelf.read(alloc, command.name, SOURCE_LIMIT) {
         Err(ShelfError::NoMemory) => put_text(sink, b"no memory\n", Status::NoMemory),
-        Err(ShelfError::Failed) => put_named(sink, b"read fault: ", command.name, Status::ReadFault),
+        Err(ShelfError::Failed) => put_named(
+            sink,
+            b"read fault: ",
+            command.name,
+            Status::ReadFault,
+        ),
         Ok(file) => {
             if file.bytes().len() > SOURCE_LIMIT {
                 put_named(sink, b"too long: ", command.name, Status::TooLong)

@@ -43,8 +43,8 @@ answered s words text owed result o (inl h) =
     whole status.Limit k = (text, k, h.1)
     whole status.TooLong k = (text, k, h.1)
 
-pub owes_file : (s : Seen) (words : List (List ℕ)) (a : Command) (file text : List ℕ) (owed : Status) → IsCommand words a → IsFileOf s a.name file → length file ≤ source_limit
-    → FileOwes file a.limit owed text → Owes s words owed text
+pub owes_file : (s : Seen) (words : List (List ℕ)) (a : Command) (file text : List ℕ) (owed : Status) → IsCommand words a → IsFileOf s a.name file
+    → length file ≤ source_limit → FileOwes file a.limit owed text → Owes s words owed text
 owes_file s words a file text status.Done c t l o = (a, c, file, t, l, o)
 owes_file s words a file text status.Limit c t l o = (a, c, file, t, l, o)
 owes_file s words a file text status.Refused c t l o = (a, c, file, t, l, o)
@@ -67,18 +67,19 @@ pub long_file : (told : Option (List ℕ)) (bytes : List ℕ) → WasRead told b
 long_file None bytes h l = (bytes, tt, l)
 long_file (Some file) bytes h l = (file, refl, omega (arith, ap length h, l, length-take 65537 file))
 
-pub long_owes : (s : Seen) (words : List (List ℕ)) (a : Command) (bytes : List ℕ) → IsCommand words a → WasRead (s.told a.name) bytes → source_limit < length bytes
-    → Owes s words status.TooLong (codes "too long: " ++ (a.name ++ codes "\n"))
+pub long_owes : (s : Seen) (words : List (List ℕ)) (a : Command) (bytes : List ℕ) → IsCommand words a → WasRead (s.told a.name) bytes
+    → source_limit < length bytes → Owes s words status.TooLong (codes "too long: " ++ (a.name ++ codes "\n"))
 long_owes s words a bytes c r l =
     let f = long_file (s.told a.name) bytes r l in
     (a, c, f.0, f.1, f.2, refl)
 
-pub long_answered : (s : Seen) (words : List (List ℕ)) (a : Command) (bytes : List ℕ) (result : Status) → IsCommand words a → WasRead (s.told a.name) bytes → source_limit < length bytes
-    → Put s.taken_before s.taken_after s.sink_before s.sink_after (codes "too long: " ++ (a.name ++ codes "\n")) status.TooLong result → Answers s words result
-long_answered s words a bytes result c r l put = answered s words (codes "too long: " ++ (a.name ++ codes "\n")) status.TooLong result (long_owes s words a bytes c r l) put
+pub long_answered : (s : Seen) (words : List (List ℕ)) (a : Command) (bytes : List ℕ) (result : Status) → IsCommand words a → WasRead (s.told a.name) bytes
+    → source_limit < length bytes → Put s.taken_before s.taken_after s.sink_before s.sink_after (codes "too long: " ++ (a.name ++ codes "\n")) status.TooLong result → Answers s words result
+long_answered s words a bytes result c r l put =
+    answered s words (codes "too long: " ++ (a.name ++ codes "\n")) status.TooLong result (long_owes s words a bytes c r l) put
 
-pub file_answered : (s : Seen) (words : List (List ℕ)) (a : Command) (bytes : List ℕ) (result : Status) → IsCommand words a → WasRead (s.told a.name) bytes → length bytes ≤ source_limit
-    → FileEnds bytes a.limit s.taken_before s.taken_after s.sink_before s.sink_after result → Answers s words result
+pub file_answered : (s : Seen) (words : List (List ℕ)) (a : Command) (bytes : List ℕ) (result : Status) → IsCommand words a → WasRead (s.told a.name) bytes
+    → length bytes ≤ source_limit → FileEnds bytes a.limit s.taken_before s.taken_after s.sink_before s.sink_after result → Answers s words result
 file_answered s words a bytes result c r l e =
     answered s words e.1 e.0 result (owes_file s words a bytes e.1 e.0 c (whole_file (s.told a.name) bytes r l) l e.2) e.3
 
@@ -99,11 +100,17 @@ run_owes file limit p journal k.Stopped c r = absurd (other_end k.Stopped (λ e.
 pub one_name : (words : List (List ℕ)) (a b : Command) → IsCommand words a → IsCommand words b → a.name ≡ b.name
 one_name words a b h k = by_forms h.form k.form
   where
+    plain : Command → List (List ℕ)
+    plain c = codes "run" ∷ c.name ∷ []
+
+    limited : Command → List (List ℕ)
+    limited c = codes "run" ∷ c.name ∷ codes "--steps" ∷ decimal c.limit ∷ []
+
     by_forms : IsPlain words a ⊎ IsLimited words a → IsPlain words b ⊎ IsLimited words b → a.name ≡ b.name
-    by_forms (inl x) (inl y) = let e : codes "run" ∷ a.name ∷ [] ≡ codes "run" ∷ b.name ∷ [] = sym x.is ∙ y.is in cc
-    by_forms (inl x) (inr y) = let e : codes "run" ∷ a.name ∷ [] ≡ codes "run" ∷ b.name ∷ codes "--steps" ∷ decimal b.limit ∷ [] = sym x.is ∙ y.is in cc
-    by_forms (inr x) (inl y) = let e : codes "run" ∷ a.name ∷ codes "--steps" ∷ decimal a.limit ∷ [] ≡ codes "run" ∷ b.name ∷ [] = sym x.is ∙ y.is in cc
-    by_forms (inr x) (inr y) = let e : codes "run" ∷ a.name ∷ codes "--steps" ∷ decimal a.limit ∷ [] ≡ codes "run" ∷ b.name ∷ codes "--steps" ∷ decimal b.limit ∷ [] = sym x.is ∙ y.is in cc
+    by_forms (inl x) (inl y) = let e : plain a ≡ plain b = sym x.is ∙ y.is in cc
+    by_forms (inl x) (inr y) = let e : plain a ≡ limited b = sym x.is ∙ y.is in cc
+    by_forms (inr x) (inl y) = let e : limited a ≡ plain b = sym x.is ∙ y.is in cc
+    by_forms (inr x) (inr y) = let e : limited a ≡ limited b = sym x.is ∙ y.is in cc
 
 pub told_one : (s : Seen) (a b : List ℕ) (file : List ℕ) (P : List ℕ → Type 0) → a ≡ b → s.told b ≡ Some file → IfSome (s.told a) P → P file
 told_one s a b file P e is h =

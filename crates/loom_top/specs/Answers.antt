@@ -67,15 +67,21 @@ FileOwes file limit _ text = ⊥
 abbrev pub IsFileOf : Seen → List ℕ → List ℕ → Type 0
 IsFileOf s name file = IfSome (s.told name) (λ told. told ≡ file)
 
+-- The same, where the words ask for a run of a file that the shelf tells, and it is no longer than a program may be.
+abbrev pub CommandOwes : Seen → List (List ℕ) → Status → List ℕ → Type 0
+CommandOwes s words x text = (c : Command) × IsCommand words c × (file : List ℕ) × IsFileOf s c.name file × (length file ≤ source_limit) × FileOwes file c.limit x text
+
 -- What the call is to write, and with which status. It tests the words, the read, the length, the program and the run, in this order.
 abbrev pub Owes : Seen → List (List ℕ) → Status → List ℕ → Type 0
 Owes s words status.Usage text = ((c : Command) → IsCommand words c → ⊥) × (text ≡ codes "usage\n")
-Owes s words status.ReadFault text = (c : Command) × IsCommand words c × Rose (s.faults_before c.name) (s.faults_after c.name) × (text ≡ codes "read fault: " ++ (c.name ++ codes "\n"))
-Owes s words status.TooLong text = (c : Command) × IsCommand words c × (file : List ℕ) × IsFileOf s c.name file × (source_limit < length file) × (text ≡ codes "too long: " ++ (c.name ++ codes "\n"))
-Owes s words status.Refused text = (c : Command) × IsCommand words c × (file : List ℕ) × IsFileOf s c.name file × (length file ≤ source_limit) × FileOwes file c.limit status.Refused text
+Owes s words status.ReadFault text =
+    (c : Command) × IsCommand words c × Rose (s.faults_before c.name) (s.faults_after c.name) × (text ≡ codes "read fault: " ++ (c.name ++ codes "\n"))
+Owes s words status.TooLong text =
+    (c : Command) × IsCommand words c × (file : List ℕ) × IsFileOf s c.name file × (source_limit < length file) × (text ≡ codes "too long: " ++ (c.name ++ codes "\n"))
+Owes s words status.Refused text = CommandOwes s words status.Refused text
 Owes s words status.NoMemory text = (c : Command) × IsCommand words c × (text ≡ codes "no memory\n")
-Owes s words status.Done text = (c : Command) × IsCommand words c × (file : List ℕ) × IsFileOf s c.name file × (length file ≤ source_limit) × FileOwes file c.limit status.Done text
-Owes s words status.Limit text = (c : Command) × IsCommand words c × (file : List ℕ) × IsFileOf s c.name file × (length file ≤ source_limit) × FileOwes file c.limit status.Limit text
+Owes s words status.Done text = CommandOwes s words status.Done text
+Owes s words status.Limit text = CommandOwes s words status.Limit text
 Owes s words status.WriteFault text = ⊥
 
 -- What a call did: it wrote all that it was to write, or the sink failed behind a front of that.

@@ -1,9 +1,3 @@
-pub mod Facts
-pub mod Traced
-pub mod Replayed
-pub mod Whole
-pub mod Coded
-pub mod Few
 pub mod Words
 pub mod Written
 pub mod Top

@@ -1,41 +1,28 @@
--- The forms that can be run so far: plain words, and one function of assignments and prints of sums.
-use Rattle.std.specs.Prelude.{Bool, true, false, ◌&&◌, is_none, List, [], ◌∷◌}
-use Rattle.loom_tree.specs.declared.item.Word.{Word}
-use Rattle.loom_tree.specs.declared.expression.Op.{Op}
-use Rattle.loom_tree.specs.declared.expression.Op.TheVariants as o
-use Rattle.loom_tree.specs.Tree.{Expression, num, var, bin, Right, Simple, set, print, Body, end, simple, Function, Source}
+-- The programs that can be run so far: those of one thread.
+use Rattle.std.specs.Prelude.{Bool, true, false, ◌&&◌, List, [], ◌∷◌}
+use Rattle.loom_tree.specs.Tree.{Source}
+use Rattle.loom_flow.specs.declared.code.Step.{Step}
+use Rattle.loom_flow.specs.declared.code.Step.TheVariants as s
+use Rattle.loom_flow.specs.declared.code.Instr.{Instr}
+use Rattle.loom_flow.specs.Lowered.{lowered}
 
-abbrev pub builds_op : Op → Bool
-builds_op o.Add = true
-builds_op _ = false
+-- whether an instruction asks for no mutex, no semaphore and no other thread
+abbrev pub runs_alone : Step → Bool
+runs_alone (s.Lock m) = false
+runs_alone (s.Unlock m) = false
+runs_alone (s.Down x) = false
+runs_alone (s.Up x) = false
+runs_alone (s.Join a) = false
+runs_alone (s.Spawn f n d) = false
+runs_alone _ = true
 
-abbrev pub builds_expression : Expression → Bool
-builds_expression (num n) = true
-builds_expression (var x) = true
-builds_expression (bin o a b) = builds_op o && (builds_expression a && builds_expression b)
-builds_expression _ = false
-
-abbrev pub builds_simple : Simple Expression → Bool
-builds_simple (set x (Right.value e)) = builds_expression e
-builds_simple (print e) = builds_expression e
-builds_simple _ = false
-
-abbrev pub builds_body : Body → Bool
-builds_body end = true
-builds_body (simple l s rest) = builds_simple s && builds_body rest
-builds_body _ = false
-
-abbrev pub builds_words : List Word → Bool
-builds_words [] = true
-builds_words (w ∷ ws) = is_none w.cells && builds_words ws
-
-abbrev pub builds_functions : List Function → Bool
-builds_functions (f ∷ []) = builds_body f.body
-builds_functions _ = false
+abbrev pub all_alone : List Instr → Bool
+all_alone [] = true
+all_alone (i ∷ is) = runs_alone i.step && all_alone is
 
 abbrev pub is_nil : {A : Type 0} → List A → Bool
 is_nil [] = true
 is_nil (x ∷ xs) = false
 
 abbrev pub is_built : Source → Bool
-is_built p = builds_words p.words && (is_nil p.mutexes && (is_nil p.semas && builds_functions p.funcs))
+is_built p = is_nil p.mutexes && (is_nil p.semas && all_alone (lowered p).code)

@@ -1,6 +1,4 @@
 pub mod Built
-pub mod Plain
-pub mod Kinds
 pub mod Command
 pub mod Code
 pub mod Answers

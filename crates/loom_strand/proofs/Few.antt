@@ -12,7 +12,7 @@ use Rattle.loom_flow.proofs.Forward.{lawful_at}
 use Rattle.loom_flow.proofs.Numbered.{lowered_numbers}
 use Rattle.loom_strand.specs.Turned.{HasFewArguments}
 
-few_params : (p : Source) (f n : ℕ) → IsLawful p → HasParams p f n → n ≤ 4
+pub few_params : (p : Source) (f n : ℕ) → IsLawful p → HasParams p f n → n ≤ 4
 few_params p f n l h =
     let few : length h.0.params ≤ 4 = (lawful_at p p.funcs f h.0 l.functions h.1).params in
     let same : n ≡ length h.0.params = h.2 in

@@ -213,3 +213,10 @@ can_answer s o None x h e w a = absurd a
 can_answer s None (Some q) x h e w a =
     let none : ◌≡◌ {A = Option Request} None (Some q) = sym (no_birth s s.inside.stage (subst (IsAt s.inside.stage s) e h.stage)) ∙ w in absurd (let z : ⊥ = cc in z)
 can_answer s (Some b) (Some q) x h e w a = can_at s b q x s.inside.stage w a h.room (subst (IsAt s.inside.stage s) e h.stage)
+
+-- Only a thread that was started has a request.
+pub answer_started : (s : Strand) (o : Option Birth) (wanted : Option Request) (x : Entry) → IsKept s → s.birth ≡ o → s.wanted ≡ wanted → IsAnswer s.thread wanted x → IsStarted o
+answer_started s o None x h e w a = absurd a
+answer_started s None (Some q) x h e w a =
+    let none : ◌≡◌ {A = Option Request} None (Some q) = sym (no_birth s s.inside.stage (subst (IsAt s.inside.stage s) e h.stage)) ∙ w in absurd (let z : ⊥ = cc in z)
+answer_started s (Some b) (Some q) x h e w a = tt

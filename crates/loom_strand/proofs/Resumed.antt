@@ -1,6 +1,6 @@
 -- What a thread keeps behind a private run.
 use Rattle.std.proofs.Common.{ℕ, suc, ◌≡◌, ◌<◌, Bool, true, false, List, [], ◌∷◌, ◌++◌, ℤ, Option, Some, None, refl, inl, inr, sym, ap, subst, ◌∙◌, slice_get, length, append-nil, arith}
-use Rattle.std.specs.Prelude.{option_map}
+use Rattle.std.specs.Prelude.{option_map, is_some}
 use Rattle.std.proofs.lemmas.Option.{slice_get_within}
 use Rattle.loom_tree.specs.Tree.{Source}
 use Rattle.loom_lang.specs.Rules.{IsLawful}
@@ -105,6 +105,10 @@ come_stopping p t b es n line old h g is = record {
   begun = h.begun;
   lives = h.lives;
 }
+
+pub nothing_wanted : (wanted : Option Request) → is_some wanted ≡ false → wanted ≡ None
+nothing_wanted None e = refl
+nothing_wanted (Some q) e = cc
 
 -- A thread that runs, and has no request.
 pub record IsFree (c : Flat) (s : Strand) (b : Birth) : Type 0 where

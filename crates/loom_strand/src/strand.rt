@@ -113,6 +113,7 @@ impl Strand {
         requires function { IsFunctionWith self.old.program func args.now }
         ensures { IsSame self.old (Some (record { func = func; args = args.now })) [] self.new }
     {
+        let _ = &self.program;
         let args = args_of(args);
         self.birth = Some(Birth { func, args });
     }
@@ -125,23 +126,23 @@ impl Strand {
         ensures same { IsSame self.old self.old.birth self.old.entries self.new }
         ensures wants { Wants self.new self.new.birth result }
     {
-        if self.wanted.is_none() {
-            self.go_on(flow);
-        }
+        self.go_on(flow);
         match self.wanted {
             Some(request) => Want::Ask(request),
             None => Want::Ended,
         }
     }
 
-    // Up to the next request.
+    // Up to the next request, unless one waits for its answer.
     fn go_on(&mut self, flow: &Flow)
         requires started { IsStarted self.old.birth }
         requires program { flow.now.program ≡ self.old.program }
-        requires answered { self.old.wanted ≡ None }
         ensures same { IsSame self.old self.old.birth self.old.entries self.new }
         ensures over { self.new.wanted ≡ None → self.new.inside.stage ≡ stage.Over }
     {
+        if self.wanted.is_some() {
+            return;
+        }
         let Some(birth) = self.birth else {
             return;
         };

@@ -15,7 +15,7 @@ use Rattle.loom_law.specs.Run.{IsTraced, IsThreadTraced, AreRun}
 use Rattle.loom_law.specs.Part.{IsPart}
 use Rattle.loom_law.specs.Lawful.{thread_of, is_some_thread, thread_entries, last_thread_entry, stops_at, is_over, is_at_limit, AllEnded, part_of, HasPart, Ends, Stands, IsLawful}
 use Rattle.loom_strand.specs.Next.{has_none, has_ended, IsEnded}
-use Rattle.loom_top.specs.Run.{never, IsRunOf}
+use Rattle.loom_top.specs.Answers.{never, IsRunOf}
 use Rattle.loom_top.specs.Driven.{events_of, is_own, all_own, alone, IsDriven}
 use Rattle.loom_top.proofs.Own.{all_told, own_entries, own_part, other_part, other_deeds, acts_told}
 

@@ -17,7 +17,7 @@ use Rattle.loom_strand.specs.declared.stage.Want.TheVariants as want
 use Rattle.loom_strand.specs.Next.{IsAskedIn, IsEnded, is_begin, has_none, has_ended}
 use Rattle.loom_strand.specs.Strand.{Strand, IsNew, IsSame, HasPart, AsksFor, IsOver, Wants}
 use Rattle.loom_top.specs.Built.{is_built}
-use Rattle.loom_top.specs.Run.{IsRunOf}
+use Rattle.loom_top.specs.Answers.{IsRunOf}
 use Rattle.loom_top.specs.Turn.{AsksAlone, IsGranted}
 use Rattle.loom_top.specs.Driven.{IsUnderWay}
 use Rattle.loom_top.proofs.Begun.{first_driven, first_part}

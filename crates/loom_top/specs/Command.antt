@@ -1,12 +1,36 @@
 -- The words of a command.
-use Rattle.std.specs.Prelude.{ℕ, ◌≡◌, ◌≢◌, List, [], ◌∷◌, codes}
+use Rattle.std.specs.Prelude.{ℕ, ◌≡◌, ◌≢◌, ◌≤◌, ◌⊎◌, List, [], ◌∷◌, codes}
+use Rattle.loom_tree.specs.Decimal.{decimal}
+
+-- what the words ask for: a run of the file of this name, of at most so many thread entries
+pub record Command : Type 0 where
+  pub name : List ℕ
+  pub limit : ℕ
+
+-- the limit where the words give none, and the largest that they may give
+abbrev pub default_limit : ℕ
+default_limit = 100000
+
+abbrev pub largest_limit : ℕ
+largest_limit = 1000000
 
 -- A file's name isn't empty and doesn't begin with `-`.
 abbrev pub IsFileName : List ℕ → Type 0
 IsFileName [] = ⊥
 IsFileName (b ∷ bs) = b ≢ 45
 
--- the words ask for a run of this file
-pub record IsCommand (words : List (List ℕ)) (name : List ℕ) : Type 0 where
-  pub is : words ≡ codes "run" ∷ name ∷ []
-  pub named : IsFileName name
+-- `run PROG`
+pub record IsPlain (words : List (List ℕ)) (c : Command) : Type 0 where
+  pub is : words ≡ codes "run" ∷ c.name ∷ []
+  pub limit : c.limit ≡ default_limit
+
+-- `run PROG --steps B`, with B in decimal
+pub record IsLimited (words : List (List ℕ)) (c : Command) : Type 0 where
+  pub is : words ≡ codes "run" ∷ c.name ∷ codes "--steps" ∷ decimal c.limit ∷ []
+  pub least : 1 ≤ c.limit
+  pub most : c.limit ≤ largest_limit
+
+-- the words ask for this
+pub record IsCommand (words : List (List ℕ)) (c : Command) : Type 0 where
+  pub form : IsPlain words c ⊎ IsLimited words c
+  pub named : IsFileName c.name

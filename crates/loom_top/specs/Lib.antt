@@ -1,5 +1,4 @@
 pub mod Built
-pub mod Run
 pub mod Turn
 pub mod Driven
 pub mod Command

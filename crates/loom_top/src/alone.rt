@@ -5,19 +5,21 @@ ghost use Rattle.loom_io.specs.Causes.{Rose, TookFront};
 ghost use Rattle.loom_trace.specs.Text.{journal_text};
 ghost use Rattle.loom_tree.specs.Tree.{Source};
 ghost use Rattle.loom_top.specs.declared.status.Status.{Status};
-ghost use Rattle.loom_top.specs.Code.{code};
-ghost use Rattle.loom_top.specs.Answers.{CanRun, IsDone, Put, FileEnds, Answers, IsValid};
+ghost use Rattle.loom_top.specs.Code.{code, ended_as};
+ghost use Rattle.loom_top.specs.Answers.{CanRun, IsRunOf, Put, FileEnds, Answers, IsValid};
 
 use crate::built::is_built;
-use crate::code::code_of;
-use crate::command::program_name;
+use crate::code::{code_of, status_of};
+use crate::command::command_of;
 use crate::run::run;
 use crate::status::Status;
 use crate::write::put_journal;
+use loom_flow::lower::lower;
 use loom_io::shelf::{Shelf, ShelfError};
 use loom_io::sink::{Sink, SinkFailed};
 use loom_io::whole::put_all;
 use loom_lang::parse::{LangError, parse_program};
+use loom_trace::entry::Ending;
 use loom_trace::journal::Journal;
 use std::alloc::Global;
 
@@ -57,27 +59,30 @@ fn put_named<K: Sink>(sink: &mut K, before: &[u8], name: &str, owed: Status) -> 
     }
 }
 
-// The same of a journal's text.
-fn put_run<K: Sink>(sink: &mut K, journal: &Journal) -> Status
+// The same of the text of a run's journal.
+fn put_run<K: Sink>(sink: &mut K, journal: &Journal, ending: Ending) -> Status
     ensures later { K.faults sink.old ≤ K.faults sink.new }
-    ensures put { Put (K.taken sink.old) (K.taken sink.new) (K.faults sink.old) (K.faults sink.new) (journal_text journal.now.entries) Status.Done result }
+    ensures put { Put (K.taken sink.old) (K.taken sink.new) (K.faults sink.old) (K.faults sink.new) (journal_text journal.now.entries) (ended_as ending) result }
 {
     match put_journal(sink, journal) {
-        Ok(()) => Status::Done,
+        Ok(()) => status_of(ending),
         Err(_) => Status::WriteFault,
     }
 }
 
-// The journal of the program that the bytes are.
-fn journal_of(alloc: Global, file: &[u8]) -> Result<Journal, LangError>
-    requires { length file.now ≤ 65536 }
-    ensures done { IfOk result (λ j. (p : Source) × CanRun file.now p × IsDone p j.entries) }
+// The run of the program that the bytes are, with at most `limit` entries of its thread.
+fn run_of(alloc: Global, file: &[u8], limit: u32) -> Result<(Journal, Ending), LangError>
+    requires small { length file.now ≤ 65536 }
+    requires least { 1 ≤ limit }
+    requires limit { limit ≤ 1000000 }
+    ensures ran { IfOk result (λ r. (p : Source) × CanRun file.now p × IsRunOf p limit r.1 r.0.entries) }
     ensures refused { result ≡ Err LangError.Refused → (p : Source) → CanRun file.now p → ⊥ }
 {
     match parse_program(alloc, file) {
         Ok(program) => {
-            if is_built(&program) {
-                Ok(run(alloc, &program)?)
+            let flow = lower(alloc, &program)?;
+            if is_built(&flow) {
+                Ok(run(alloc, &flow, limit)?)
             } else {
                 Err(LangError::Refused)
             }
@@ -87,13 +92,15 @@ fn journal_of(alloc: Global, file: &[u8]) -> Result<Journal, LangError>
 }
 
 // Runs a program's bytes, and writes what its journal says.
-fn run_file<K: Sink>(alloc: Global, file: &[u8], sink: &mut K) -> Status
-    requires { length file.now ≤ 65536 }
+fn run_file<K: Sink>(alloc: Global, file: &[u8], limit: u32, sink: &mut K) -> Status
+    requires small { length file.now ≤ 65536 }
+    requires least { 1 ≤ limit }
+    requires limit { limit ≤ 1000000 }
     ensures later { K.faults sink.old ≤ K.faults sink.new }
-    ensures ends { FileEnds file.now (K.taken sink.old) (K.taken sink.new) (K.faults sink.old) (K.faults sink.new) result }
+    ensures ends { FileEnds file.now limit (K.taken sink.old) (K.taken sink.new) (K.faults sink.old) (K.faults sink.new) result }
 {
-    match journal_of(alloc, file) {
-        Ok(journal) => put_run(sink, &journal),
+    match run_of(alloc, file, limit) {
+        Ok((journal, ending)) => put_run(sink, &journal, ending),
         Err(LangError::Refused) => put_text(sink, b"program refused\n", Status::Refused),
         Err(LangError::NoMemory) => put_text(sink, b"no memory\n", Status::NoMemory),
     }
@@ -112,28 +119,36 @@ fn answer<F: Shelf, K: Sink>(alloc: Global, words: &[&str], shelf: &mut F, sink:
       sink_after = K.faults sink.new;
     }) (map (λ w. w.now) words.now) result }
 {
-    let Some(name) = program_name(words) else {
+    let Some(command) = command_of(words) else {
         return put_text(sink, b"usage\n", Status::Usage);
     };
-    match shelf.read(alloc, name, SOURCE_LIMIT) {
+    match shelf.read(alloc, command.name, SOURCE_LIMIT) {
         Err(ShelfError::NoMemory) => put_text(sink, b"no memory\n", Status::NoMemory),
-        Err(ShelfError::Failed) => put_named(sink, b"read fault: ", name, Status::ReadFault),
+        Err(ShelfError::Failed) => put_named(
+            sink,
+            b"read fault: ",
+            command.name,
+            Status::ReadFault,
+        ),
         Ok(file) => {
             if file.bytes().len() > SOURCE_LIMIT {
-                put_named(sink, b"too long: ", name, Status::TooLong)
+                put_named(sink, b"too long: ", command.name, Status::TooLong)
             } else {
-                run_file(alloc, file.bytes(), sink)
+                run_file(alloc, file.bytes(), command.limit, sink)
             }
         }
     }
 }
 
-/// All that the program does, but for its `main`: runs the program that the words name, `run PROG`, and
-/// writes the text of its journal. What it answers is the status with which the program ends:
+/// All that the program does, but for its `main`: runs the program that the words name, and writes the text of its journal. The words are
+/// `run PROG` or `run PROG --steps B`, where B, from 1 to 1,000,000 in decimal, is how many thread entries the run has at most; without
+/// it they are 100,000. What it answers is the status with which the program ends:
 ///
-/// 0 the run is done and its text was written; 1 the words are no command; 2 the file is no program that
-/// can be run; 4 the shelf could not read the file; 5 the sink could not take the text; 6 memory ran out
-/// before the run began; 10 the file has more than 65,536 bytes.
+/// 0 the run is done and its text was written; 1 the words are no command; 2 the file is no program that can be run; 4 the shelf could not
+/// read the file; 5 the sink could not take the text, and took a front of it; 6 memory ran out before the run began; 8 the run has as many
+/// thread entries as it may have, and its text was written; 10 the file has more than 65,536 bytes.
+///
+/// They are tested in this order: the words, the read, the length, the program, the run, the writing.
 pub fn loom_alone<F: Shelf, K: Sink>(
     alloc: Global,
     words: &[&str],
@@ -159,7 +174,7 @@ pub fn loom_alone<F: Shelf, K: Sink>(
       taken_after = K.taken sink.new;
       sink_before = K.faults sink.old;
       sink_after = K.faults sink.new;
-    }) (map (λ w. w.now) words.now) → (result ≡ 0) ⊎ (result ≡ 6) }
+    }) (map (λ w. w.now) words.now) → (result ≡ 0) ⊎ ((result ≡ 8) ⊎ (result ≡ 6)) }
 {
     code_of(answer(alloc, words, shelf, sink))
 }

@@ -1,8 +1,9 @@
-//! The numbers of the statuses.
+//! The statuses of runs, and the numbers of statuses.
 ghost use Rattle.std.specs.Prelude.{◌≡◌};
-ghost use Rattle.loom_top.specs.Code.{code};
+ghost use Rattle.loom_top.specs.Code.{code, ended_as};
 
 use crate::status::Status;
+use loom_trace::entry::Ending;
 
 /// The number with which the program ends.
 pub fn code_of(status: Status) -> u8
@@ -15,6 +16,17 @@ pub fn code_of(status: Status) -> u8
         Status::ReadFault => 4,
         Status::WriteFault => 5,
         Status::NoMemory => 6,
+        Status::Limit => 8,
         Status::TooLong => 10,
+    }
+}
+
+/// The status of a run that ended like this. A run of one thread is neither stuck nor stopped.
+pub fn status_of(ending: Ending) -> Status
+    ensures { result ≡ ended_as ending }
+{
+    match ending {
+        Ending::Limit => Status::Limit,
+        Ending::Done | Ending::Stuck | Ending::Stopped => Status::Done,
     }
 }

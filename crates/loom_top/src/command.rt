@@ -1,6 +1,23 @@
 //! The words of a command.
-ghost use Rattle.std.specs.Prelude.{◌≡◌, ◌↔◌, List, ℕ, map, IfSome, IfNone, IsTrue};
-ghost use Rattle.loom_top.specs.Command.{IsCommand, IsFileName};
+ghost use Rattle.std.specs.Prelude.{◌≡◌, ◌↔◌, ◌≤◌, List, ℕ, codes, map, IfSome, IfNone, IsTrue};
+ghost use Rattle.loom_tree.specs.Decimal.{decimal};
+ghost use Rattle.loom_top.specs.Command.{Command as Asked, IsCommand, IsFileName};
+
+use loom_trace::line::Line;
+use loom_trace::text::put_printed;
+
+/// How many thread entries a run has at most, where the words don't say it.
+const DEFAULT_LIMIT: u32 = 100_000;
+
+/// The most that they may say.
+const LARGEST_LIMIT: u32 = 1_000_000;
+
+/// A run of the file of this name, of at most so many thread entries.
+#[derive(Clone, Copy, Debug, Drop)]
+pub struct Command<'a> {
+    pub name: &'a str,
+    pub limit: u32,
+}
 
 fn is_file_name(name: &[u8]) -> bool
     ensures { IsTrue result ↔ IsFileName name.now }
@@ -11,19 +28,51 @@ fn is_file_name(name: &[u8]) -> bool
     }
 }
 
-/// The file that the words ask to run.
-pub fn program_name<'a>(words: &[&'a str]) -> Option<&'a str>
-    ensures found { IfSome result (λ name. IsCommand (map (λ w. w.now) words.now) name.now) }
-    ensures none { IfNone result ((name : List ℕ) → IsCommand (map (λ w. w.now) words.now) name → ⊥) }
+// Whether the text is this number in decimal.
+fn is_decimal(text: &str, number: u32) -> bool
+    ensures { IsTrue result ↔ (text.now ≡ decimal number) }
 {
-    match words {
-        [first, name] => {
-            if *first == "run" && is_file_name(name.as_bytes()) {
-                Some(*name)
+    let mut line = Line::new();
+    put_printed(i64::from(number), &mut line);
+    line.bytes() == text.as_bytes()
+}
+
+// The limit that the text gives.
+fn limit_of(text: &str) -> Option<u32>
+    ensures written { IfSome result (λ limit. text.now ≡ decimal limit) }
+    ensures least { IfSome result (λ limit. 1 ≤ limit) }
+    ensures most { IfSome result (λ limit. limit ≤ 1000000) }
+    ensures none { IfNone result ((limit : ℕ) → 1 ≤ limit → limit ≤ 1000000 → text.now ≡ decimal limit → ⊥) }
+{
+    match text.parse::<u32>() {
+        Ok(limit) => {
+            if 1 <= limit && limit <= LARGEST_LIMIT && is_decimal(text, limit) {
+                Some(limit)
             } else {
                 None
             }
         }
-        _ => None,
+        Err(_) => None,
+    }
+}
+
+/// What the words ask for.
+pub fn command_of<'a>(words: &[&'a str]) -> Option<Command<'a>>
+    ensures found { IfSome result (λ c. IsCommand (map (λ w. w.now) words.now) (record { name = c.name.now; limit = c.limit })) }
+    ensures most { IfSome result (λ c. c.limit ≤ 1000000) }
+    ensures least { IfSome result (λ c. 1 ≤ c.limit) }
+    ensures none { IfNone result ((c : Asked) → IsCommand (map (λ w. w.now) words.now) c → ⊥) }
+{
+    let (name, limit) = match words {
+        [first, name] if *first == "run" => (*name, DEFAULT_LIMIT),
+        [first, name, option, digits] if *first == "run" && *option == "--steps" => {
+            (*name, limit_of(digits)?)
+        }
+        _ => return None,
+    };
+    if is_file_name(name.as_bytes()) {
+        Some(Command { name, limit })
+    } else {
+        None
     }
 }

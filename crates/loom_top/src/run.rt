@@ -2,7 +2,7 @@
 ghost use Rattle.std.specs.Prelude.{ℕ, ℤ, ◌≡◌, ◌<◌, ◌≤◌, ◌+◌, ◌++◌, ◌∷◌, [], IfOk, length, slice_get, slice_set, true, Some};
 ghost use Rattle.loom_trace.specs.declared.entry.Entry.TheVariants as e;
 ghost use Rattle.loom_top.specs.Built.{is_built};
-ghost use Rattle.loom_top.specs.Run.{IsRunOf};
+ghost use Rattle.loom_top.specs.Answers.{IsRunOf};
 ghost use Rattle.loom_top.specs.Turn.{AsksAlone, IsGranted};
 ghost use Rattle.loom_top.specs.Driven.{IsUnderWay};
 

@@ -15,6 +15,8 @@ pub enum Status {
     WriteFault,
     /// Memory ran out before the run began.
     NoMemory,
+    /// The run has as many thread entries as it may have, and the text of its journal was written.
+    Limit,
     /// The file has more bytes than a program may have.
     TooLong,
 }

@@ -1,14 +1,13 @@
 //! The top call on shelves and sinks in memory.
 
+mod rows;
+
 use crate::alone::loom_alone;
 use loom_io::memory::{Calls, Files, MemShelf, MemSink};
 use loom_tree::name::{Name, NoMemory};
+use rows::{ROWS, SUM};
 use std::alloc::Global;
 use std::test::Fail;
-
-const SUM: &[u8] = b"fn main() {\n  print 2 + 3;\n}\n";
-
-const SUM_TEXT: &[u8] = b"5\n---\n1:1 begin\n1:2 print 5\n1:1 end\nfinish done\n";
 
 fn shelf_of(alloc: Global, name: &[u8], bytes: &[u8]) -> Result<MemShelf, NoMemory> {
     let mut files = Vec::new(alloc);
@@ -21,46 +20,52 @@ fn shelf_of(alloc: Global, name: &[u8], bytes: &[u8]) -> Result<MemShelf, NoMemo
     })
 }
 
-// What a run of the file `p.lm` with these bytes writes, and its status.
-fn run_of(alloc: Global, bytes: &[u8]) -> Result<(u8, Name), NoMemory> {
+// What the words write where the file `p.lm` has these bytes, and the status.
+fn answer_of(alloc: Global, bytes: &[u8], words: &[&str]) -> Result<(u8, Name), NoMemory> {
     let mut shelf = shelf_of(alloc, b"p.lm", bytes)?;
     let mut sink = MemSink::make(alloc, 4096, 4096)?;
-    let status = loom_alone(alloc, &["run", "p.lm"], &mut shelf, &mut sink);
+    let status = loom_alone(alloc, words, &mut shelf, &mut sink);
     Ok((status, Name::copied(alloc, sink.taken.bytes())?))
 }
 
 #[test]
-fn runs_a_sum(rt: HostRuntime) -> Result<(), Fail> {
-    let (status, text) = run_of(rt.alloc(), SUM)?;
-    assert_eq!(rt; status, 0);
-    assert_eq!(rt; text.bytes(), SUM_TEXT);
-    Ok(())
-}
-
-#[test]
-fn runs_words(rt: HostRuntime) -> Result<(), Fail> {
-    let program = b"shared x = -7; shared y;\nfn main() {\n  y = x + (3 + x);\n  print y;\n}\n";
-    let (status, text) = run_of(rt.alloc(), program)?;
-    assert_eq!(rt; status, 0);
-    let lines: &[u8] =
-        b"-11\n---\n1:2 begin\n1:3 read 0 -7\n1:3 read 0 -7\n1:3 write 1 -11\n1:4 read 1 -11\n1:4 print -11\n1:2 end\nfinish done\n";
-    assert_eq!(rt; text.bytes(), lines);
+fn runs_the_rows(rt: HostRuntime) -> Result<(), Fail> {
+    for (i, row) in ROWS.iter().enumerate() {
+        let (status, text) = answer_of(rt.alloc(), row.program, row.words)?;
+        assert_eq!(rt; status, row.status, "in row {i}");
+        assert_eq!(rt; text.bytes(), row.text, "in row {i}");
+    }
     Ok(())
 }
 
 #[test]
 fn refuses_what_is_no_program(rt: HostRuntime) -> Result<(), Fail> {
     let spaces = vec![in rt.alloc(); b' '; 65536]?;
-    let texts: [&[u8]; 6] = [
+    let texts: [&[u8]; 5] = [
         b"",
         &spaces,
         b"fn main() { print 1 }",
         b"fn main() {\nx = 1;\n}\n",
         b"shared x;\nshared x;\nfn main() {\n}\n",
-        b"fn main() {\nwhile (1) {\nskip;\n}\n}\n",
     ];
     for bytes in texts {
-        let (status, text) = run_of(rt.alloc(), bytes)?;
+        let (status, text) = answer_of(rt.alloc(), bytes, &["run", "p.lm"])?;
+        assert_eq!(rt; status, 2);
+        assert_eq!(rt; text.bytes(), "program refused\n".as_bytes());
+    }
+    Ok(())
+}
+
+#[test]
+fn refuses_more_than_one_thread(rt: HostRuntime) -> Result<(), Fail> {
+    let texts: [&[u8]; 4] = [
+        b"sema s = 1;\nfn main() {\nskip;\n}\n",
+        b"mutex m;\nfn main() {\nlock m;\nunlock m;\n}\n",
+        b"fn f() {\nskip;\n}\nfn main() {\nlet t = spawn f();\njoin t;\n}\n",
+        b"fn main() {\njoin 1;\n}\n",
+    ];
+    for bytes in texts {
+        let (status, text) = answer_of(rt.alloc(), bytes, &["run", "p.lm"])?;
         assert_eq!(rt; status, 2);
         assert_eq!(rt; text.bytes(), "program refused\n".as_bytes());
     }
@@ -70,7 +75,7 @@ fn refuses_what_is_no_program(rt: HostRuntime) -> Result<(), Fail> {
 #[test]
 fn tells_a_long_file(rt: HostRuntime) -> Result<(), Fail> {
     let spaces = vec![in rt.alloc(); b' '; 65537]?;
-    let (status, text) = run_of(rt.alloc(), &spaces)?;
+    let (status, text) = answer_of(rt.alloc(), &spaces, &["run", "p.lm"])?;
     assert_eq!(rt; status, 10);
     assert_eq!(rt; text.bytes(), "too long: p.lm\n".as_bytes());
     Ok(())
@@ -78,19 +83,60 @@ fn tells_a_long_file(rt: HostRuntime) -> Result<(), Fail> {
 
 #[test]
 fn tells_other_words(rt: HostRuntime) -> Result<(), Fail> {
-    let lists: [&[&str]; 6] = [
+    let lists: [&[&str]; 13] = [
         &[],
         &["run"],
         &["run", ""],
         &["run", "-p.lm"],
+        &["run", "-0"],
         &["walk", "p.lm"],
         &["run", "p.lm", "p.lm"],
+        &["run", "p.lm", "--steps"],
+        &["run", "p.lm", "--step", "5"],
+        &["run", "--steps", "5", "p.lm"],
+        &["run", "-p.lm", "--steps", "5"],
+        &["walk", "p.lm", "--steps", "5"],
+        &["run", "p.lm", "--steps", "5", "--steps", "5"],
     ];
     for words in lists {
-        let mut shelf = shelf_of(rt.alloc(), b"p.lm", SUM)?;
-        let mut sink = MemSink::make(rt.alloc(), 100, 100)?;
-        assert_eq!(rt; loom_alone(rt.alloc(), words, &mut shelf, &mut sink), 1);
-        assert_eq!(rt; sink.taken.bytes(), "usage\n".as_bytes());
+        let (status, text) = answer_of(rt.alloc(), SUM, words)?;
+        assert_eq!(rt; status, 1);
+        assert_eq!(rt; text.bytes(), "usage\n".as_bytes());
+    }
+    Ok(())
+}
+
+#[test]
+fn tells_other_limits(rt: HostRuntime) -> Result<(), Fail> {
+    let limits = [
+        "",
+        "0",
+        "01",
+        "+5",
+        "-5",
+        "-0",
+        " 5",
+        "5 ",
+        "5x",
+        "1000001",
+        "4294967301",
+    ];
+    for limit in limits {
+        let (status, text) = answer_of(rt.alloc(), SUM, &["run", "p.lm", "--steps", limit])?;
+        assert_eq!(rt; status, 1, "with {limit}");
+        assert_eq!(rt; text.bytes(), "usage\n".as_bytes());
+    }
+    Ok(())
+}
+
+// The words are tested first: where they are a command, the file is missed.
+#[test]
+fn takes_limits(rt: HostRuntime) -> Result<(), Fail> {
+    for limit in ["1", "9", "10", "100000", "999999", "1000000"] {
+        let words = ["run", "other.lm", "--steps", limit];
+        let (status, text) = answer_of(rt.alloc(), SUM, &words)?;
+        assert_eq!(rt; status, 4, "with {limit}");
+        assert_eq!(rt; text.bytes(), "read fault: other.lm\n".as_bytes());
     }
     Ok(())
 }

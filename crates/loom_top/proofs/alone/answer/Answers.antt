@@ -1,5 +1,6 @@
 use Rattle.std.proofs.Common.{◌≤◌, ◌<◌, map, codes, length, refl, ap, arith}
 use Rattle.loom_top.specs.declared.status.Status.TheVariants as status
+use Rattle.loom_top.specs.Command.{Command}
 use Rattle.loom_top.specs.Answers.{source_limit}
 use Rattle.loom_top.proofs.Top.{answered, file_answered, long_answered}
 use Rattle.loom_top.proofs.alone.answer.Goals as goal
@@ -10,20 +11,26 @@ returns-in_default-clause-answers g c =
 
 pub returns-in-Err-NoMemory-clause-answers : goal.returns-in-Err-NoMemory-clause-answers
 returns-in-Err-NoMemory-clause-answers g c =
-    answered _ (map (λ w. w.now) c.args.words.now) (codes "no memory\n") status.NoMemory c.put_text-in-Err-NoMemory.result (c.in-Some.name.now, c.in-Some.ensures.found, refl) c.put_text-in-Err-NoMemory.ensures.put
+    let asked : Command = record { name = c.in-Some.command.name.now; limit = c.in-Some.command.limit } in
+    answered _ (map (λ w. w.now) c.args.words.now) (codes "no memory\n") status.NoMemory c.put_text-in-Err-NoMemory.result
+    (asked, c.in-Some.ensures.found, refl) c.put_text-in-Err-NoMemory.ensures.put
 
 pub returns-in-Err-Failed-clause-answers : goal.returns-in-Err-Failed-clause-answers
 returns-in-Err-Failed-clause-answers g c =
-    answered _ (map (λ w. w.now) c.args.words.now) _ status.ReadFault c.put_named.result (c.in-Some.name.now, c.in-Some.ensures.found, c.in-Err-Failed.ensures.failed c.in-Err-Failed.field-0-is, refl) c.put_named.ensures.put
+    let asked : Command = record { name = c.in-Some.command.name.now; limit = c.in-Some.command.limit } in
+    answered _ (map (λ w. w.now) c.args.words.now) _ status.ReadFault c.put_named.result
+    (asked, c.in-Some.ensures.found, c.in-Err-Failed.ensures.failed c.in-Err-Failed.field-0-is, refl) c.put_named.ensures.put
 
 pub returns-then-bytes-gt-SOURCE_LIMIT-clause-answers : goal.returns-then-bytes-gt-SOURCE_LIMIT-clause-answers
 returns-then-bytes-gt-SOURCE_LIMIT-clause-answers g c =
+    let asked : Command = record { name = c.in-Some.command.name.now; limit = c.in-Some.command.limit } in
     let long : source_limit < length c.in-Ok.file = omega (arith, ap length c.bytes.ensures, c.if-bytes-gt-SOURCE_LIMIT.true) in
-    long_answered _ (map (λ w. w.now) c.args.words.now) c.in-Some.name.now c.in-Ok.file c.put_named-then-bytes-gt-SOURCE_LIMIT.result
+    long_answered _ (map (λ w. w.now) c.args.words.now) asked c.in-Ok.file c.put_named-then-bytes-gt-SOURCE_LIMIT.result
     c.in-Some.ensures.found c.in-Ok.ensures.whole long c.put_named-then-bytes-gt-SOURCE_LIMIT.ensures.put
 
 pub returns-clause-answers : goal.returns-clause-answers
 returns-clause-answers g c =
+    let asked : Command = record { name = c.in-Some.command.name.now; limit = c.in-Some.command.limit } in
     let small : length c.in-Ok.file ≤ source_limit = omega (arith, ap length c.bytes.ensures, c.if-bytes-gt-SOURCE_LIMIT.false) in
-    file_answered _ (map (λ w. w.now) c.args.words.now) c.in-Some.name.now c.in-Ok.file c.run_file.result c.in-Some.ensures.found c.in-Ok.ensures.whole small
+    file_answered _ (map (λ w. w.now) c.args.words.now) asked c.in-Ok.file c.run_file.result c.in-Some.ensures.found c.in-Ok.ensures.whole small
     (rw c.bytes-else-bytes-gt-SOURCE_LIMIT.ensures at c.run_file.ensures.ends)

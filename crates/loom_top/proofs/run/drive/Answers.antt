@@ -34,6 +34,3 @@ returns-clause-run c =
     let u = c.turns.invariant.run.1 in
     let full : length c.turns.journal.entries ≡ c.args.limit = omega (arith, c.turns.invariant.many, c.turns-test.false, c.turns.auto.counter-end) in
     limit_run c.args.flow.now.program c.turns.invariant.run.0 c.args.limit c.turns.journal.entries c.turns.words u.driven u.part full
-
-pub answer-requires-clause-stub : goal.answer-requires-clause-stub
-answer-requires-clause-stub c = ?

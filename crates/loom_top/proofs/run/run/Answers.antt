@@ -13,6 +13,3 @@ drive-kind-requires-clause-begun c =
     let number = rw c.program-program.ensures.program at c.main_number.ensures.number in
     let function = rw c.program-program.ensures.program at c.main_number.ensures.function in
     (c.main_number.result, first_way c.in_ok-strand.ensures c.start.ensures c.in_ok-journal.ensures.empty c.in_ok-journal.ensures.room values number function)
-
-pub start-requires-clause-stub : goal.start-requires-clause-stub
-start-requires-clause-stub c = ?

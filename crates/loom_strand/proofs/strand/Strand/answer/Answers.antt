@@ -1,19 +1,48 @@
-use Rattle.std.proofs.Common.{rules, ◌≡◌, ◌<◌, [], ◌∷◌, ◌++◌, IfOk, Some, None, length, slice_get, ℕ, ◌+◌, ◌-◌, ◌*◌, ◌≤◌, ◌/◌, ◌%◌, Bool, true, false, nat_eq, nat_lt, List, slice_index_or, slice_set, bit_and, bit_or, Fits, w8, w32, w64, Bor, MutBor}
-use Rattle.loom_lang.specs.Places.{line_of_function}
-use Rattle.loom_flow.specs.Code.{IsLowered}
-use Rattle.loom_law.specs.Asked.{IsAnswer, IsFunctionWith}
-use Rattle.loom_strand.specs.declared.stage.Stage.TheVariants as stage
-use Rattle.loom_strand.specs.Strand.{IsNew, IsSame, IsStarted, HasPart, Wants}
+use Rattle.std.proofs.Common.{ℕ, List, ◌≡◌, ◌∙◌, refl, sym, ap, subst}
+use Rattle.std.specs.Vec.{vec_capacity}
+use Rattle.loom_lang.specs.Rules.{IsLawful}
+use Rattle.loom_flow.specs.declared.code.Instr.{Instr}
+use Rattle.loom_flow.specs.declared.code.Entrance.{Entrance}
+use Rattle.loom_flow.specs.Flat.{Flat}
+use Rattle.loom_flow.specs.Lowered.{lowered}
+use Rattle.loom_trace.specs.declared.entry.Entry.{Entry}
+use Rattle.loom_law.specs.Asked.{IsAnswer}
+use Rattle.loom_strand.specs.declared.reply.Reply.{Reply}
+use Rattle.loom_strand.specs.Strand.{Strand}
+use Rattle.loom_strand.specs.Kept.{IsKept}
+use Rattle.loom_strand.specs.Replied.{reply_of, CanFollow, Follows}
+use Rattle.loom_strand.specs.contracts.strand.Strand.{the_view}
+use Rattle.loom_strand.proofs.Resumed.{flat_is}
+use Rattle.loom_strand.proofs.Answered.{after, with_entries}
+use Rattle.loom_strand.proofs.Followed.{can_answer, answered_kept, answer_started, kept_part}
 use Rattle.loom_strand.proofs.strand.Strand.answer.Goals as goal
 
--- src/strand.rt:176:31
 pub follow-stage-requires : goal.follow-stage-requires
-follow-stage-requires c = ?
+follow-stage-requires c =
+    let s : Strand = the_view c.self.inside in
+    let asked : IsAnswer s.thread s.wanted c.args.e = subst (λ (z : Strand). IsAnswer z.thread z.wanted c.args.e) (sym c.self.view_is) c.requires.answers in
+    subst (CanFollow c.self.inside.machine) (sym c.reply_of-reply.ensures) (can_answer s s.birth s.wanted c.args.e c.self.invariant refl refl asked)
 
--- src/strand.rt:168:5
 pub invariant_of-self : goal.invariant_of-self
-invariant_of-self c = ?
+invariant_of-self c =
+    let s : Strand = the_view c.self.inside in
+    let asked : IsAnswer s.thread s.wanted c.args.e = subst (λ (z : Strand). IsAnswer z.thread z.wanted c.args.e) (sym c.self.view_is) c.requires.answers in
+    let program : c.args.flow.now.program ≡ s.program = c.requires.program ∙ (let P : Strand → Type 0 = λ z. z.program ≡ s.program in subst P c.self.view_is refl) in
+    let flat : c.args.flow.now ≡ lowered s.program = flat_is c.args.flow.now s.program c.code.ensures.lowered program in
+    let entrances : c.entrances.result.now ≡ (lowered s.program).entrances = c.entrances.ensures.entrances ∙ ap (λ (z : Flat). z.entrances) flat in
+    let code : c.code.result.now ≡ (lowered s.program).code = c.code.ensures.code ∙ ap (λ (z : Flat). z.code) flat in
+    let follows : Follows (lowered s.program).entrances (lowered s.program).code c.self.inside.machine c.follow-stage.new.machine c.self.inside.passed (reply_of s.birth s.wanted c.args.e) c.follow-stage.result.0 c.follow-stage.result.1 =
+    subst (λ y. Follows (lowered s.program).entrances (lowered s.program).code c.self.inside.machine c.follow-stage.new.machine c.self.inside.passed y c.follow-stage.result.0 c.follow-stage.result.1) c.reply_of-reply.ensures
+    (subst (λ (y : List Entrance). Follows y (lowered s.program).code c.self.inside.machine c.follow-stage.new.machine c.self.inside.passed c.reply_of-reply.result c.follow-stage.result.0 c.follow-stage.result.1) entrances
+    (subst (λ (y : List Instr). Follows c.entrances.result.now y c.self.inside.machine c.follow-stage.new.machine c.self.inside.passed c.reply_of-reply.result c.follow-stage.result.0 c.follow-stage.result.1) code c.follow-stage.ensures)) in
+    let kept : IsKept (after s c.args.e c.follow-stage.new.machine c.follow-stage.result.0 c.follow-stage.result.1) =
+    answered_kept s s.birth s.wanted c.args.e c.follow-stage.new.machine c.follow-stage.result.0 c.follow-stage.result.1 c.self.invariant refl refl asked follows in
+    subst (λ n. IsKept (with_entries s c.push_reserved.new.self.items n c.follow-stage.new.machine c.follow-stage.result.0 c.follow-stage.result.1)) (sym c.push_reserved.ensures.capacity)
+    (subst (λ es. IsKept (with_entries s es s.limit c.follow-stage.new.machine c.follow-stage.result.0 c.follow-stage.result.1)) (sym c.push_reserved.ensures.items) kept)
 
--- src/strand.rt:168:5
 pub returns-clause-part : goal.returns-clause-part
-returns-clause-part c = ?
+returns-clause-part c =
+    let s : Strand = the_view c.self.inside in
+    let asked : IsAnswer s.thread s.wanted c.args.e = subst (λ (z : Strand). IsAnswer z.thread z.wanted c.args.e) (sym c.self.view_is) c.requires.answers in
+    kept_part (with_entries s c.push_reserved.new.self.items (vec_capacity c.push_reserved.new.self) c.follow-stage.new.machine c.follow-stage.result.0 c.follow-stage.result.1) s.birth (invariant_of-self c) refl
+    (answer_started s s.birth s.wanted c.args.e c.self.invariant refl refl asked)

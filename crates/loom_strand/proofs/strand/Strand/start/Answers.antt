@@ -1,11 +1,10 @@
-use Rattle.std.proofs.Common.{rules, ◌≡◌, ◌<◌, [], ◌∷◌, ◌++◌, IfOk, Some, None, length, slice_get, ℕ, ◌+◌, ◌-◌, ◌*◌, ◌≤◌, ◌/◌, ◌%◌, Bool, true, false, nat_eq, nat_lt, List, slice_index_or, slice_set, bit_and, bit_or, Fits, w8, w32, w64, Bor, MutBor}
-use Rattle.loom_lang.specs.Places.{line_of_function}
-use Rattle.loom_flow.specs.Code.{IsLowered}
-use Rattle.loom_law.specs.Asked.{IsAnswer, IsFunctionWith}
-use Rattle.loom_strand.specs.declared.stage.Stage.TheVariants as stage
-use Rattle.loom_strand.specs.Strand.{IsNew, IsSame, IsStarted, HasPart, Wants}
+use Rattle.std.proofs.Common.{length, subst}
+use Rattle.loom_law.specs.Asked.{IsFunctionWith}
+use Rattle.loom_strand.specs.Strand.{Strand}
+use Rattle.loom_strand.proofs.Few.{few_params}
 use Rattle.loom_strand.proofs.strand.Strand.start.Goals as goal
 
--- src/strand.rt:116:13
 pub args_of-args-requires : goal.args_of-args-requires
-args_of-args-requires c = ?
+args_of-args-requires c =
+    few_params c.args.self.now.program c.args.func (length c.args.args.now)
+    (let P : Strand → Type 0 = λ s. Rattle.loom_lang.specs.Rules.IsLawful s.program in subst P c.self.view_is c.self.invariant.lawful) c.requires.function

@@ -1,0 +1,33 @@
+use Rattle.std.proofs.Common.{◌≡◌, List, ℕ, ◌∷◌, [], map, arith, refl, sym, slice_index_or, Bor, subst, inl, inr, codes}
+use Rattle.std.specs.Cmp.Lexicographic.{same_text}
+use Rattle.loom_tree.specs.Decimal.{decimal}
+use Rattle.loom_top.specs.Command.{IsFileName, IsCommand}
+use Rattle.loom_top.proofs.Words.{two_words, four_words}
+use Rattle.loom_top.proofs.command.command_of.Goals.{in-len2, in-len4+in_ok-limit_of-in-len4}
+use Rattle.loom_top.proofs.command.command_of.Goals as goal
+
+pub returns-then-is_file_name-clause-found : goal.returns-then-is_file_name-clause-found
+returns-then-is_file_name-clause-found c =
+    let none : Bor (List ℕ) = record { ref_ptr = (0, 0); now = [] } in
+    let ws : List (Bor (List ℕ)) = c.args.words.now in
+    let words : List (List ℕ) = map (λ w. w.now) ws in
+    let word : ℕ → List ℕ = λ n. (slice_index_or ws n none).now in
+    let P : List ℕ → Type 0 = λ z. IsFileName z in
+    let named : IsFileName c.if-words-lt3.limit.0.now = subst P c.as_bytes.ensures.value (c.if-is_file_name.ensures.0 refl) in
+    let Q : Bor (List ℕ) × ℕ → Type 0 = λ z. IsFileName z.0.now → IsCommand words (record { name = z.0.now; limit = z.1 }) in
+    elim c.if-words-lt3.branch [
+      | in-len2 w ↦
+          let these : words ≡ word 0 ∷ word 1 ∷ [] = two_words ws none (omega (arith, w.in-len2.len_below, w.in-len2.len_at_least)) in
+          let run : word 0 ≡ codes "run" = same_text _ _ w.if-eq.ensures in
+          let is : words ≡ codes "run" ∷ word 1 ∷ [] = cc in
+          subst Q (sym w.limit-is) (λ h. record { form = inl (record { is = is; limit = refl }); named = h }) named
+      | in-len4+in_ok-limit_of-in-len4 w ↦
+          let said = w.in_ok-limit_of-in-len4.ensures in
+          let limit : ℕ = w.in_ok-limit_of-in-len4.field-0 in
+          let these : words ≡ word 0 ∷ word 1 ∷ word 2 ∷ word 3 ∷ [] = four_words ws none (omega (arith, w.in-len4.len_below, w.in-len4.len_at_least)) in
+          let run : word 0 ≡ codes "run" = same_text _ _ w.if-eq-2.ensures in
+          let option : word 2 ≡ codes "--steps" = same_text _ _ w.if-eq-3.ensures in
+          let digits : word 3 ≡ decimal limit = said.written in
+          let is : words ≡ codes "run" ∷ word 1 ∷ codes "--steps" ∷ decimal limit ∷ [] = cc in
+          subst Q (sym w.limit-is) (λ h. record { form = inr (record { is = is; least = said.least; most = said.most }); named = h }) named
+    ]

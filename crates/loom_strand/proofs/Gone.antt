@@ -18,13 +18,14 @@ use Rattle.loom_strand.specs.declared.turn.Turn.TheVariants as t
 use Rattle.loom_strand.specs.declared.turn.Stop.TheVariants as stop
 use Rattle.loom_strand.specs.Machine.{Progress, goes, asks, ends, nothing, progress}
 use Rattle.loom_strand.specs.Held.{Held, holding}
-use Rattle.loom_strand.specs.Turned.{mark_of, Comes, Advances}
+use Rattle.loom_strand.specs.Turned.{mark_of, Comes, Advances, request_of, request_there}
 use Rattle.loom_strand.specs.Kept.{IsSound, HasRoom, Continues, Stops, thread_of, passed, passed_one}
 use Rattle.loom_strand.specs.Ran.{place_marked, place_entered, Counts, Passes, Carries, HasGone, HasTicked, HasCome, Ran}
 use Rattle.loom_strand.proofs.Continues.{goes_continues, ends_stops}
 use Rattle.loom_strand.proofs.Ticks.{told_append, passed_append, told_tick_place}
 use Rattle.loom_strand.proofs.Sound.{sound_goes, never_nothing, always_there, values_fit}
 use Rattle.loom_strand.proofs.Marks.{silent_told, silent_passed, end_told, entry_marked, edge_marked}
+use Rattle.loom_strand.proofs.Turns.{asked_request}
 use Rattle.loom_strand.proofs.Falls.{left, falls_silent, falls_passing}
 
 -- at the start
@@ -62,7 +63,7 @@ came_moved c a b mark i e (goes marks z) p h = record {
   marked = sym (same_mark mark (mark_of i marks) h.0);
   is = h.1;
 }
-came_moved c a b mark i e (asks q) p h = let no : t.Went mark ≡ t.Asks q = h.0 in absurd (let x : ⊥ = cc in x)
+came_moved c a b mark i e (asks q) p h = let no : t.Went mark ≡ t.Asks = h.0 in absurd (let x : ⊥ = cc in x)
 came_moved c a b mark i e (ends marks) p h = let no : t.Went mark ≡ t.Ends = h in absurd (let x : ⊥ = cc in x)
 came_moved c a b mark i e nothing p h = let no : t.Went mark ≡ t.Nothing = h.0 in absurd (let x : ⊥ = cc in x)
 
@@ -200,22 +201,24 @@ moved_falls c b d k k' (m.Edge i) l h w x few =
 
 -- The run comes to a request, or to the end of the last frame.
 
-came_asked : (c : Flat) (a b : Held) (q : Request) (i : Instr) → slice_get c.code a.state.at ≡ Some i → (w : Progress) → progress c a.state i i.step ≡ w → Comes i a b (t.Asks q) w
-    → (b ≡ a) × (progress c a.state i i.step ≡ asks q)
-came_asked c a b q i e (goes marks z) p h = let no : t.Asks q ≡ t.Went (mark_of i marks) = h.0 in absurd (let x : ⊥ = cc in x)
-came_asked c a b q i e (asks r) p h = (h.1, p ∙ (let same : t.Asks q ≡ t.Asks r = h.0 in cc))
-came_asked c a b q i e (ends marks) p h = let no : t.Asks q ≡ t.Ends = h in absurd (let x : ⊥ = cc in x)
-came_asked c a b q i e nothing p h = let no : t.Asks q ≡ t.Nothing = h.0 in absurd (let x : ⊥ = cc in x)
+came_asked : (c : Flat) (a b : Held) (i : Instr) → slice_get c.code a.state.at ≡ Some i → (w : Progress) → progress c a.state i i.step ≡ w → Comes i a b t.Asks w
+    → (b ≡ a) × (progress c a.state i i.step ≡ asks (request_of a.state i.line i.step))
+came_asked c a b i e (goes marks z) p h = let no : t.Asks ≡ t.Went (mark_of i marks) = h.0 in absurd (let x : ⊥ = cc in x)
+came_asked c a b i e (asks r) p h = (h.1, p ∙ sym (ap asks (asked_request c a.state i i.step r p)))
+came_asked c a b i e (ends marks) p h = let no : t.Asks ≡ t.Ends = h in absurd (let x : ⊥ = cc in x)
+came_asked c a b i e nothing p h = let no : t.Asks ≡ t.Nothing = h.0 in absurd (let x : ⊥ = cc in x)
 
-pub gone_to_request : (c : Flat) (a b d : Held) (n k : ℕ) (q : Request) → HasGone c a b n k → (o : Option Instr) → slice_get c.code b.state.at ≡ o → Advances c b d (t.Asks q) o → Ran c a d n k (stop.Asks q)
-gone_to_request c a b d n k q h None e x = let no : t.Asks q ≡ t.Nothing = x.0 in absurd (let y : ⊥ = cc in y)
-gone_to_request c a b d n k q h (Some i) e x =
-    let how : (d ≡ b) × (progress c b.state i i.step ≡ asks q) = came_asked c b d q i e (progress c b.state i i.step) refl x in
-    subst (λ (y : Held). Ran c a y n k (stop.Asks q)) (sym how.0) (h, (i, e, how.1))
+pub gone_to_request : (c : Flat) (a b d : Held) (n k : ℕ) (q : Request) → HasGone c a b n k → (o : Option Instr) → slice_get c.code b.state.at ≡ o → Advances c b d t.Asks o
+    → q ≡ request_there d.state (slice_get c.code d.state.at) → Ran c a d n k (stop.Asks q)
+gone_to_request c a b d n k q h None e x is = let no : t.Asks ≡ t.Nothing = x.0 in absurd (let y : ⊥ = cc in y)
+gone_to_request c a b d n k q h (Some i) e x is =
+    let how : (d ≡ b) × (progress c b.state i i.step ≡ asks (request_of b.state i.line i.step)) = came_asked c b d i e (progress c b.state i i.step) refl x in
+    let asked : q ≡ request_of b.state i.line i.step = is ∙ ap (λ (y : Held). request_there y.state (slice_get c.code y.state.at)) how.0 ∙ ap (request_there b.state) e in
+    subst (λ (y : Held). Ran c a y n k (stop.Asks q)) (sym how.0) (h, (i, e, how.1 ∙ sym (ap asks asked)))
 
 came_ended : (c : Flat) (a b : Held) (i : Instr) → (w : Progress) → progress c a.state i i.step ≡ w → Comes i a b t.Ends w → (marks : List Item) × (progress c a.state i i.step ≡ ends marks)
 came_ended c a b i (goes marks z) p h = let no : t.Ends ≡ t.Went (mark_of i marks) = h.0 in absurd (let x : ⊥ = cc in x)
-came_ended c a b i (asks r) p h = let no : t.Ends ≡ t.Asks r = h.0 in absurd (let x : ⊥ = cc in x)
+came_ended c a b i (asks r) p h = let no : t.Ends ≡ t.Asks = h.0 in absurd (let x : ⊥ = cc in x)
 came_ended c a b i (ends marks) p h = (marks, p)
 came_ended c a b i nothing p h = let no : t.Ends ≡ t.Nothing = h.0 in absurd (let x : ⊥ = cc in x)
 
@@ -233,7 +236,7 @@ gone_to_end c a b d n k h (Some i) e x =
 -- There is always an instruction, and something comes of it.
 came_nothing : (c : Flat) (a b : Held) (i : Instr) → IsLowered c → IsSound c a.state → slice_get c.code a.state.at ≡ Some i → (w : Progress) → progress c a.state i i.step ≡ w → Comes i a b t.Nothing w → ⊥
 came_nothing c a b i l s e (goes marks z) p h = let no : t.Nothing ≡ t.Went (mark_of i marks) = h.0 in cc
-came_nothing c a b i l s e (asks r) p h = let no : t.Nothing ≡ t.Asks r = h.0 in cc
+came_nothing c a b i l s e (asks r) p h = let no : t.Nothing ≡ t.Asks = h.0 in cc
 came_nothing c a b i l s e (ends marks) p h = let no : t.Nothing ≡ t.Ends = h in cc
 came_nothing c a b i l s e nothing p h = never_nothing c a.state i l e s p
 

@@ -10,9 +10,9 @@ ghost use Rattle.loom_strand.specs.declared.turn.Mark.TheVariants as m;
 ghost use Rattle.loom_strand.specs.declared.turn.Turn.TheVariants as t;
 ghost use Rattle.loom_strand.specs.Machine.{asks, goes, either, enters, progress, answered};
 ghost use Rattle.loom_strand.specs.Held.{holding, back, branched};
-ghost use Rattle.loom_strand.specs.Turned.{Comes, Advances, HasFewArguments, turn_back};
+ghost use Rattle.loom_strand.specs.Turned.{Comes, Advances, HasFewArguments, turn_back, request_there};
 
-use crate::ask::{join, print, read, read_cell, spawn, write, write_cell};
+use crate::ask::request;
 use crate::machine::Machine;
 use crate::operate::{inverted, worked};
 use crate::turn::{Mark, Turn};
@@ -31,10 +31,7 @@ fn apply(machine: &mut Machine, i: &Instr, op: Op, a: Operand, b: Operand, targe
             machine.replace_two(a, b, target, v);
             Turn::Went(Mark::Silent)
         }
-        None => Turn::Asks(Request::Trap {
-            line: i.line,
-            reason: 1,
-        }),
+        None => Turn::Asks,
     }
 }
 
@@ -51,9 +48,8 @@ fn call(machine: &mut Machine, flow: &Flow, i: &Instr, func: u8, n: u8) -> Turn
     requires frames { 255 ≤ machine.old.most_frames }
     ensures { Comes i.now machine.old machine.new result (either (nat_lt (suc (length machine.old.state.below)) frame_limit) (enters (without_arguments machine.old.state n) i.now func (arguments machine.old.state n) (slice_get flow.now.entrances func)) (asks (r.Trap i.now.line 6))) }
 {
-    let line = i.line;
     if machine.waiting() >= 255 {
-        return Turn::Asks(Request::Trap { line, reason: 6 });
+        return Turn::Asks;
     }
     match entrance_of(flow, func) {
         Some(entrance) => {
@@ -162,23 +158,22 @@ fn step(machine: &mut Machine, flow: &Flow, i: &Instr) -> Turn
     requires few { HasFewArguments i.now.step }
     ensures { Comes i.now machine.old machine.new result (progress flow.now machine.old.state i.now i.now.step) }
 {
-    let line = i.line;
     match i.step {
         Step::Move(a, d) => moved(machine, a, d),
-        Step::Read(word, _) => Turn::Asks(read(line, word)),
-        Step::ReadCell(array, n, _) => Turn::Asks(read_cell(machine, line, array, n)),
+        Step::Read(_, _) => Turn::Asks,
+        Step::ReadCell(_, _, _) => Turn::Asks,
         Step::Negate(a, d) => negate(machine, a, d),
         Step::Invert(a, d) => invert(machine, a, d),
         Step::Apply(op, a, b, d) => apply(machine, i, op, a, b, d),
-        Step::Write(word, a) => Turn::Asks(write(machine, line, word, a)),
-        Step::WriteCell(array, n, b) => Turn::Asks(write_cell(machine, line, array, n, b)),
-        Step::Lock(m) => Turn::Asks(Request::Lock { line, m }),
-        Step::Unlock(m) => Turn::Asks(Request::Unlock { line, m }),
-        Step::Down(s) => Turn::Asks(Request::Down { line, s }),
-        Step::Up(s) => Turn::Asks(Request::Up { line, s }),
-        Step::Join(a) => Turn::Asks(join(machine, line, a)),
-        Step::Print(a) => Turn::Asks(print(machine, line, a)),
-        Step::Spawn(func, n, _) => Turn::Asks(spawn(machine, line, func, n)),
+        Step::Write(_, _) => Turn::Asks,
+        Step::WriteCell(_, _, _) => Turn::Asks,
+        Step::Lock(_) => Turn::Asks,
+        Step::Unlock(_) => Turn::Asks,
+        Step::Down(_) => Turn::Asks,
+        Step::Up(_) => Turn::Asks,
+        Step::Join(_) => Turn::Asks,
+        Step::Print(_) => Turn::Asks,
+        Step::Spawn(_, _, _) => Turn::Asks,
         Step::Call(func, n) => call(machine, flow, i, func, n),
         Step::Discard => discard(machine),
         Step::Return(a) => give_back(machine, flow, a),
@@ -200,6 +195,16 @@ pub(crate) fn advance(machine: &mut Machine, flow: &Flow) -> Turn
     match flow.code().get(machine.at()) {
         Some(i) => step(machine, flow, i),
         None => Turn::Nothing,
+    }
+}
+
+/// What the next instruction asks for, where it asks.
+pub(crate) fn request_at(machine: &Machine, flow: &Flow) -> Request
+    ensures { result ≡ request_there machine.now.state (slice_get flow.now.code machine.now.state.at) }
+{
+    match flow.code().get(machine.at()) {
+        Some(i) => request(machine, i),
+        None => Request::End { line: 0 },
     }
 }
 

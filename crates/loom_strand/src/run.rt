@@ -6,7 +6,7 @@ ghost use Rattle.loom_law.specs.Part.{tick_after};
 ghost use Rattle.loom_strand.specs.Ran.{place_marked, Counts, Passes, Ran};
 
 use crate::machine::Machine;
-use crate::progress::{advance, entrance_of};
+use crate::progress::{advance, entrance_of, request_at};
 use crate::turn::{Mark, Stop, Turn};
 use loom_flow::flow::Flow;
 
@@ -67,7 +67,7 @@ pub(crate) fn run(machine: &mut Machine, passed: &mut u32, flow: &Flow) -> Stop
                     return Stop::Ticks(place);
                 }
             }
-            Turn::Asks(request) => return Stop::Asks(request),
+            Turn::Asks => return Stop::Asks(request_at(machine, flow)),
             Turn::Ends => return Stop::Ends,
             Turn::Nothing => unreachable!(),
         }

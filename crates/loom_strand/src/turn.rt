@@ -15,7 +15,8 @@ pub(crate) enum Mark {
 #[derive(Clone, Copy, Debug, Drop)]
 pub(crate) enum Turn {
     Went(Mark),
-    Asks(Request),
+    /// It asks for something, and the machine stays where it is.
+    Asks,
     Ends,
     /// There is no instruction.
     Nothing,

@@ -1,6 +1,6 @@
 use Rattle.std.proofs.Common.{refl, slice_get}
 use Rattle.loom_strand.specs.declared.turn.Mark.{Mark}
-use Rattle.loom_strand.proofs.Gone.{Moved, gone_nowhere, advanced_moved, gone_on, gone_to_tick, moved_falls, gone_to_end, gone_to_nothing}
+use Rattle.loom_strand.proofs.Gone.{Moved, gone_nowhere, advanced_moved, gone_on, gone_to_tick, moved_falls, gone_to_request, gone_to_end, gone_to_nothing}
 use Rattle.loom_strand.proofs.run.run.Goals as goal
 
 pub run-init : goal.run-init
@@ -35,3 +35,8 @@ pub unreachable-requires : goal.unreachable-requires
 unreachable-requires c =
     gone_to_nothing c.args.flow.now c.run.machine c.advance.new.machine c.requires.lowered c.run.invariant.sound
     (slice_get c.args.flow.now.code c.run.machine.state.at) refl c.in-Nothing.ensures
+
+pub returns-in-Asks : goal.returns-in-Asks
+returns-in-Asks c =
+    gone_to_request c.args.flow.now c.args.machine.now c.run.machine c.advance.new.machine c.args.passed.now c.run.passed c.request_at.result c.run.invariant
+    (slice_get c.args.flow.now.code c.run.machine.state.at) refl c.in-Asks.ensures c.request_at.ensures

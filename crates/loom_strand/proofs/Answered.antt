@@ -81,11 +81,14 @@ begun_running p l t b es g en none there place = record {
   where
     line : ℕ
     line = line_of_function (slice_get p.funcs b.func)
+
     told : AreTold p t 0 (made line begin ∷ enter b.func ∷ []) (es ++ e.Begin t line ∷ [])
     told = ([], ap (λ (ys : List Entry). ys ++ e.Begin t line ∷ []) none, refl)
+
     first : (is : List Item) (q : Outcome) (n : ℕ) → runs (lowered p) (record { program = p; stopped = ended g.line }) n (at_start b.func en b.args) is q
         → flat.thread (lowered p) (Some g) b.func b.args n (made g.line begin ∷ enter b.func ∷ is) q
     first is q n h = inr (enter b.func ∷ is, refl, subst (λ o. started (lowered p) (record { program = p; stopped = ended g.line }) b.func b.args n o (enter b.func ∷ is) q) (sym place) (inr (is, refl, h)))
+
     goes : Continues (lowered p) (thread_of p b.func) b.func b.args (made line begin ∷ enter b.func ∷ []) (at_start b.func en b.args)
     goes is q n h = record {
       most_steps = n;
@@ -125,6 +128,7 @@ granted_running p l t b es items z q x told h sound i there a g = record {
   where
     now : AreTold p t 0 (items ++ made g.deed.line g.deed.act ∷ []) (es ++ x ∷ [])
     now = subst (λ y. AreTold p t 0 (items ++ made g.deed.line g.deed.act ∷ []) (es ++ y ∷ [])) (sym g.entry) (told_act p t 0 g.deed.line g.deed.act items es told)
+
     goes : Continues (lowered p) (thread_of p b.func) b.func b.args (items ++ made g.deed.line g.deed.act ∷ []) (answered z i.step g.value)
     goes = granted_continues (lowered p) (thread_of p b.func) b.func b.args items z i q g.value g.deed there a g.is h
 

@@ -39,13 +39,7 @@ fn write(machine: &Machine, line: u32, word: u16, a: Operand) -> Request
 }
 
 // The same of a cell.
-fn write_cell(
-    machine: &Machine,
-    line: u32,
-    array: Array,
-    index: Operand,
-    b: Operand,
-) -> Request
+fn write_cell(machine: &Machine, line: u32, array: Array, index: Operand, b: Operand) -> Request
     ensures { result ≡ cell_request line (λ w. r.Write line w (operand machine.now.state b)) (cell_at array (operand (without machine.now.state b) index)) }
 {
     let value = machine.operand(b);

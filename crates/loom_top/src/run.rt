@@ -102,7 +102,6 @@ fn drive(
 /// A run of a program whose every form can be run, with at most `limit` entries of its thread, and how it ended. An `Err` is want of memory,
 /// before the run.
 pub fn run(alloc: Global, flow: &Flow, limit: u32) -> Result<(Journal, Ending), NoMemory>
-    requires some { 1 ≤ limit }
     requires limit { limit ≤ 1000000 }
     requires built { is_built flow.now.program ≡ true }
     ensures { IfOk result (λ r. IsRunOf flow.now.program limit r.1 r.0.entries) }

@@ -1,10 +1,10 @@
 -- Functions and where they begin.
-use Rattle.std.proofs.Common.{ℕ, suc, zero, ◌+◌, ◌≡◌, ◌<◌, ◌≤◌, List, [], ◌∷◌, ◌++◌, ℤ, Option, Some, None, refl, sym, ap, subst, ◌∙◌, slice_get, length, arith}
+use Rattle.std.proofs.Common.{ℕ, suc, zero, ◌+◌, ◌≡◌, ◌<◌, List, [], ◌∷◌, Option, Some, None, refl, sym, ap, subst, ◌∙◌, slice_get, length}
 use Rattle.std.specs.Prelude.{option_map}
 use Rattle.std.proofs.lemmas.Option.{slice_get_within}
 use Rattle.loom_tree.specs.Tree.{Function, Source}
-use Rattle.loom_lang.specs.Rules.{IsLawful, locals_of}
-use Rattle.loom_lang.specs.Places.{Place, entry, places, place_at, line_of_place, line_of_function}
+use Rattle.loom_lang.specs.Rules.{locals_of}
+use Rattle.loom_lang.specs.Places.{entry, places, place_at, line_of_place, line_of_function}
 use Rattle.loom_flow.specs.declared.code.Entrance.{Entrance}
 use Rattle.loom_flow.specs.Flat.{Flat}
 use Rattle.loom_flow.specs.Lowered.{size, place_count, entrances}

@@ -1,18 +1,16 @@
 -- What a thread keeps behind an answer.
-use Rattle.std.proofs.Common.{ℕ, suc, ◌≡◌, ◌<◌, ◌⊎◌, Bool, true, false, List, [], ◌∷◌, ◌++◌, ℤ, Option, Some, None, refl, inl, inr, sym, ap, subst, ◌∙◌, slice_get, arith}
-use Rattle.loom_tree.specs.Tree.{Function, Source}
+use Rattle.std.proofs.Common.{ℕ, ◌≡◌, ◌<◌, ◌⊎◌, List, [], ◌∷◌, ◌++◌, Option, Some, None, refl, inl, inr, sym, ap, subst, ◌∙◌, slice_get, arith}
 use Rattle.loom_lang.specs.Rules.{IsLawful}
 use Rattle.loom_lang.specs.Places.{line_of_function}
 use Rattle.loom_lang.specs.Trace.{Item, Open, Finished}
 use Rattle.loom_flow.specs.declared.code.Instr.{Instr}
 use Rattle.loom_flow.specs.declared.code.Entrance.{Entrance}
-use Rattle.loom_flow.specs.Flat.{State}
 use Rattle.loom_flow.specs.Lowered.{lowered}
 use Rattle.loom_trace.specs.declared.entry.Entry.{Entry}
 use Rattle.loom_trace.specs.declared.entry.Entry.TheVariants as e
 use Rattle.loom_trace.specs.declared.request.Request.{Request}
 use Rattle.loom_trace.specs.declared.request.Request.TheVariants as r
-use Rattle.loom_law.specs.Part.{tick_after, AreTold, IsPart}
+use Rattle.loom_law.specs.Part.{tick_after, AreTold}
 use Rattle.loom_law.specs.Asked.{IsAnswerTo, IsAnswer}
 use Rattle.loom_strand.specs.declared.stage.Birth.{Birth}
 use Rattle.loom_strand.specs.declared.stage.Stage.{Stage}
@@ -20,14 +18,13 @@ use Rattle.loom_strand.specs.declared.stage.Stage.TheVariants as stage
 use Rattle.loom_strand.specs.declared.reply.Reply.{Reply}
 use Rattle.loom_strand.specs.declared.reply.Reply.TheVariants as reply
 use Rattle.loom_strand.specs.Machine.{asks, progress, answered}
-use Rattle.loom_strand.specs.Held.{Held, holding, blank, at_start}
+use Rattle.loom_strand.specs.Held.{Held, holding, at_start}
 use Rattle.loom_strand.specs.Strand.{Strand, IsStarted, HasPart}
-use Rattle.loom_strand.specs.Kept.{IsSound, HasRoom, Continues, thread_of, IsAtRequest, with_tick, AsksOnly, IsWaiting, IsRunning, IsStopping, HasStopped, IsAt, KeepsRoom, IsKept}
+use Rattle.loom_strand.specs.Kept.{IsSound, HasRoom, Continues, thread_of, AsksOnly, IsWaiting, IsRunning, IsStopping, HasStopped, IsAt, KeepsRoom, IsKept}
 use Rattle.loom_strand.specs.Replied.{reply_of, begun, taken, CanFollow, Follows}
-use Rattle.loom_strand.proofs.Continues.{continues_open}
 use Rattle.loom_strand.proofs.Sound.{values_fit}
 use Rattle.loom_strand.proofs.Entrances.{has_entrance}
-use Rattle.loom_strand.proofs.Asking.{never_own, is_own}
+use Rattle.loom_strand.proofs.Asking.{never_own}
 use Rattle.loom_strand.proofs.Replies.{IsGranted, IsTrapped, answers_here}
 use Rattle.loom_strand.proofs.Wanted.{is_lowered, tree_trace, stops_open, waiting_open, only_this}
 use Rattle.loom_strand.proofs.Answered.{after, begun_running, ticked_running, granted_running, trapped_stopping, ended_over}

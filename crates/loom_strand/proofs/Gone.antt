@@ -1,5 +1,5 @@
 -- A private run, one instruction after another.
-use Rattle.std.proofs.Common.{ℕ, suc, ◌≡◌, ◌==◌, ◌<◌, true, false, Bool, List, [], ◌∷◌, ◌++◌, ℤ, Option, Some, None, slice_get, length, refl, sym, ap, subst, ◌∙◌, append-nil, append_assoc, arith, rules, if◌then◌else◌}
+use Rattle.std.proofs.Common.{ℕ, suc, ◌≡◌, ◌==◌, ◌<◌, true, false, Bool, List, [], ◌∷◌, ◌++◌, Option, Some, None, slice_get, refl, sym, ap, subst, ◌∙◌, append-nil, append_assoc, arith, rules, if◌then◌else◌}
 use Rattle.loom_tree.specs.Tree.{Source}
 use Rattle.loom_lang.specs.Places.{Place, place_at, line_of_place, entry, back_edge}
 use Rattle.loom_lang.specs.Trace.{Item, enter, edge}
@@ -13,17 +13,16 @@ use Rattle.loom_trace.specs.declared.request.Request.{Request}
 use Rattle.loom_law.specs.Part.{tick_after, IsPassed, AreTold}
 use Rattle.loom_strand.specs.declared.turn.Mark.{Mark}
 use Rattle.loom_strand.specs.declared.turn.Mark.TheVariants as m
-use Rattle.loom_strand.specs.declared.turn.Turn.{Turn}
 use Rattle.loom_strand.specs.declared.turn.Turn.TheVariants as t
 use Rattle.loom_strand.specs.declared.turn.Stop.TheVariants as stop
 use Rattle.loom_strand.specs.Machine.{Progress, goes, asks, ends, nothing, progress}
 use Rattle.loom_strand.specs.Held.{Held, holding}
 use Rattle.loom_strand.specs.Turned.{mark_of, Comes, Advances}
 use Rattle.loom_strand.specs.Kept.{IsSound, HasRoom, Continues, Stops, thread_of, passed, passed_one}
-use Rattle.loom_strand.specs.Ran.{place_marked, place_entered, Counts, Passes, Carries, HasGone, HasTicked, HasCome, Ran}
+use Rattle.loom_strand.specs.Ran.{place_marked, place_entered, Counts, Passes, Carries, HasGone, HasTicked, Ran}
 use Rattle.loom_strand.proofs.Continues.{goes_continues, ends_stops}
 use Rattle.loom_strand.proofs.Ticks.{told_append, passed_append, told_tick_place}
-use Rattle.loom_strand.proofs.Sound.{sound_goes, never_nothing, always_there, values_fit}
+use Rattle.loom_strand.proofs.Sound.{sound_goes, never_nothing, always_there}
 use Rattle.loom_strand.proofs.Marks.{silent_told, silent_passed, end_told, entry_marked, edge_marked}
 use Rattle.loom_strand.proofs.Falls.{left, falls_silent, falls_passing}
 
@@ -75,7 +74,7 @@ advanced_moved c a b mark (Some i) e h = came_moved c a b mark i e (progress c a
 carried : (c : Flat) (a : State) (b d : Held) (before : List Item) (mark : Mark) (w : Moved c b d mark) → Carries c a before b.state → Carries c a (before ++ w.marks) d.state
 carried c a b d before mark w h = λ f vs items g.
     let there : Continues c (thread_of c.program f) f vs ((items ++ before) ++ w.marks) w.behind =
-        goes_continues c (thread_of c.program f) f vs (items ++ before) b.state w.behind w.instruction w.marks w.there w.goes (h f vs items g) in
+    goes_continues c (thread_of c.program f) f vs (items ++ before) b.state w.behind w.instruction w.marks w.there w.goes (h f vs items g) in
     subst (λ (x : Held). Continues c (thread_of c.program f) f vs (items ++ (before ++ w.marks)) x.state) (sym w.is)
     (subst (λ is. Continues c (thread_of c.program f) f vs is w.behind) (append_assoc items before w.marks) there)
 
@@ -135,6 +134,7 @@ gone_place c a b d n k k' x mark l h w one e is = record {
   where
     told_here : (t : ℕ) → IsPassed c.program t (suc (passed n h.marks)) x (λ m fs. fs ≡ []) (suc (passed n h.marks) == tick_after) []
     told_here t = subst (λ j. IsPassed c.program t (suc j) x (λ m fs. fs ≡ []) (suc j == tick_after) []) h.count (subst (λ v. IsPassed c.program t (suc k) x (λ m fs. fs ≡ []) v []) (sym e) refl)
+
     few : k' < tick_after
     few = let differs : suc k == 1000 ≡ false = e in let less : k < 1000 = h.few in let eq : k' ≡ suc k = is in search (rules, arith)
 
@@ -222,13 +222,15 @@ came_ended c a b i nothing p h = let no : t.Ends ≡ t.Nothing = h.0 in absurd (
 pub gone_to_end : (c : Flat) (a b d : Held) (n k : ℕ) → HasGone c a b n k → (o : Option Instr) → slice_get c.code b.state.at ≡ o → Advances c b d t.Ends o → Ran c a d n k stop.Ends
 gone_to_end c a b d n k h None e x = let no : t.Ends ≡ t.Nothing = x.0 in absurd (let y : ⊥ = cc in y)
 gone_to_end c a b d n k h (Some i) e x =
-    let how : (marks : List Item) × (progress c b.state i i.step ≡ ends marks) = came_ended c b d i (progress c b.state i i.step) refl x in
-    (record {
-      marks = h.marks ++ how.0;
-      carries = λ f vs items g. subst (Stops c (thread_of c.program f) f vs) (append_assoc items h.marks how.0)
-          (ends_stops c (thread_of c.program f) f vs (items ++ h.marks) b.state i how.0 e how.1 (h.carries f vs items g));
-      silent = λ s. told_append c.program s n h.marks how.0 [] [] (h.silent s) (end_told c b.state i how.0 how.1 c.program s (passed n h.marks));
-    }, h.few)
+    let how : (marks : List Item) × (progress c b.state i i.step ≡ ends marks) = came_ended c b d i (progress c b.state i i.step) refl x in (
+      record {
+        marks = h.marks ++ how.0;
+        carries = λ f vs items g. subst (Stops c (thread_of c.program f) f vs) (append_assoc items h.marks how.0)
+            (ends_stops c (thread_of c.program f) f vs (items ++ h.marks) b.state i how.0 e how.1 (h.carries f vs items g));
+        silent = λ s. told_append c.program s n h.marks how.0 [] [] (h.silent s) (end_told c b.state i how.0 how.1 c.program s (passed n h.marks));
+      },
+      h.few,
+    )
 
 -- There is always an instruction, and something comes of it.
 came_nothing : (c : Flat) (a b : Held) (i : Instr) → IsLowered c → IsSound c a.state → slice_get c.code a.state.at ≡ Some i → (w : Progress) → progress c a.state i i.step ≡ w → Comes i a b t.Nothing w → ⊥

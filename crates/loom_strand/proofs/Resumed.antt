@@ -1,5 +1,5 @@
 -- What a thread keeps behind a private run.
-use Rattle.std.proofs.Common.{ℕ, suc, ◌≡◌, ◌<◌, Bool, true, false, List, [], ◌∷◌, ◌++◌, ℤ, Option, Some, None, refl, inl, inr, sym, ap, subst, ◌∙◌, slice_get, length, append-nil, arith}
+use Rattle.std.proofs.Common.{ℕ, ◌≡◌, ◌<◌, false, List, [], ◌∷◌, ◌++◌, Option, Some, None, refl, inr, sym, ap, subst, ◌∙◌, slice_get, length, append-nil, arith}
 use Rattle.std.specs.Prelude.{option_map, is_some}
 use Rattle.std.proofs.lemmas.Option.{slice_get_within}
 use Rattle.loom_tree.specs.Tree.{Source}
@@ -25,7 +25,6 @@ use Rattle.loom_strand.specs.Ran.{HasGone, HasTicked, HasCome, IsAskedAt, Ran}
 use Rattle.loom_strand.proofs.Ticks.{told_append, passed_append}
 use Rattle.loom_strand.proofs.Asking.{never_own, is_own}
 use Rattle.loom_strand.proofs.Replies.{no_own}
-use Rattle.loom_strand.proofs.Wanted.{is_lowered}
 
 -- The flat code is that of the thread's program.
 pub flat_is : (c : Flat) (p : Source) → IsLowered c → c.program ≡ p → c ≡ lowered p

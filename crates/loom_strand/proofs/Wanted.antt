@@ -1,5 +1,5 @@
 -- What a thread asks for goes on the trace of its entries.
-use Rattle.std.proofs.Common.{ℕ, ◌≡◌, Bool, true, false, List, [], ◌∷◌, ◌++◌, ℤ, Option, Some, None, refl, inl, inr, sym, ap, subst, ◌∙◌, slice_get, append-nil}
+use Rattle.std.proofs.Common.{ℕ, ◌≡◌, true, false, List, [], ◌∷◌, ◌++◌, ℤ, Option, Some, None, refl, inl, inr, sym, ap, subst, ◌∙◌, slice_get, append-nil}
 use Rattle.loom_tree.specs.Tree.{Function, Source}
 use Rattle.loom_lang.specs.Rules.{IsLawful}
 use Rattle.loom_lang.specs.Places.{line_of_function}
@@ -23,9 +23,9 @@ use Rattle.loom_strand.specs.declared.stage.Stage.{Stage}
 use Rattle.loom_strand.specs.declared.stage.Stage.TheVariants as stage
 use Rattle.loom_strand.specs.declared.stage.Want.TheVariants as w
 use Rattle.loom_strand.specs.Machine.{asks, progress}
-use Rattle.loom_strand.specs.Next.{GoesOn, IsNext, IsTick, IsEnded, Asks, IsAskedIn, is_begin, has_none, has_ended}
+use Rattle.loom_strand.specs.Next.{GoesOn, IsNext, Asks, IsAskedIn, is_begin, has_none, has_ended}
 use Rattle.loom_strand.specs.Strand.{Strand, IsStarted, AsksFor, Wants}
-use Rattle.loom_strand.specs.Kept.{IsSound, Continues, Stops, thread_of, IsAtRequest, IsWaiting, IsRunning, IsStopping, HasStopped, AsksOnly, IsAt, IsKept}
+use Rattle.loom_strand.specs.Kept.{IsSound, Continues, Stops, thread_of, IsWaiting, IsRunning, IsStopping, HasStopped, AsksOnly, IsAt, IsKept}
 use Rattle.loom_strand.proofs.Continues.{continues_open, granted_continues, trapped_stops}
 use Rattle.loom_strand.proofs.Asking.{asks_numbers, never_own, is_own, asks_in}
 

@@ -1,5 +1,4 @@
 use Rattle.std.proofs.Common.{refl, slice_get}
-use Rattle.loom_strand.specs.declared.turn.Mark.{Mark}
 use Rattle.loom_strand.proofs.Gone.{Moved, gone_nowhere, advanced_moved, gone_on, gone_to_tick, moved_falls, gone_to_end, gone_to_nothing}
 use Rattle.loom_strand.proofs.run.run.Goals as goal
 
@@ -9,21 +8,21 @@ run-init c = gone_nowhere c.args.flow.now c.args.machine.now c.args.passed.now c
 pub returns-in-Some : goal.returns-in-Some
 returns-in-Some c =
     let moved : Moved c.args.flow.now c.run.machine c.advance.new.machine c.in-Went.mark =
-        advanced_moved c.args.flow.now c.run.machine c.advance.new.machine c.in-Went.mark (slice_get c.args.flow.now.code c.run.machine.state.at) refl c.in-Went.ensures in
+    advanced_moved c.args.flow.now c.run.machine c.advance.new.machine c.in-Went.mark (slice_get c.args.flow.now.code c.run.machine.state.at) refl c.in-Went.ensures in
     gone_to_tick c.args.flow.now c.args.machine.now c.run.machine c.advance.new.machine c.args.passed.now c.run.passed c.pass.new.passed c.in-Some.place c.in-Went.mark
     c.requires.lowered c.run.invariant moved c.in-Some.ensures
 
 pub run-smaller : goal.run-smaller
 run-smaller c =
     let moved : Moved c.args.flow.now c.run.machine c.advance.new.machine c.in-Went.mark =
-        advanced_moved c.args.flow.now c.run.machine c.advance.new.machine c.in-Went.mark (slice_get c.args.flow.now.code c.run.machine.state.at) refl c.in-Went.ensures in
+    advanced_moved c.args.flow.now c.run.machine c.advance.new.machine c.in-Went.mark (slice_get c.args.flow.now.code c.run.machine.state.at) refl c.in-Went.ensures in
     moved_falls c.args.flow.now c.run.machine c.advance.new.machine c.run.passed c.pass.new.passed c.in-Went.mark c.requires.lowered c.run.invariant.sound moved c.in_default.ensures
     (gone_on c.args.flow.now c.args.machine.now c.run.machine c.advance.new.machine c.args.passed.now c.run.passed c.pass.new.passed c.in-Went.mark c.requires.lowered c.run.invariant moved c.in_default.ensures).few
 
 pub run-preserved : goal.run-preserved
 run-preserved c =
     let moved : Moved c.args.flow.now c.run.machine c.advance.new.machine c.in-Went.mark =
-        advanced_moved c.args.flow.now c.run.machine c.advance.new.machine c.in-Went.mark (slice_get c.args.flow.now.code c.run.machine.state.at) refl c.in-Went.ensures in
+    advanced_moved c.args.flow.now c.run.machine c.advance.new.machine c.in-Went.mark (slice_get c.args.flow.now.code c.run.machine.state.at) refl c.in-Went.ensures in
     gone_on c.args.flow.now c.args.machine.now c.run.machine c.advance.new.machine c.args.passed.now c.run.passed c.pass.new.passed c.in-Went.mark c.requires.lowered c.run.invariant moved c.in_default.ensures
 
 pub returns-in-Ends : goal.returns-in-Ends

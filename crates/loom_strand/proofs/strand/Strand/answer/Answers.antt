@@ -1,13 +1,10 @@
-use Rattle.std.proofs.Common.{ℕ, List, ◌≡◌, ◌∙◌, refl, sym, ap, subst}
+use Rattle.std.proofs.Common.{List, ◌≡◌, ◌∙◌, refl, sym, ap, subst}
 use Rattle.std.specs.Vec.{vec_capacity}
-use Rattle.loom_lang.specs.Rules.{IsLawful}
 use Rattle.loom_flow.specs.declared.code.Instr.{Instr}
 use Rattle.loom_flow.specs.declared.code.Entrance.{Entrance}
 use Rattle.loom_flow.specs.Flat.{Flat}
 use Rattle.loom_flow.specs.Lowered.{lowered}
-use Rattle.loom_trace.specs.declared.entry.Entry.{Entry}
 use Rattle.loom_law.specs.Asked.{IsAnswer}
-use Rattle.loom_strand.specs.declared.reply.Reply.{Reply}
 use Rattle.loom_strand.specs.Strand.{Strand}
 use Rattle.loom_strand.specs.Kept.{IsKept}
 use Rattle.loom_strand.specs.Replied.{reply_of, CanFollow, Follows}

@@ -1,5 +1,6 @@
 -- A private run, one instruction after another.
-use Rattle.std.proofs.Common.{ℕ, suc, ◌≡◌, ◌==◌, ◌<◌, true, false, Bool, List, [], ◌∷◌, ◌++◌, Option, Some, None, slice_get, refl, sym, ap, subst, ◌∙◌, append-nil, append_assoc, arith, rules, if◌then◌else◌}
+use Rattle.std.proofs.Common.{ℕ, suc, ◌≡◌, ◌==◌, ◌<◌, true, false, Bool, List, [], ◌∷◌, ◌++◌, Option, Some, None, slice_get, refl, sym, ap, subst, ◌∙◌, append-nil}
+use Rattle.std.proofs.Common.{append_assoc, arith, rules, if◌then◌else◌}
 use Rattle.loom_tree.specs.Tree.{Source}
 use Rattle.loom_lang.specs.Places.{Place, place_at, line_of_place, entry, back_edge}
 use Rattle.loom_lang.specs.Trace.{Item, enter, edge}
@@ -51,7 +52,8 @@ pub record Moved (c : Flat) (a b : Held) (mark : Mark) : Type 0 where
 same_mark : (x y : Mark) → t.Went x ≡ t.Went y → x ≡ y
 same_mark x y e = cc
 
-came_moved : (c : Flat) (a b : Held) (mark : Mark) (i : Instr) → slice_get c.code a.state.at ≡ Some i → (w : Progress) → progress c a.state i i.step ≡ w → Comes i a b (t.Went mark) w → Moved c a b mark
+came_moved : (c : Flat) (a b : Held) (mark : Mark) (i : Instr) → slice_get c.code a.state.at ≡ Some i → (w : Progress) → progress c a.state i i.step ≡ w
+    → Comes i a b (t.Went mark) w → Moved c a b mark
 came_moved c a b mark i e (goes marks z) p h = record {
   instruction = i;
   there = e;
@@ -145,7 +147,8 @@ ticked_place c a b d n k k' j x mark l h w one due is number = record {
   carries = carried c a.state b d h.marks mark w h.carries;
   passes = x;
   number = number;
-  told = λ t. told_append c.program t n h.marks w.marks [] (e.Tick t (line_of_place c.program x) j ∷ []) (h.silent t) (one.told t (passed n h.marks) (e.Tick t (line_of_place c.program x) j ∷ []) (told_here t));
+  told = λ t. told_append c.program t n h.marks w.marks [] (e.Tick t (line_of_place c.program x) j ∷ []) (h.silent t)
+      (one.told t (passed n h.marks) (e.Tick t (line_of_place c.program x) j ∷ []) (told_here t));
   count = is ∙ sym (counted k true due) ∙ ap passed_one h.count ∙ sym (one.count (passed n h.marks)) ∙ sym (passed_append n h.marks w.marks);
   begins = is;
   sound = moved_sound c b d mark l w h.sound;
@@ -163,11 +166,13 @@ entered c f en h = ap place_entered h
 pub gone_on : (c : Flat) (a b d : Held) (n k k' : ℕ) (mark : Mark) → IsLowered c → HasGone c a b n k → Moved c b d mark → Passes c k k' mark None → HasGone c a d n k'
 gone_on c a b d n k k' m.Silent l h w x = subst (HasGone c a d n) (sym x.0) (gone_silent c a b d n k l h w)
 gone_on c a b d n k k' (m.Entry f) l h w x =
-    let told : (w.marks ≡ enter f ∷ []) × ((en : Entrance) × (slice_get c.entrances f ≡ Some en) × (place_at c.program en.place ≡ Some (entry f))) = entry_marked c b.state w.behind w.instruction w.marks f l w.there w.goes w.marked in
+    let told : (w.marks ≡ enter f ∷ []) × ((en : Entrance) × (slice_get c.entrances f ≡ Some en) × (place_at c.program en.place ≡ Some (entry f))) =
+    entry_marked c b.state w.behind w.instruction w.marks f l w.there w.goes w.marked in
     let how : ((suc k == tick_after) ≡ false) × (k' ≡ suc k) = unticked c k k' (m.Entry f) (suc k == tick_after) x in
     gone_place c a b d n k k' (entry f) (m.Entry f) l h w (one_entry c.program w.marks f told.0) how.0 how.1
 gone_on c a b d n k k' (m.Edge j) l h w x =
-    let told : (w.marks ≡ edge w.instruction.line ∷ []) × (place_at c.program j ≡ Some (back_edge w.instruction.line)) = edge_marked c b.state w.behind w.instruction w.marks j l w.there w.goes w.marked in
+    let told : (w.marks ≡ edge w.instruction.line ∷ []) × (place_at c.program j ≡ Some (back_edge w.instruction.line)) =
+    edge_marked c b.state w.behind w.instruction w.marks j l w.there w.goes w.marked in
     let how : ((suc k == tick_after) ≡ false) × (k' ≡ suc k) = unticked c k k' (m.Edge j) (suc k == tick_after) x in
     gone_place c a b d n k k' (back_edge w.instruction.line) (m.Edge j) l h w (one_edge c.program w.marks w.instruction.line told.0) how.0 how.1
 
@@ -175,12 +180,14 @@ gone_on c a b d n k k' (m.Edge j) l h w x =
 pub gone_to_tick : (c : Flat) (a b d : Held) (n k k' j : ℕ) (mark : Mark) → IsLowered c → HasGone c a b n k → Moved c b d mark → Passes c k k' mark (Some j) → HasTicked c a d n k' j
 gone_to_tick c a b d n k k' j m.Silent l h w x = let no : ◌≡◌ {A = Option ℕ} (Some j) None = x.1 in absurd (let y : ⊥ = cc in y)
 gone_to_tick c a b d n k k' j (m.Entry f) l h w x =
-    let told : (w.marks ≡ enter f ∷ []) × ((en : Entrance) × (slice_get c.entrances f ≡ Some en) × (place_at c.program en.place ≡ Some (entry f))) = entry_marked c b.state w.behind w.instruction w.marks f l w.there w.goes w.marked in
+    let told : (w.marks ≡ enter f ∷ []) × ((en : Entrance) × (slice_get c.entrances f ≡ Some en) × (place_at c.program en.place ≡ Some (entry f))) =
+    entry_marked c b.state w.behind w.instruction w.marks f l w.there w.goes w.marked in
     let how : ((suc k == tick_after) ≡ true) × (k' ≡ 0) × (j ≡ place_marked c (m.Entry f)) = ticked c k k' j (m.Entry f) (suc k == tick_after) x in
     ticked_place c a b d n k k' j (entry f) (m.Entry f) l h w (one_entry c.program w.marks f told.0) how.0 how.1
     (subst (λ i. place_at c.program i ≡ Some (entry f)) (sym (how.2 ∙ entered c f told.1.0 told.1.1)) told.1.2)
 gone_to_tick c a b d n k k' j (m.Edge i) l h w x =
-    let told : (w.marks ≡ edge w.instruction.line ∷ []) × (place_at c.program i ≡ Some (back_edge w.instruction.line)) = edge_marked c b.state w.behind w.instruction w.marks i l w.there w.goes w.marked in
+    let told : (w.marks ≡ edge w.instruction.line ∷ []) × (place_at c.program i ≡ Some (back_edge w.instruction.line)) =
+    edge_marked c b.state w.behind w.instruction w.marks i l w.there w.goes w.marked in
     let how : ((suc k == tick_after) ≡ true) × (k' ≡ 0) × (j ≡ i) = ticked c k k' j (m.Edge i) (suc k == tick_after) x in
     ticked_place c a b d n k k' j (back_edge w.instruction.line) (m.Edge i) l h w (one_edge c.program w.marks w.instruction.line told.0) how.0 how.1
     (subst (λ o. place_at c.program o ≡ Some (back_edge w.instruction.line)) (sym how.2) told.1)
@@ -188,7 +195,8 @@ gone_to_tick c a b d n k k' j (m.Edge i) l h w x =
 -- the measure falls
 pub moved_falls : (c : Flat) (b d : Held) (k k' : ℕ) (mark : Mark) → IsLowered c → IsSound c b.state → Moved c b d mark → Passes c k k' mark None → k' < 1000 → left c k' d.state < left c k b.state
 moved_falls c b d k k' m.Silent l h w x few =
-    subst (λ j. left c j d.state < left c k b.state) (sym x.0) (subst (λ (y : Held). left c k y.state < left c k b.state) (sym w.is) (falls_silent c b.state w.behind w.instruction w.marks l w.there w.goes w.marked h k))
+    subst (λ j. left c j d.state < left c k b.state) (sym x.0)
+    (subst (λ (y : Held). left c k y.state < left c k b.state) (sym w.is) (falls_silent c b.state w.behind w.instruction w.marks l w.there w.goes w.marked h k))
 moved_falls c b d k k' (m.Entry f) l h w x few =
     let more : k' ≡ suc k = (unticked c k k' (m.Entry f) (suc k == tick_after) x).1 in
     subst (λ j. left c j d.state < left c k b.state) (sym more) (subst (λ (y : Held). left c (suc k) y.state < left c k b.state) (sym w.is)
@@ -207,7 +215,8 @@ came_asked c a b q i e (asks r) p h = (h.1, p ∙ (let same : t.Asks q ≡ t.Ask
 came_asked c a b q i e (ends marks) p h = let no : t.Asks q ≡ t.Ends = h in absurd (let x : ⊥ = cc in x)
 came_asked c a b q i e nothing p h = let no : t.Asks q ≡ t.Nothing = h.0 in absurd (let x : ⊥ = cc in x)
 
-pub gone_to_request : (c : Flat) (a b d : Held) (n k : ℕ) (q : Request) → HasGone c a b n k → (o : Option Instr) → slice_get c.code b.state.at ≡ o → Advances c b d (t.Asks q) o → Ran c a d n k (stop.Asks q)
+pub gone_to_request : (c : Flat) (a b d : Held) (n k : ℕ) (q : Request) → HasGone c a b n k → (o : Option Instr) → slice_get c.code b.state.at ≡ o
+    → Advances c b d (t.Asks q) o → Ran c a d n k (stop.Asks q)
 gone_to_request c a b d n k q h None e x = let no : t.Asks q ≡ t.Nothing = x.0 in absurd (let y : ⊥ = cc in y)
 gone_to_request c a b d n k q h (Some i) e x =
     let how : (d ≡ b) × (progress c b.state i i.step ≡ asks q) = came_asked c b d q i e (progress c b.state i i.step) refl x in
@@ -233,7 +242,8 @@ gone_to_end c a b d n k h (Some i) e x =
     )
 
 -- There is always an instruction, and something comes of it.
-came_nothing : (c : Flat) (a b : Held) (i : Instr) → IsLowered c → IsSound c a.state → slice_get c.code a.state.at ≡ Some i → (w : Progress) → progress c a.state i i.step ≡ w → Comes i a b t.Nothing w → ⊥
+came_nothing : (c : Flat) (a b : Held) (i : Instr) → IsLowered c → IsSound c a.state → slice_get c.code a.state.at ≡ Some i → (w : Progress) → progress c a.state i i.step ≡ w
+    → Comes i a b t.Nothing w → ⊥
 came_nothing c a b i l s e (goes marks z) p h = let no : t.Nothing ≡ t.Went (mark_of i marks) = h.0 in cc
 came_nothing c a b i l s e (asks r) p h = let no : t.Nothing ≡ t.Asks r = h.0 in cc
 came_nothing c a b i l s e (ends marks) p h = let no : t.Nothing ≡ t.Ends = h in cc

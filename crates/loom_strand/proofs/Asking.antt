@@ -1,5 +1,6 @@
 -- What instructions ask for.
-use Rattle.std.proofs.Common.{ℕ, suc, ◌+◌, ◌&&◌, ◌≡◌, ◌≤◌, ◌<◌, Bool, true, false, List, [], ◌∷◌, ℤ, pos, negsuc, Option, Some, None, refl, inl, inr, subst, ◌∙◌, nat_lt, ltb-true, slice_get, length, length-take, take, arith}
+use Rattle.std.proofs.Common.{ℕ, suc, ◌+◌, ◌&&◌, ◌≡◌, ◌≤◌, ◌<◌, Bool, true, false, List, [], ◌∷◌, ℤ, pos, negsuc, Option, Some, None, refl, inl, inr, subst, ◌∙◌, nat_lt}
+use Rattle.std.proofs.Common.{ltb-true, slice_get, length, length-take, take, arith}
 use Rattle.std.proofs.lemmas.List.{length-reverse}
 use Rattle.loom_lang.specs.Values.{is_zero, applied, divides}
 use Rattle.loom_lang.specs.Trace.{Item, done, out, frame_limit}

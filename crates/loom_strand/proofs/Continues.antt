@@ -27,20 +27,23 @@ regroup c f vs items marks es q h = subst (λ is. IsFlatTrace c f vs is q) (sym 
 pub goes_continues : (c : Flat) (t : Thread) (f : ℕ) (vs : List ℤ) (items : List Item) (z z' : State) (i : Instr) (marks : List Item)
     → slice_get c.code z.at ≡ Some i → progress c z i i.step ≡ goes marks z' → Continues c t f vs items z → Continues c t f vs (items ++ marks) z'
 goes_continues c t f vs items z z' i marks e p h es q n g =
-    let told : Tells c t (performed c t (ever c t) z i i.step) (answered z i.step) (goes marks z') = subst (Tells c t (performed c t (ever c t) z i i.step) (answered z i.step)) p (progress_tells c t z i i.step) in
+    let told : Tells c t (performed c t (ever c t) z i i.step) (answered z i.step) (goes marks z') =
+    subst (Tells c t (performed c t (ever c t) z i i.step) (answered z i.step)) p (progress_tells c t z i i.step) in
     regroup c f vs items marks es q (performed_continues c t f vs items z i e h (marks ++ es) q (told es q (n, g)))
 
 pub ends_stops : (c : Flat) (t : Thread) (f : ℕ) (vs : List ℤ) (items : List Item) (z : State) (i : Instr) (marks : List Item)
     → slice_get c.code z.at ≡ Some i → progress c z i i.step ≡ ends marks → Continues c t f vs items z → Stops c t f vs (items ++ marks)
 ends_stops c t f vs items z i marks e p h es q g =
-    let told : Tells c t (performed c t (ever c t) z i i.step) (answered z i.step) (ends marks) = subst (Tells c t (performed c t (ever c t) z i i.step) (answered z i.step)) p (progress_tells c t z i i.step) in
+    let told : Tells c t (performed c t (ever c t) z i i.step) (answered z i.step) (ends marks) =
+    subst (Tells c t (performed c t (ever c t) z i i.step) (answered z i.step)) p (progress_tells c t z i i.step) in
     regroup c f vs items marks es q (performed_continues c t f vs items z i e h (marks ++ es) q (told es q g))
 
 -- behind a granted request, and behind a trap
 pub granted_continues : (c : Flat) (t : Thread) (f : ℕ) (vs : List ℤ) (items : List Item) (z : State) (i : Instr) (a : Request) (v : ℤ) (d : Deed)
     → slice_get c.code z.at ≡ Some i → progress c z i i.step ≡ asks a → granted a v ≡ Some d → Continues c t f vs items z → Continues c t f vs (items ++ made d.line d.act ∷ []) (answered z i.step v)
 granted_continues c t f vs items z i a v d e p g h es q n k =
-    let told : Tells c t (performed c t (ever c t) z i i.step) (answered z i.step) (asks a) = subst (Tells c t (performed c t (ever c t) z i i.step) (answered z i.step)) p (progress_tells c t z i i.step) in
+    let told : Tells c t (performed c t (ever c t) z i i.step) (answered z i.step) (asks a) =
+    subst (Tells c t (performed c t (ever c t) z i i.step) (answered z i.step)) p (progress_tells c t z i i.step) in
     let here : (fs : List Item) (o : Outcome) → ever c t (answered z i.step v) fs o → performed c t (ever c t) z i i.step (made d.line d.act ∷ fs) o =
     subst (λ w. IfSome w (λ (x : Deed). (fs : List Item) (o : Outcome) → ever c t (answered z i.step v) fs o → performed c t (ever c t) z i i.step (made x.line x.act ∷ fs) o)) g (told.0 v) in
     regroup c f vs items (made d.line d.act ∷ []) es q (performed_continues c t f vs items z i e h (made d.line d.act ∷ es) q (here es q (n, k)))
@@ -48,7 +51,8 @@ granted_continues c t f vs items z i a v d e p g h es q n k =
 pub trapped_stops : (c : Flat) (t : Thread) (f : ℕ) (vs : List ℤ) (items : List Item) (z : State) (i : Instr) (a : Request) (d : Deed)
     → slice_get c.code z.at ≡ Some i → progress c z i i.step ≡ asks a → trapped a ≡ Some d → Continues c t f vs items z → Stops c t f vs (items ++ made d.line d.act ∷ [])
 trapped_stops c t f vs items z i a d e p g h es q k =
-    let told : Tells c t (performed c t (ever c t) z i i.step) (answered z i.step) (asks a) = subst (Tells c t (performed c t (ever c t) z i i.step) (answered z i.step)) p (progress_tells c t z i i.step) in
+    let told : Tells c t (performed c t (ever c t) z i i.step) (answered z i.step) (asks a) =
+    subst (Tells c t (performed c t (ever c t) z i i.step) (answered z i.step)) p (progress_tells c t z i i.step) in
     let here : (fs : List Item) (o : Outcome) → t.stopped fs o → performed c t (ever c t) z i i.step (made d.line d.act ∷ fs) o =
     subst (λ w. IfSome w (λ (x : Deed). (fs : List Item) (o : Outcome) → t.stopped fs o → performed c t (ever c t) z i i.step (made x.line x.act ∷ fs) o)) g told.1 in
     regroup c f vs items (made d.line d.act ∷ []) es q (performed_continues c t f vs items z i e h (made d.line d.act ∷ es) q (here es q k))

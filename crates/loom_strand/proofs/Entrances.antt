@@ -1,10 +1,10 @@
 -- Functions and where they begin.
-use Rattle.std.proofs.Common.{ℕ, suc, zero, ◌+◌, ◌≡◌, ◌<◌, ◌≤◌, List, [], ◌∷◌, ◌++◌, ℤ, Option, Some, None, refl, sym, ap, subst, ◌∙◌, slice_get, length, arith}
+use Rattle.std.proofs.Common.{ℕ, suc, zero, ◌+◌, ◌≡◌, ◌<◌, List, [], ◌∷◌, Option, Some, None, refl, sym, ap, subst, ◌∙◌, slice_get, length}
 use Rattle.std.specs.Prelude.{option_map}
 use Rattle.std.proofs.lemmas.Option.{slice_get_within}
 use Rattle.loom_tree.specs.Tree.{Function, Source}
-use Rattle.loom_lang.specs.Rules.{IsLawful, locals_of}
-use Rattle.loom_lang.specs.Places.{Place, entry, places, place_at, line_of_place, line_of_function}
+use Rattle.loom_lang.specs.Rules.{locals_of}
+use Rattle.loom_lang.specs.Places.{entry, places, place_at, line_of_place, line_of_function}
 use Rattle.loom_flow.specs.declared.code.Entrance.{Entrance}
 use Rattle.loom_flow.specs.Flat.{Flat}
 use Rattle.loom_flow.specs.Lowered.{size, place_count, entrances}
@@ -43,7 +43,8 @@ entrance_place c n e l h =
 same_line : (m n : ℕ) → ◌≡◌ {A = Option ℕ} (Some m) (Some n) → m ≡ n
 same_line m n e = cc
 
-pub entrance_line : (c : Flat) (n m : ℕ) (e : Entrance) → IsLowered c → slice_get c.entrances n ≡ Some e → option_map (line_of_place c.program) (place_at c.program e.place) ≡ Some m → m ≡ line_of_function (slice_get c.program.funcs n)
+pub entrance_line : (c : Flat) (n m : ℕ) (e : Entrance) → IsLowered c → slice_get c.entrances n ≡ Some e
+    → option_map (line_of_place c.program) (place_at c.program e.place) ≡ Some m → m ≡ line_of_function (slice_get c.program.funcs n)
 entrance_line c n m e l h is = sym (same_line (line_of_function (slice_get c.program.funcs n)) m (sym (ap (option_map (line_of_place c.program)) (entered_at c n e l h)) ∙ is))
 
 pub no_line : (c : Flat) (n : ℕ) → IsLowered c → slice_get c.entrances n ≡ None → 0 ≡ line_of_function (slice_get c.program.funcs n)

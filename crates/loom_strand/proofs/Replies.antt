@@ -1,5 +1,5 @@
 -- What answers a request that an instruction made.
-use Rattle.std.proofs.Common.{ℕ, ◌≡◌, ◌⊎◌, Bool, true, false, List, [], ◌∷◌, ◌++◌, ℤ, pos, negsuc, Option, Some, None, refl, inl, inr, sym, ap, subst, ◌∙◌}
+use Rattle.std.proofs.Common.{ℕ, ◌≡◌, ◌⊎◌, true, false, ℤ, pos, negsuc, Option, Some, None, refl, inl, inr, sym, ap, ◌∙◌}
 use Rattle.loom_lang.specs.Trace.{Cause}
 use Rattle.loom_lang.specs.Acts.{Deed}
 use Rattle.loom_trace.specs.declared.entry.Entry.{Entry}
@@ -10,7 +10,7 @@ use Rattle.loom_law.specs.Asked.{granted, trapped, cause_of, trap_at, IsEntryOf,
 use Rattle.loom_strand.specs.declared.stage.Birth.{Birth}
 use Rattle.loom_strand.specs.declared.reply.Reply.TheVariants as reply
 use Rattle.loom_strand.specs.Next.{is_end}
-use Rattle.loom_strand.specs.Replied.{is_trap, reply_of}
+use Rattle.loom_strand.specs.Replied.{reply_of}
 use Rattle.loom_strand.proofs.Asking.{is_own}
 
 -- The request is granted: the machine goes on with this value.

@@ -1,5 +1,5 @@
 -- What a thread keeps behind a private run.
-use Rattle.std.proofs.Common.{ℕ, suc, ◌≡◌, ◌<◌, Bool, true, false, List, [], ◌∷◌, ◌++◌, ℤ, Option, Some, None, refl, inl, inr, sym, ap, subst, ◌∙◌, slice_get, length, append-nil, arith}
+use Rattle.std.proofs.Common.{ℕ, ◌≡◌, ◌<◌, false, List, [], ◌∷◌, ◌++◌, Option, Some, None, refl, inr, sym, ap, subst, ◌∙◌, slice_get, length, append-nil, arith}
 use Rattle.std.specs.Prelude.{option_map, is_some}
 use Rattle.std.proofs.lemmas.Option.{slice_get_within}
 use Rattle.loom_tree.specs.Tree.{Source}
@@ -25,7 +25,6 @@ use Rattle.loom_strand.specs.Ran.{HasGone, HasTicked, HasCome, IsAskedAt, Ran}
 use Rattle.loom_strand.proofs.Ticks.{told_append, passed_append}
 use Rattle.loom_strand.proofs.Asking.{never_own, is_own}
 use Rattle.loom_strand.proofs.Replies.{no_own}
-use Rattle.loom_strand.proofs.Wanted.{is_lowered}
 
 -- The flat code is that of the thread's program.
 pub flat_is : (c : Flat) (p : Source) → IsLowered c → c.program ≡ p → c ≡ lowered p
@@ -65,7 +64,8 @@ plain c t es z (r.Print l v) own = record { untimed = refl; at = λ h. h }
 
 -- Stages
 
-asked_running : (p : Source) (t : ℕ) (b : Birth) (es : List Entry) (n k : ℕ) (old new : Held) (q : Request) → IsRunning p t b es None n old.state → HasGone (lowered p) old new n k → IsAskedAt (lowered p) new.state q
+asked_running : (p : Source) (t : ℕ) (b : Birth) (es : List Entry) (n k : ℕ) (old new : Held) (q : Request) → IsRunning p t b es None n old.state
+    → HasGone (lowered p) old new n k → IsAskedAt (lowered p) new.state q
     → IsRunning p t b es (Some q) k new.state
 asked_running p t b es n k old new q h g at =
     let is : IsPlain (lowered p) t es new.state q = plain (lowered p) t es new.state q (never_own (lowered p) new.state at.0 q at.2) in
@@ -81,11 +81,13 @@ asked_running p t b es n k old new q h g at =
       lives = h.lives;
     }
 
-ticked_running : (p : Source) (t : ℕ) (b : Birth) (es : List Entry) (n k j line : ℕ) (old new : Held) → IsRunning p t b es None n old.state → (g : HasTicked (lowered p) old new n k j) → line ≡ line_of_place p g.passes
+ticked_running : (p : Source) (t : ℕ) (b : Birth) (es : List Entry) (n k j line : ℕ) (old new : Held) → IsRunning p t b es None n old.state
+    → (g : HasTicked (lowered p) old new n k j) → line ≡ line_of_place p g.passes
     → IsRunning p t b es (Some (r.Tick line j)) k new.state
 ticked_running p t b es n k j line old new h g is = record {
   items = h.items ++ g.marks;
-  told = told_append p t 0 h.items g.marks es (e.Tick t line j ∷ []) h.told (subst (λ m. AreTold p t m g.marks (e.Tick t line j ∷ [])) h.count (subst (λ m. AreTold p t n g.marks (e.Tick t m j ∷ [])) (sym is) (g.told t)));
+  told = told_append p t 0 h.items g.marks es (e.Tick t line j ∷ []) h.told
+      (subst (λ m. AreTold p t m g.marks (e.Tick t line j ∷ [])) h.count (subst (λ m. AreTold p t n g.marks (e.Tick t m j ∷ [])) (sym is) (g.told t)));
   count = g.count ∙ ap (λ m. passed m g.marks) h.count ∙ sym (passed_append 0 h.items g.marks);
   goes = g.carries b.func b.args h.items h.goes;
   sound = g.sound;
@@ -95,7 +97,8 @@ ticked_running p t b es n k j line old new h g is = record {
   lives = h.lives;
 }
 
-come_stopping : (p : Source) (t : ℕ) (b : Birth) (es : List Entry) (n line : ℕ) (old : Held) → IsRunning p t b es None n old.state → HasCome (lowered p) old n → line ≡ line_of_function (slice_get p.funcs b.func)
+come_stopping : (p : Source) (t : ℕ) (b : Birth) (es : List Entry) (n line : ℕ) (old : Held) → IsRunning p t b es None n old.state → HasCome (lowered p) old n
+    → line ≡ line_of_function (slice_get p.funcs b.func)
     → IsStopping p t b es (Some (r.End line))
 come_stopping p t b es n line old h g is = record {
   items = h.items ++ g.marks;
@@ -140,7 +143,8 @@ kept_as : (s : Strand) (b : Birth) (q : Option Request) (m : Held) (st st' : Sta
 kept_as s b q m st st' k birth es lawful few room at =
     subst (λ z. IsKept (resumed s q m z k)) (sym es) (record { lawful = lawful; room = room; few = few; stage = subst (IsAt st (resumed s q m st k)) (sym birth) at })
 
-pub resumed_asks : (c : Flat) (s : Strand) (b : Birth) (q : Request) (m : Held) (k : ℕ) → IsFree c s b → Ran c s.inside.held m s.inside.passed k (stop.Asks q) → IsKept (resumed s (Some q) m s.inside.stage k)
+pub resumed_asks : (c : Flat) (s : Strand) (b : Birth) (q : Request) (m : Held) (k : ℕ) → IsFree c s b → Ran c s.inside.held m s.inside.passed k (stop.Asks q)
+    → IsKept (resumed s (Some q) m s.inside.stage k)
 resumed_asks c s b q m k h g =
     let here : Ran (lowered s.program) s.inside.held m s.inside.passed k (stop.Asks q) = subst (λ d. Ran d s.inside.held m s.inside.passed k (stop.Asks q)) (flat_is c s.program h.flat h.program) g in
     kept_as s b (Some q) m stage.Runs s.inside.stage k h.birth h.stage h.kept.lawful here.0.few here.0.room
@@ -149,7 +153,8 @@ resumed_asks c s b q m k h g =
 same_line : (m n : ℕ) → ◌≡◌ {A = Option ℕ} (Some m) (Some n) → m ≡ n
 same_line m n e = cc
 
-pub resumed_ticks : (c : Flat) (s : Strand) (b : Birth) (m : Held) (k j line : ℕ) → IsFree c s b → Ran c s.inside.held m s.inside.passed k (stop.Ticks j) → option_map (line_of_place c.program) (place_at c.program j) ≡ Some line
+pub resumed_ticks : (c : Flat) (s : Strand) (b : Birth) (m : Held) (k j line : ℕ) → IsFree c s b → Ran c s.inside.held m s.inside.passed k (stop.Ticks j)
+    → option_map (line_of_place c.program) (place_at c.program j) ≡ Some line
     → IsKept (resumed s (Some (r.Tick line j)) m s.inside.stage k)
 resumed_ticks c s b m k j line h g is =
     let here : HasTicked (lowered s.program) s.inside.held m s.inside.passed k j = subst (λ d. Ran d s.inside.held m s.inside.passed k (stop.Ticks j)) (flat_is c s.program h.flat h.program) g in
@@ -161,7 +166,8 @@ resumed_ticks c s b m k j line h g is =
 pub ticked_place : (c : Flat) (a m : Held) (n k j : ℕ) → IsLowered c → Ran c a m n k (stop.Ticks j) → j < length c.sites
 ticked_place c a m n k j l g = subst (λ i. j < i) (sym (as_many_sites c l)) (slice_get_within (places c.program) j g.passes g.number)
 
-pub resumed_ends : (c : Flat) (s : Strand) (b : Birth) (m : Held) (k line : ℕ) → IsFree c s b → Ran c s.inside.held m s.inside.passed k stop.Ends → line ≡ line_of_function (slice_get c.program.funcs b.func)
+pub resumed_ends : (c : Flat) (s : Strand) (b : Birth) (m : Held) (k line : ℕ) → IsFree c s b → Ran c s.inside.held m s.inside.passed k stop.Ends
+    → line ≡ line_of_function (slice_get c.program.funcs b.func)
     → IsKept (resumed s (Some (r.End line)) m stage.Stops k)
 resumed_ends c s b m k line h g is =
     let here : Ran (lowered s.program) s.inside.held m s.inside.passed k stop.Ends = subst (λ d. Ran d s.inside.held m s.inside.passed k stop.Ends) (flat_is c s.program h.flat h.program) g in

@@ -1,5 +1,6 @@
 -- A thread stays at an instruction, with as many values as are foreseen there.
-use Rattle.std.proofs.Common.{ℕ, suc, ◌+◌, ◌-◌, ◌&&◌, ◌≡◌, ◌≤◌, ◌<◌, Bool, true, false, List, [], ◌∷◌, ℤ, pos, negsuc, Option, Some, None, refl, sym, ap, subst, ◌∙◌, nat_lt, slice_get, length, drop, length-drop, ltb-true, arith}
+use Rattle.std.proofs.Common.{ℕ, suc, ◌+◌, ◌-◌, ◌&&◌, ◌≡◌, ◌≤◌, ◌<◌, Bool, true, false, List, [], ◌∷◌, ℤ, pos, negsuc, Option, Some, None, refl, sym, ap, subst, ◌∙◌}
+use Rattle.std.proofs.Common.{nat_lt, slice_get, length, drop, length-drop, ltb-true, arith}
 use Rattle.std.proofs.lemmas.Option.{slice_get-get_or}
 use Rattle.loom_lang.specs.Values.{is_zero, applied, divides, negated, inverted}
 use Rattle.loom_lang.specs.Trace.{Item, done, out, frame_limit}

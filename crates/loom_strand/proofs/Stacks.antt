@@ -1,6 +1,7 @@
 -- A stack whose list has the top last.
 use Rattle.std.proofs.Common.{ℕ, pos, ◌<◌, get_or, ◌-◌, ◌≡◌, ◌≤◌, ◌⊎◌, inl, inr, List, [], ◌∷◌, ◌++◌, ℤ, Some, slice_get, length, take, drop, reverse, refl, sym, ap, subst, ◌∙◌, arith}
-use Rattle.std.proofs.lemmas.List.{get_or-reverse, get_or_past, get_or_default, reverse-append, reverse-reverse, length-reverse, length-drop, length-append, take_at, take_all, take-append-drop, drop_at, drop_all}
+use Rattle.std.proofs.lemmas.List.{get_or-reverse, get_or_past, get_or_default, reverse-append, reverse-reverse, length-reverse, length-drop, length-append, take_at}
+use Rattle.std.proofs.lemmas.List.{take_all, take-append-drop, drop_at, drop_all}
 use Rattle.std.proofs.lemmas.Bool.{cases_lt}
 use Rattle.loom_flow.specs.Flat.{Frame, top, value_of}
 use Rattle.loom_strand.specs.Held.{newest}

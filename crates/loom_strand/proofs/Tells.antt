@@ -60,7 +60,8 @@ progress_tells c t z i (s.Apply o a b d) =
     ((λ v. tt), λ es q h. inr (es, refl, h)) (λ es q h. h)
 progress_tells c t z i (s.Write w a) = ((λ v es q h. inr (es, refl, h)), tt)
 progress_tells c t z i (s.WriteCell a n b) =
-    tells_cell c t i.line a (operand (without z b) n) (λ w. trace.emit (made i.line (trace.write w (operand z b))) (ever c t (forward (without (without z b) n)))) (λ v. forward (without (without z b) n))
+    tells_cell c t i.line a (operand (without z b) n) (λ w. trace.emit (made i.line (trace.write w (operand z b))) (ever c t (forward (without (without z b) n))))
+    (λ v. forward (without (without z b) n))
     (λ w. r.Write i.line w (operand z b)) (λ w. ((λ v es q h. inr (es, refl, h)), tt))
 progress_tells c t z i (s.Lock m) = ((λ v es q h. inr (es, refl, h)), tt)
 progress_tells c t z i (s.Unlock m) = ((λ v es q h. inr (inr (es, refl, h))), λ es q h. inl (inr (es, refl, h)))
@@ -91,6 +92,7 @@ progress_tells c t z i s.Done = λ es q h. inr (es, refl, h)
 progress_tells c t z i (s.Edge at) = λ es q h. inr (es, refl, h)
 progress_tells c t z i (s.Jump at) = λ es q h. h
 progress_tells c t z i (s.JumpIfZero a at) =
-    tells_either c t (is_zero (operand z a)) (ever c t (jumped (without z a) at)) (ever c t (forward (without z a))) (answered z (s.JumpIfZero a at)) (goes [] (jumped (without z a) at)) (goes [] (forward (without z a)))
+    tells_either c t (is_zero (operand z a)) (ever c t (jumped (without z a) at)) (ever c t (forward (without z a))) (answered z (s.JumpIfZero a at)) (goes [] (jumped (without z a) at))
+    (goes [] (forward (without z a)))
     (λ es q h. h) (λ es q h. h)
 progress_tells c t z i s.Out = tells_returns c t z.values (pos 0) (answered z s.Out) (out z.func ∷ []) (λ k. trace.emit (out z.func) k) z.below (λ k es q h. inr (es, refl, h))

@@ -1,5 +1,5 @@
 -- Entries that tell items, one part behind another.
-use Rattle.std.proofs.Common.{ℕ, suc, ◌≡◌, ◌==◌, Bool, true, false, List, [], ◌∷◌, ◌++◌, Option, Some, None, refl, sym, ap, subst, ◌∙◌, if◌then◌else◌}
+use Rattle.std.proofs.Common.{ℕ, suc, ◌≡◌, ◌==◌, Bool, true, false, List, [], ◌∷◌, ◌++◌, Some, refl, sym, ap, subst, if◌then◌else◌}
 use Rattle.loom_tree.specs.Tree.{Source}
 use Rattle.loom_lang.specs.Places.{Place, entry, back_edge, place_at, line_of_place}
 use Rattle.loom_lang.specs.Trace.{Item, Act, made, begins, done, edge, enter, out}

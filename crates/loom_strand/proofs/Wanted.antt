@@ -1,5 +1,5 @@
 -- What a thread asks for goes on the trace of its entries.
-use Rattle.std.proofs.Common.{ℕ, ◌≡◌, Bool, true, false, List, [], ◌∷◌, ◌++◌, ℤ, Option, Some, None, refl, inl, inr, sym, ap, subst, ◌∙◌, slice_get, append-nil}
+use Rattle.std.proofs.Common.{ℕ, ◌≡◌, true, false, List, [], ◌∷◌, ◌++◌, ℤ, Option, Some, None, refl, inl, inr, sym, ap, subst, ◌∙◌, slice_get, append-nil}
 use Rattle.loom_tree.specs.Tree.{Function, Source}
 use Rattle.loom_lang.specs.Rules.{IsLawful}
 use Rattle.loom_lang.specs.Places.{line_of_function}
@@ -23,9 +23,9 @@ use Rattle.loom_strand.specs.declared.stage.Stage.{Stage}
 use Rattle.loom_strand.specs.declared.stage.Stage.TheVariants as stage
 use Rattle.loom_strand.specs.declared.stage.Want.TheVariants as w
 use Rattle.loom_strand.specs.Machine.{asks, progress}
-use Rattle.loom_strand.specs.Next.{GoesOn, IsNext, IsTick, IsEnded, Asks, IsAskedIn, is_begin, has_none, has_ended}
+use Rattle.loom_strand.specs.Next.{GoesOn, IsNext, Asks, IsAskedIn, is_begin, has_none, has_ended}
 use Rattle.loom_strand.specs.Strand.{Strand, IsStarted, AsksFor, Wants}
-use Rattle.loom_strand.specs.Kept.{IsSound, Continues, Stops, thread_of, IsAtRequest, IsWaiting, IsRunning, IsStopping, HasStopped, AsksOnly, IsAt, IsKept}
+use Rattle.loom_strand.specs.Kept.{IsSound, Continues, Stops, thread_of, IsWaiting, IsRunning, IsStopping, HasStopped, AsksOnly, IsAt, IsKept}
 use Rattle.loom_strand.proofs.Continues.{continues_open, granted_continues, trapped_stops}
 use Rattle.loom_strand.proofs.Asking.{asks_numbers, never_own, is_own, asks_in}
 
@@ -111,21 +111,46 @@ running_asks s b n z (r.Tick line k) l e h =
     asks_here s b (r.Tick line k) e h.begun h.lives
     (record { items = h.items; trace = tree_trace s.program l b.func b.args h.items Open (continues_open (lowered s.program) (thread_of s.program b.func) b.func b.args h.items z h.goes); told = h.told })
     tt refl tt
-running_asks s b n z (r.Begin line) l e h = let a : IsAskedHere s.program s.thread b s.entries (r.Begin line) = asked_here s.program l s.thread b s.entries h.items z (r.Begin line) h.told h.goes h.sound h.asks in asks_here s b (r.Begin line) e h.begun h.lives a.next a.numbers a.begins a.asked
-running_asks s b n z (r.End line) l e h = let a : IsAskedHere s.program s.thread b s.entries (r.End line) = asked_here s.program l s.thread b s.entries h.items z (r.End line) h.told h.goes h.sound h.asks in asks_here s b (r.End line) e h.begun h.lives a.next a.numbers a.begins a.asked
-running_asks s b n z (r.Trap line k) l e h = let a : IsAskedHere s.program s.thread b s.entries (r.Trap line k) = asked_here s.program l s.thread b s.entries h.items z (r.Trap line k) h.told h.goes h.sound h.asks in asks_here s b (r.Trap line k) e h.begun h.lives a.next a.numbers a.begins a.asked
-running_asks s b n z (r.Read line w) l e h = let a : IsAskedHere s.program s.thread b s.entries (r.Read line w) = asked_here s.program l s.thread b s.entries h.items z (r.Read line w) h.told h.goes h.sound h.asks in asks_here s b (r.Read line w) e h.begun h.lives a.next a.numbers a.begins a.asked
-running_asks s b n z (r.Write line w v) l e h = let a : IsAskedHere s.program s.thread b s.entries (r.Write line w v) = asked_here s.program l s.thread b s.entries h.items z (r.Write line w v) h.told h.goes h.sound h.asks in asks_here s b (r.Write line w v) e h.begun h.lives a.next a.numbers a.begins a.asked
-running_asks s b n z (r.Lock line m) l e h = let a : IsAskedHere s.program s.thread b s.entries (r.Lock line m) = asked_here s.program l s.thread b s.entries h.items z (r.Lock line m) h.told h.goes h.sound h.asks in asks_here s b (r.Lock line m) e h.begun h.lives a.next a.numbers a.begins a.asked
-running_asks s b n z (r.Unlock line m) l e h = let a : IsAskedHere s.program s.thread b s.entries (r.Unlock line m) = asked_here s.program l s.thread b s.entries h.items z (r.Unlock line m) h.told h.goes h.sound h.asks in asks_here s b (r.Unlock line m) e h.begun h.lives a.next a.numbers a.begins a.asked
-running_asks s b n z (r.Down line x) l e h = let a : IsAskedHere s.program s.thread b s.entries (r.Down line x) = asked_here s.program l s.thread b s.entries h.items z (r.Down line x) h.told h.goes h.sound h.asks in asks_here s b (r.Down line x) e h.begun h.lives a.next a.numbers a.begins a.asked
-running_asks s b n z (r.Up line x) l e h = let a : IsAskedHere s.program s.thread b s.entries (r.Up line x) = asked_here s.program l s.thread b s.entries h.items z (r.Up line x) h.told h.goes h.sound h.asks in asks_here s b (r.Up line x) e h.begun h.lives a.next a.numbers a.begins a.asked
-running_asks s b n z (r.Spawn line f vs) l e h = let a : IsAskedHere s.program s.thread b s.entries (r.Spawn line f vs) = asked_here s.program l s.thread b s.entries h.items z (r.Spawn line f vs) h.told h.goes h.sound h.asks in asks_here s b (r.Spawn line f vs) e h.begun h.lives a.next a.numbers a.begins a.asked
-running_asks s b n z (r.Join line v) l e h = let a : IsAskedHere s.program s.thread b s.entries (r.Join line v) = asked_here s.program l s.thread b s.entries h.items z (r.Join line v) h.told h.goes h.sound h.asks in asks_here s b (r.Join line v) e h.begun h.lives a.next a.numbers a.begins a.asked
-running_asks s b n z (r.Print line v) l e h = let a : IsAskedHere s.program s.thread b s.entries (r.Print line v) = asked_here s.program l s.thread b s.entries h.items z (r.Print line v) h.told h.goes h.sound h.asks in asks_here s b (r.Print line v) e h.begun h.lives a.next a.numbers a.begins a.asked
+running_asks s b n z (r.Begin line) l e h =
+    let a : IsAskedHere s.program s.thread b s.entries (r.Begin line) = asked_here s.program l s.thread b s.entries h.items z (r.Begin line) h.told h.goes h.sound h.asks in
+    asks_here s b (r.Begin line) e h.begun h.lives a.next a.numbers a.begins a.asked
+running_asks s b n z (r.End line) l e h =
+    let a : IsAskedHere s.program s.thread b s.entries (r.End line) = asked_here s.program l s.thread b s.entries h.items z (r.End line) h.told h.goes h.sound h.asks in
+    asks_here s b (r.End line) e h.begun h.lives a.next a.numbers a.begins a.asked
+running_asks s b n z (r.Trap line k) l e h =
+    let a : IsAskedHere s.program s.thread b s.entries (r.Trap line k) = asked_here s.program l s.thread b s.entries h.items z (r.Trap line k) h.told h.goes h.sound h.asks in
+    asks_here s b (r.Trap line k) e h.begun h.lives a.next a.numbers a.begins a.asked
+running_asks s b n z (r.Read line w) l e h =
+    let a : IsAskedHere s.program s.thread b s.entries (r.Read line w) = asked_here s.program l s.thread b s.entries h.items z (r.Read line w) h.told h.goes h.sound h.asks in
+    asks_here s b (r.Read line w) e h.begun h.lives a.next a.numbers a.begins a.asked
+running_asks s b n z (r.Write line w v) l e h =
+    let a : IsAskedHere s.program s.thread b s.entries (r.Write line w v) = asked_here s.program l s.thread b s.entries h.items z (r.Write line w v) h.told h.goes h.sound h.asks in
+    asks_here s b (r.Write line w v) e h.begun h.lives a.next a.numbers a.begins a.asked
+running_asks s b n z (r.Lock line m) l e h =
+    let a : IsAskedHere s.program s.thread b s.entries (r.Lock line m) = asked_here s.program l s.thread b s.entries h.items z (r.Lock line m) h.told h.goes h.sound h.asks in
+    asks_here s b (r.Lock line m) e h.begun h.lives a.next a.numbers a.begins a.asked
+running_asks s b n z (r.Unlock line m) l e h =
+    let a : IsAskedHere s.program s.thread b s.entries (r.Unlock line m) = asked_here s.program l s.thread b s.entries h.items z (r.Unlock line m) h.told h.goes h.sound h.asks in
+    asks_here s b (r.Unlock line m) e h.begun h.lives a.next a.numbers a.begins a.asked
+running_asks s b n z (r.Down line x) l e h =
+    let a : IsAskedHere s.program s.thread b s.entries (r.Down line x) = asked_here s.program l s.thread b s.entries h.items z (r.Down line x) h.told h.goes h.sound h.asks in
+    asks_here s b (r.Down line x) e h.begun h.lives a.next a.numbers a.begins a.asked
+running_asks s b n z (r.Up line x) l e h =
+    let a : IsAskedHere s.program s.thread b s.entries (r.Up line x) = asked_here s.program l s.thread b s.entries h.items z (r.Up line x) h.told h.goes h.sound h.asks in
+    asks_here s b (r.Up line x) e h.begun h.lives a.next a.numbers a.begins a.asked
+running_asks s b n z (r.Spawn line f vs) l e h =
+    let a : IsAskedHere s.program s.thread b s.entries (r.Spawn line f vs) = asked_here s.program l s.thread b s.entries h.items z (r.Spawn line f vs) h.told h.goes h.sound h.asks in
+    asks_here s b (r.Spawn line f vs) e h.begun h.lives a.next a.numbers a.begins a.asked
+running_asks s b n z (r.Join line v) l e h =
+    let a : IsAskedHere s.program s.thread b s.entries (r.Join line v) = asked_here s.program l s.thread b s.entries h.items z (r.Join line v) h.told h.goes h.sound h.asks in
+    asks_here s b (r.Join line v) e h.begun h.lives a.next a.numbers a.begins a.asked
+running_asks s b n z (r.Print line v) l e h =
+    let a : IsAskedHere s.program s.thread b s.entries (r.Print line v) = asked_here s.program l s.thread b s.entries h.items z (r.Print line v) h.told h.goes h.sound h.asks in
+    asks_here s b (r.Print line v) e h.begun h.lives a.next a.numbers a.begins a.asked
 
 -- before the begin
-pub waiting_open : (p : Source) → IsLawful p → (b : Birth) (g : Function) → slice_get p.funcs b.func ≡ Some g → (items : List Item) → flat.thread (lowered p) (Some g) b.func b.args 0 items Open → IsTrace p b.func b.args items Open
+pub waiting_open : (p : Source) → IsLawful p → (b : Birth) (g : Function) → slice_get p.funcs b.func ≡ Some g → (items : List Item)
+    → flat.thread (lowered p) (Some g) b.func b.args 0 items Open → IsTrace p b.func b.args items Open
 waiting_open p l b g there items h =
     tree_trace p l b.func b.args items Open (record { most_steps = 0; gives = subst (λ o. flat.thread (lowered p) o b.func b.args 0 items Open) (sym there) h })
 
@@ -133,7 +158,8 @@ started_open : (c : Flat) (t : _) (f : ℕ) (vs : List ℤ) (o : Option Entrance
 started_open c t f vs None = (refl, refl)
 started_open c t f vs (Some e) = inl (refl, refl)
 
-begins_next : (s : Strand) (b : Birth) → IsLawful s.program → IsWaiting s.program b s.entries s.wanted → IsNext s.program s.thread b.func b.args s.entries (r.Begin (line_of_function (slice_get s.program.funcs b.func)))
+begins_next : (s : Strand) (b : Birth) → IsLawful s.program → IsWaiting s.program b s.entries s.wanted
+    → IsNext s.program s.thread b.func b.args s.entries (r.Begin (line_of_function (slice_get s.program.funcs b.func)))
 begins_next s b l h = record {
   items = [];
   trace = waiting_open s.program l b h.function.0 h.function.1 [] (inl (refl, refl));
@@ -165,12 +191,14 @@ waiting_asks s b q l e h =
     })
 
 -- at the end
-ends_next : (s : Strand) (b : Birth) → IsLawful s.program → IsStopping s.program s.thread b s.entries s.wanted → IsNext s.program s.thread b.func b.args s.entries (r.End (line_of_function (slice_get s.program.funcs b.func)))
+ends_next : (s : Strand) (b : Birth) → IsLawful s.program → IsStopping s.program s.thread b s.entries s.wanted
+    → IsNext s.program s.thread b.func b.args s.entries (r.End (line_of_function (slice_get s.program.funcs b.func)))
 ends_next s b l h = record {
   items = h.items;
   trace = tree_trace s.program l b.func b.args h.items Open (stops_open (lowered s.program) s.program b.func b.args h.items h.stops);
   told = h.told;
-  granted = λ v. tree_trace s.program l b.func b.args (h.items ++ made (line_of_function (slice_get s.program.funcs b.func)) end ∷ []) Open (h.stops (made (line_of_function (slice_get s.program.funcs b.func)) end ∷ []) Open (inr ([], refl, (refl, inr refl))));
+  granted = λ v. tree_trace s.program l b.func b.args (h.items ++ made (line_of_function (slice_get s.program.funcs b.func)) end ∷ []) Open
+      (h.stops (made (line_of_function (slice_get s.program.funcs b.func)) end ∷ []) Open (inr ([], refl, (refl, inr refl))));
   trapped = tt;
 }
 

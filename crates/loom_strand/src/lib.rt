@@ -10,5 +10,7 @@ mod reply;
 mod run;
 pub mod stage;
 pub mod strand;
+#[cfg(test)]
+mod tests;
 mod turn;
 mod values;

@@ -1,13 +1,10 @@
-use Rattle.std.proofs.Common.{ℕ, List, ◌≡◌, ◌∙◌, refl, sym, ap, subst}
+use Rattle.std.proofs.Common.{List, ◌≡◌, ◌∙◌, refl, sym, ap, subst}
 use Rattle.std.specs.Vec.{vec_capacity}
-use Rattle.loom_lang.specs.Rules.{IsLawful}
 use Rattle.loom_flow.specs.declared.code.Instr.{Instr}
 use Rattle.loom_flow.specs.declared.code.Entrance.{Entrance}
 use Rattle.loom_flow.specs.Flat.{Flat}
 use Rattle.loom_flow.specs.Lowered.{lowered}
-use Rattle.loom_trace.specs.declared.entry.Entry.{Entry}
 use Rattle.loom_law.specs.Asked.{IsAnswer}
-use Rattle.loom_strand.specs.declared.reply.Reply.{Reply}
 use Rattle.loom_strand.specs.Strand.{Strand}
 use Rattle.loom_strand.specs.Kept.{IsKept}
 use Rattle.loom_strand.specs.Replied.{reply_of, CanFollow, Follows}
@@ -32,7 +29,8 @@ invariant_of-self c =
     let entrances : c.entrances.result.now ≡ (lowered s.program).entrances = c.entrances.ensures.entrances ∙ ap (λ (z : Flat). z.entrances) flat in
     let code : c.code.result.now ≡ (lowered s.program).code = c.code.ensures.code ∙ ap (λ (z : Flat). z.code) flat in
     let follows : Follows (lowered s.program).entrances (lowered s.program).code c.self.inside.machine c.follow-stage.new.machine c.self.inside.passed (reply_of s.birth s.wanted c.args.e) c.follow-stage.result.0 c.follow-stage.result.1 =
-    subst (λ y. Follows (lowered s.program).entrances (lowered s.program).code c.self.inside.machine c.follow-stage.new.machine c.self.inside.passed y c.follow-stage.result.0 c.follow-stage.result.1) c.reply_of-reply.ensures
+    subst
+    (λ y. Follows (lowered s.program).entrances (lowered s.program).code c.self.inside.machine c.follow-stage.new.machine c.self.inside.passed y c.follow-stage.result.0 c.follow-stage.result.1) c.reply_of-reply.ensures
     (subst (λ (y : List Entrance). Follows y (lowered s.program).code c.self.inside.machine c.follow-stage.new.machine c.self.inside.passed c.reply_of-reply.result c.follow-stage.result.0 c.follow-stage.result.1) entrances
     (subst (λ (y : List Instr). Follows c.entrances.result.now y c.self.inside.machine c.follow-stage.new.machine c.self.inside.passed c.reply_of-reply.result c.follow-stage.result.0 c.follow-stage.result.1) code c.follow-stage.ensures)) in
     let kept : IsKept (after s c.args.e c.follow-stage.new.machine c.follow-stage.result.0 c.follow-stage.result.1) =
@@ -44,5 +42,6 @@ pub returns-clause-part : goal.returns-clause-part
 returns-clause-part c =
     let s : Strand = the_view c.self.inside in
     let asked : IsAnswer s.thread s.wanted c.args.e = subst (λ (z : Strand). IsAnswer z.thread z.wanted c.args.e) (sym c.self.view_is) c.requires.answers in
-    kept_part (with_entries s c.push_reserved.new.self.items (vec_capacity c.push_reserved.new.self) c.follow-stage.new.machine c.follow-stage.result.0 c.follow-stage.result.1) s.birth (invariant_of-self c) refl
+    kept_part (with_entries s c.push_reserved.new.self.items (vec_capacity c.push_reserved.new.self) c.follow-stage.new.machine c.follow-stage.result.0 c.follow-stage.result.1) s.birth
+    (invariant_of-self c) refl
     (answer_started s s.birth s.wanted c.args.e c.self.invariant refl refl asked)

@@ -1,6 +1,4 @@
 use Rattle.std.proofs.Common.{refl, sym, subst, ◌∙◌, ◌≡◌}
-use Rattle.std.specs.Prelude.{is_some}
-use Rattle.loom_tree.specs.Tree.{Source}
 use Rattle.loom_strand.specs.Strand.{Strand}
 use Rattle.loom_strand.specs.contracts.strand.Strand.{the_view}
 use Rattle.loom_strand.proofs.Resumed.{IsFree, nothing_wanted, resumed_asks, resumed_ticks, resumed_ends, ticked_place}

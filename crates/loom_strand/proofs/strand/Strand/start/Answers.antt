@@ -1,5 +1,4 @@
 use Rattle.std.proofs.Common.{length, subst}
-use Rattle.loom_law.specs.Asked.{IsFunctionWith}
 use Rattle.loom_strand.specs.Strand.{Strand}
 use Rattle.loom_strand.proofs.Few.{few_params}
 use Rattle.loom_strand.proofs.strand.Strand.start.Goals as goal

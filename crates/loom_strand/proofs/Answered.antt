@@ -1,10 +1,9 @@
 -- A thread behind an answer.
-use Rattle.std.proofs.Common.{ℕ, suc, ◌≡◌, ◌<◌, ◌⊎◌, Bool, true, false, List, [], ◌∷◌, ◌++◌, ℤ, Option, Some, None, refl, inl, inr, sym, ap, subst, ◌∙◌, slice_get, arith}
+use Rattle.std.proofs.Common.{ℕ, ◌≡◌, false, List, [], ◌∷◌, ◌++◌, Option, Some, None, refl, inl, inr, sym, ap, subst, ◌∙◌, slice_get}
 use Rattle.loom_tree.specs.Tree.{Function, Source}
 use Rattle.loom_lang.specs.Rules.{IsLawful}
 use Rattle.loom_lang.specs.Places.{line_of_function}
-use Rattle.loom_lang.specs.Trace.{Item, Outcome, Open, Finished, made, enter, begin, end, ended, emit, IsTrace}
-use Rattle.loom_lang.specs.Acts.{Deed}
+use Rattle.loom_lang.specs.Trace.{Item, Outcome, Open, Finished, made, enter, begin, end, ended}
 use Rattle.loom_flow.specs.declared.code.Instr.{Instr}
 use Rattle.loom_flow.specs.declared.code.Entrance.{Entrance}
 use Rattle.loom_flow.specs.Flat.{Flat, State, started, runs, IsFlatTrace}
@@ -14,26 +13,19 @@ use Rattle.loom_trace.specs.declared.entry.Entry.{Entry}
 use Rattle.loom_trace.specs.declared.entry.Entry.TheVariants as e
 use Rattle.loom_trace.specs.declared.request.Request.{Request}
 use Rattle.loom_trace.specs.declared.request.Request.TheVariants as r
-use Rattle.loom_law.specs.Part.{tick_after, AreTold, IsPart}
-use Rattle.loom_law.specs.Asked.{IsAnswerTo, IsAnswer}
+use Rattle.loom_law.specs.Part.{AreTold}
 use Rattle.loom_strand.specs.declared.stage.Birth.{Birth}
 use Rattle.loom_strand.specs.declared.stage.Stage.{Stage}
-use Rattle.loom_strand.specs.declared.stage.Stage.TheVariants as stage
-use Rattle.loom_strand.specs.declared.reply.Reply.{Reply}
-use Rattle.loom_strand.specs.declared.reply.Reply.TheVariants as reply
 use Rattle.loom_strand.specs.Machine.{asks, progress, answered}
-use Rattle.loom_strand.specs.Held.{Held, holding, at_start}
-use Rattle.loom_strand.specs.Next.{IsEnded, is_end, has_none, has_ended}
-use Rattle.loom_strand.specs.Strand.{Strand, IsStarted, HasPart}
-use Rattle.loom_strand.specs.Kept.{IsSound, HasRoom, Continues, Stops, thread_of, passed, IsAtRequest, with_tick, AsksOnly, IsWaiting, IsRunning, IsStopping, HasStopped, IsAt, KeepsRoom, IsKept}
-use Rattle.loom_strand.specs.Replied.{reply_of, begun, taken, CanFollow, Follows}
+use Rattle.loom_strand.specs.Held.{Held, at_start}
+use Rattle.loom_strand.specs.Next.{is_end, has_none, has_ended}
+use Rattle.loom_strand.specs.Strand.{Strand}
+use Rattle.loom_strand.specs.Kept.{IsSound, Continues, thread_of, IsRunning, IsStopping, HasStopped}
 use Rattle.loom_strand.proofs.Continues.{continues_open, granted_continues, trapped_stops}
 use Rattle.loom_strand.proofs.Ticks.{told_act, passed_append}
-use Rattle.loom_strand.proofs.Sound.{sound_start, sound_answered, values_fit}
-use Rattle.loom_strand.proofs.Entrances.{has_entrance}
-use Rattle.loom_strand.proofs.Asking.{never_own, is_own}
-use Rattle.loom_strand.proofs.Replies.{IsGranted, IsTrapped, answers_here}
-use Rattle.loom_strand.proofs.Wanted.{is_lowered, tree_trace, stops_open, waiting_open}
+use Rattle.loom_strand.proofs.Sound.{sound_start, sound_answered}
+use Rattle.loom_strand.proofs.Replies.{IsGranted, IsTrapped}
+use Rattle.loom_strand.proofs.Wanted.{is_lowered, tree_trace}
 
 -- One entry more
 

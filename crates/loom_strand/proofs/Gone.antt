@@ -1,5 +1,5 @@
 -- A private run, one instruction after another.
-use Rattle.std.proofs.Common.{ℕ, suc, ◌≡◌, ◌==◌, ◌<◌, true, false, Bool, List, [], ◌∷◌, ◌++◌, ℤ, Option, Some, None, slice_get, length, refl, sym, ap, subst, ◌∙◌, append-nil, append_assoc, arith, rules, if◌then◌else◌}
+use Rattle.std.proofs.Common.{ℕ, suc, ◌≡◌, ◌==◌, ◌<◌, true, false, Bool, List, [], ◌∷◌, ◌++◌, Option, Some, None, slice_get, refl, sym, ap, subst, ◌∙◌, append-nil, append_assoc, arith, rules, if◌then◌else◌}
 use Rattle.loom_tree.specs.Tree.{Source}
 use Rattle.loom_lang.specs.Places.{Place, place_at, line_of_place, entry, back_edge}
 use Rattle.loom_lang.specs.Trace.{Item, enter, edge}
@@ -13,17 +13,16 @@ use Rattle.loom_trace.specs.declared.request.Request.{Request}
 use Rattle.loom_law.specs.Part.{tick_after, IsPassed, AreTold}
 use Rattle.loom_strand.specs.declared.turn.Mark.{Mark}
 use Rattle.loom_strand.specs.declared.turn.Mark.TheVariants as m
-use Rattle.loom_strand.specs.declared.turn.Turn.{Turn}
 use Rattle.loom_strand.specs.declared.turn.Turn.TheVariants as t
 use Rattle.loom_strand.specs.declared.turn.Stop.TheVariants as stop
 use Rattle.loom_strand.specs.Machine.{Progress, goes, asks, ends, nothing, progress}
 use Rattle.loom_strand.specs.Held.{Held, holding}
 use Rattle.loom_strand.specs.Turned.{mark_of, Comes, Advances, request_of, request_there}
 use Rattle.loom_strand.specs.Kept.{IsSound, HasRoom, Continues, Stops, thread_of, passed, passed_one}
-use Rattle.loom_strand.specs.Ran.{place_marked, place_entered, Counts, Passes, Carries, HasGone, HasTicked, HasCome, Ran}
+use Rattle.loom_strand.specs.Ran.{place_marked, place_entered, Counts, Passes, Carries, HasGone, HasTicked, Ran}
 use Rattle.loom_strand.proofs.Continues.{goes_continues, ends_stops}
 use Rattle.loom_strand.proofs.Ticks.{told_append, passed_append, told_tick_place}
-use Rattle.loom_strand.proofs.Sound.{sound_goes, never_nothing, always_there, values_fit}
+use Rattle.loom_strand.proofs.Sound.{sound_goes, never_nothing, always_there}
 use Rattle.loom_strand.proofs.Marks.{silent_told, silent_passed, end_told, entry_marked, edge_marked}
 use Rattle.loom_strand.proofs.Turns.{asked_request}
 use Rattle.loom_strand.proofs.Falls.{left, falls_silent, falls_passing}

@@ -10,7 +10,7 @@ use Rattle.loom_flow.specs.declared.code.Entrance.{Entrance}
 use Rattle.loom_flow.specs.Flat.{Flat, Frame, State, operand, without, given, forward, jumped, arguments, without_arguments}
 use Rattle.loom_trace.specs.declared.request.Request.{Request}
 use Rattle.loom_trace.specs.declared.request.Request.TheVariants as r
-use Rattle.loom_strand.specs.Machine.{Progress, goes, asks, either, in_array, returns, enters, progress}
+use Rattle.loom_strand.specs.Machine.{goes, asks, either, in_array, returns, enters, progress}
 use Rattle.loom_strand.specs.Turned.{cell_at, cell_request, request_of}
 
 within : (b : Bool) (line w : ℕ) (ask : ℕ → Request) → either b (asks (ask w)) (asks (r.Trap line 2)) ≡ asks (cell_request line ask (if b then Some w else None))

@@ -1,5 +1,4 @@
 use Rattle.std.proofs.Common.{refl, slice_get}
-use Rattle.loom_strand.specs.declared.turn.Mark.{Mark}
 use Rattle.loom_strand.proofs.Gone.{Moved, gone_nowhere, advanced_moved, gone_on, gone_to_tick, moved_falls, gone_to_request, gone_to_end, gone_to_nothing}
 use Rattle.loom_strand.proofs.run.run.Goals as goal
 

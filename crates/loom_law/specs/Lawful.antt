@@ -8,9 +8,9 @@ use Rattle.loom_trace.specs.declared.entry.Ending.TheVariants as k
 use Rattle.loom_trace.specs.declared.entry.What.{What}
 use Rattle.loom_trace.specs.declared.entry.What.TheVariants as w
 use Rattle.loom_lang.specs.Trace.{Act, lock, down, join}
-use Rattle.loom_law.specs.Event.{Event, entry_of, is_target, targets, deeds}
+use Rattle.loom_law.specs.Event.{Event, entry_by, entry_of, is_target, targets}
 use Rattle.loom_law.specs.Replay.{Spawned, Store, start, thread_at, replay, IsDisabled}
-use Rattle.loom_law.specs.Run.{AreRun, IsTraced}
+use Rattle.loom_law.specs.Run.{AreRun}
 use Rattle.loom_law.specs.Part.{IsPart}
 
 -- Threads and their last entries
@@ -64,6 +64,22 @@ abbrev pub last_of_thread : ℕ → Option Entry → List Entry → Option Entry
 last_of_thread t so_far [] = so_far
 last_of_thread t so_far (x ∷ xs) = last_of_thread t (if is_thread t (thread_of x) then Some x else so_far) xs
 
+-- Parts of threads
+
+-- whether the thread made the entry, and not because it was blocked
+abbrev pub is_part_of : ℕ → Entry → Bool
+is_part_of t (e.Blocked u l x) = false
+is_part_of t x = is_thread t (thread_of x)
+
+abbrev pub part_of : ℕ → List Entry → List Entry
+part_of t [] = []
+part_of t (x ∷ xs) = if is_part_of t x then x ∷ part_of t xs else part_of t xs
+
+-- These are the entries of a trace of the function with which the thread was spawned, with a tick at each thousandth place.
+abbrev pub HasPart : Source → ℕ → Option Spawned → List Entry → Type 0
+HasPart p t None es = es ≡ []
+HasPart p t (Some x) es = IsPart p t x.func x.args es
+
 -- Blocked threads
 
 -- what stands in the journal where a request is granted
@@ -75,11 +91,12 @@ granted (w.Join c) = Some (join c)
 granted (w.Enter k c) = None
 granted (w.Wait k n) = None
 
--- The thread's next request on that line is this one: a trace of it has what it did, and then the act that it asks for.
-abbrev pub AsksFor : Source → List Event → ℕ → ℕ → Option Spawned → Option Act → Type 0
-AsksFor p xs t l None a = ⊥
-AsksFor p xs t l (Some x) None = ⊥
-AsksFor p xs t l (Some x) (Some a) = IsTraced p x.func x.args (deeds t xs ++ record { line = l; act = a } ∷ [])
+-- The thread's next request on that line is this one: its entries so far, and then the entry of the act that it asks for, are those of a
+-- trace, with its ticks.
+abbrev pub AsksFor : Source → List Entry → ℕ → ℕ → Option Spawned → Option Act → Type 0
+AsksFor p front t l None a = ⊥
+AsksFor p front t l (Some x) None = ⊥
+AsksFor p front t l (Some x) (Some a) = IsPart p t x.func x.args (part_of t front ++ entry_by t l a ∷ [])
 
 abbrev pub IsBlockedEntry : Option Entry → Type 0
 IsBlockedEntry (Some (e.Blocked t l x)) = Unit {0}
@@ -87,7 +104,7 @@ IsBlockedEntry _ = ⊥
 
 -- behind the entries of `front` thread t may make `Blocked`: it asks for that, which is disabled, and its last entry isn't `Blocked`
 pub record MayBlock (p : Source) (front : List Entry) (xs : List Event) (t l : ℕ) (what : What) : Type 0 where
-  pub asks : AsksFor p xs t l (thread_at (replay (start p) xs) t) (granted what)
+  pub asks : AsksFor p front t l (thread_at (replay (start p) xs) t) (granted what)
   pub disabled : IsDisabled (replay (start p) xs) what
   pub not_yet : IsBlockedEntry (last_of_thread t None front) → ⊥
 
@@ -130,22 +147,6 @@ Ends limit stop s front k.Stopped = is_stopped stop front ≡ true
 Ends limit stop s front k.Limit = (is_stopped stop front ≡ false) × (is_at_limit limit front ≡ true)
 Ends limit stop s front k.Done = (is_over limit stop front ≡ false) × AllEnded s
 Ends limit stop s front k.Stuck = (is_over limit stop front ≡ false) × IsStalled s front
-
--- Parts of threads
-
--- whether the thread made the entry, and not because it was blocked
-abbrev pub is_part_of : ℕ → Entry → Bool
-is_part_of t (e.Blocked u l x) = false
-is_part_of t x = is_thread t (thread_of x)
-
-abbrev pub part_of : ℕ → List Entry → List Entry
-part_of t [] = []
-part_of t (x ∷ xs) = if is_part_of t x then x ∷ part_of t xs else part_of t xs
-
--- These are the entries of a trace of the function with which the thread was spawned, with a tick at each thousandth place.
-abbrev pub HasPart : Source → ℕ → Option Spawned → List Entry → Type 0
-HasPart p t None es = es ≡ []
-HasPart p t (Some x) es = IsPart p t x.func x.args es
 
 -- What stands at the end of `front`, with `rest` behind it. The events so far are `xs`.
 abbrev pub Stands : Source → ℕ → (Entry → Bool) → List Entry → List Event → Entry → List Entry → Type 0

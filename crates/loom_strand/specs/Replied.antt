@@ -63,7 +63,8 @@ CanFollow m (reply.Begins b) = m.state ≡ blank
 CanFollow m (reply.Gives v) = length m.state.values < m.most_values
 CanFollow m _ = Unit {0}
 
--- What follows an answer: the machine, how far the thread is, and how many places it passed since its last entry.
+-- What follows an answer: the machine, how far the thread is, and how many places it passed since its last entry. A tick was counted when
+-- it was asked for; once the thread stops the number is of no account.
 abbrev pub Follows : List Entrance → List Instr → Held → Held → ℕ → Reply → Stage → ℕ → Type 0
 Follows es is old new n (reply.Begins b) x k = (new ≡ begun old b (slice_get es b.func)) × (x ≡ stage.Runs) × (k ≡ 1)
 Follows es is old new n reply.Ticks x k = (new ≡ old) × (x ≡ stage.Runs) × (k ≡ n)

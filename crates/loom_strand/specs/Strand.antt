@@ -13,7 +13,8 @@ use Rattle.loom_strand.specs.declared.stage.Want.TheVariants as w
 use Rattle.loom_strand.specs.Held.{Held}
 use Rattle.loom_strand.specs.Next.{Asks, IsEnded, IsAskedIn, is_begin, has_none, has_ended}
 
--- what a thread keeps of its run: how far it is, how many entry and back-edge places it passed since its last entry, and its machine
+-- What a thread keeps of its run: how far it is, how many entry and back-edge places it passed since its last entry or the tick that it
+-- asks for, and its machine.
 pub record Inside : Type 0 where
   pub stage : Stage
   pub passed : ℕ

@@ -15,7 +15,7 @@ use loom_trace::request::Request;
 pub(crate) enum Reply {
     /// The thread begins.
     Begins(Birth),
-    /// It counts places anew.
+    /// It goes on behind its tick.
     Ticks,
     /// Its machine goes on with this value.
     Gives(i64),
@@ -109,7 +109,7 @@ fn take(machine: &mut Machine, code: &[Instr], value: i64)
     }
 }
 
-/// What an answer leaves: how far the thread is, and how many places it passed since its last entry.
+/// What an answer leaves: how far the thread is, and how many places it passed since its last entry; of no account once it stops.
 pub(crate) fn follow(
     machine: &mut Machine,
     entrances: &[Entrance],

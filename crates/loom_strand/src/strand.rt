@@ -2,6 +2,7 @@
 ghost use Rattle.std.specs.Prelude.{◌≡◌, ◌<◌, [], ◌∷◌, ◌++◌, IfOk, Some, None, length, slice_get};
 ghost use Rattle.loom_lang.specs.Places.{line_of_function};
 ghost use Rattle.loom_flow.specs.Code.{IsLowered};
+ghost use Rattle.loom_trace.specs.declared.request.Request.{Request};
 ghost use Rattle.loom_law.specs.Asked.{IsAnswer, IsFunctionWith};
 ghost use Rattle.loom_strand.specs.declared.stage.Stage.TheVariants as stage;
 ghost use Rattle.loom_strand.specs.Strand.{IsNew, IsSame, IsStarted, HasPart, Wants};
@@ -35,7 +36,7 @@ pub struct Strand {
     birth: Option<Birth>,
     stage: Stage,
     wanted: Option<Request>,
-    // entry and back-edge places since the last entry
+    // entry and back-edge places since the last entry, or the tick that is asked for; of no account once the thread stops
     passed: u32,
     machine: Machine,
     entries: Vec<Entry>,
@@ -125,6 +126,7 @@ impl Strand {
         requires program { flow.now.program ≡ self.old.program }
         ensures same { IsSame self.old self.old.birth self.old.entries self.new }
         ensures wants { Wants self.new self.new.birth result }
+        ensures again { (q : Request) → self.old.wanted ≡ Some q → self.new.wanted ≡ Some q }
     {
         self.go_on(flow);
         match self.wanted {
@@ -139,6 +141,7 @@ impl Strand {
         requires program { flow.now.program ≡ self.old.program }
         ensures same { IsSame self.old self.old.birth self.old.entries self.new }
         ensures over { self.new.wanted ≡ None → self.new.inside.stage ≡ stage.Over }
+        ensures again { (q : Request) → self.old.wanted ≡ Some q → self.new.wanted ≡ Some q }
     {
         if self.wanted.is_some() {
             return;

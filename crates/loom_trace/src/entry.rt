@@ -10,7 +10,7 @@ pub enum Ending {
     Done,
     /// Each thread that is left is blocked or held off.
     Stuck,
-    /// The journal has as many entries as were allowed.
+    /// There are as many thread entries as were allowed.
     Limit,
     /// A value was printed at which the run was to stop.
     Stopped,
@@ -31,8 +31,7 @@ pub enum What {
     Wait(u8, u8),
 }
 
-/// An entry of a journal. Threads count from 1; `line` is a line of the program, from 1, and 0 for an
-/// unborn or ended thread. `k` is the number of a command, from 1: in what a filter makes a thread do
+/// An entry of a journal. Threads count from 1; `line` is a line of the program, from 1. `k` is the number of a command, from 1: in what a filter makes a thread do
 /// it is that of the command that installed the filter. Clauses and events count from 1.
 #[derive(Clone, Copy, Debug, Drop)]
 pub enum Entry {

@@ -3,6 +3,8 @@
 use crate::row::Args;
 
 /// An entry that a thread asks for, without the thread and what the answer gives.
+///
+/// `line` is the statement's; of `Begin` and `End` it is that of the thread's `fn`, of `Tick` the place's.
 #[derive(Clone, Copy, Debug, Drop)]
 pub enum Request {
     Begin { line: u32 },

@@ -2,6 +2,7 @@
 use Rattle.std.proofs.Common.{ℕ, suc, ◌+◌, ◌&&◌, ◌≡◌, ◌≤◌, ◌<◌, Bool, true, false, List, [], ◌∷◌, ℤ, pos, negsuc, Option, Some, None, refl, inl, inr, subst, ◌∙◌, nat_lt}
 use Rattle.std.proofs.Common.{ltb-true, slice_get, length, length-take, take, arith}
 use Rattle.std.proofs.lemmas.List.{length-reverse}
+use Rattle.loom_tree.specs.Tree.{Source}
 use Rattle.loom_lang.specs.Values.{is_zero, applied, divides}
 use Rattle.loom_lang.specs.Trace.{Item, done, out, frame_limit}
 use Rattle.loom_flow.specs.declared.code.Array.{Array}
@@ -12,6 +13,7 @@ use Rattle.loom_flow.specs.declared.code.Step.TheVariants as s
 use Rattle.loom_flow.specs.declared.code.Instr.{Instr}
 use Rattle.loom_flow.specs.declared.code.Entrance.{Entrance}
 use Rattle.loom_flow.specs.Flat.{Flat, Frame, State, operand, without, given, forward, jumped, arguments, without_arguments}
+use Rattle.loom_flow.specs.Lowered.{lowered}
 use Rattle.loom_flow.specs.Code.{IsLowered}
 use Rattle.loom_flow.specs.Laws.{KeepsDepth}
 use Rattle.loom_flow.specs.Laws as step
@@ -19,9 +21,10 @@ use Rattle.loom_trace.specs.declared.request.Request.{Request}
 use Rattle.loom_trace.specs.declared.request.Request.TheVariants as r
 use Rattle.loom_law.specs.Asked.{HasNumbers}
 use Rattle.loom_strand.specs.Machine.{Progress, goes, asks, either, in_array, returns, enters, progress}
-use Rattle.loom_strand.specs.Next.{IsAskedIn}
+use Rattle.loom_strand.specs.Alone.{is_alone, NeedsNoOther}
 use Rattle.loom_strand.specs.Kept.{IsSound}
 use Rattle.loom_strand.proofs.Sound.{depth_at}
+use Rattle.loom_strand.proofs.Lone.{IsLone, lone_code}
 
 -- What is asked for, if anything, is in `P`.
 abbrev Asked : (Request → Type 0) → Progress → Type 0
@@ -177,20 +180,22 @@ step_asks z line (s.Spawn f n d) = (n, d, refl)
 step_asks z line (s.Call f n) = tt
 step_asks z line _ = tt
 
-asked_in : (c : Flat) (at : ℕ) (i : Instr) (q : Request) → slice_get c.code at ≡ Some i → StepAsks i.step q → IsAskedIn c q
-asked_in c at i (r.Begin l) there h = tt
-asked_in c at i (r.End l) there h = tt
-asked_in c at i (r.Trap l n) there h = tt
-asked_in c at i (r.Read l w) there h = tt
-asked_in c at i (r.Write l w v) there h = tt
-asked_in c at i (r.Lock l m) there h = tt
-asked_in c at i (r.Unlock l m) there h = tt
-asked_in c at i (r.Down l x) there h = tt
-asked_in c at i (r.Up l x) there h = tt
-asked_in c at i (r.Spawn l f vs) there h = (at, i, there, h.0, h.1, h.2)
-asked_in c at i (r.Join l v) there h = (at, i, there, h.0, h.1)
-asked_in c at i (r.Print l v) there h = tt
-asked_in c at i (r.Tick l k) there h = tt
+-- A program of one thread asks for no other.
+needs_no_other : (x : Step) (q : Request) → IsLone x → StepAsks x q → NeedsNoOther q
+needs_no_other x (r.Begin l) h a = tt
+needs_no_other x (r.End l) h a = tt
+needs_no_other x (r.Trap l n) h a = tt
+needs_no_other x (r.Read l w) h a = tt
+needs_no_other x (r.Write l w v) h a = tt
+needs_no_other x (r.Lock l m) h a = tt
+needs_no_other x (r.Unlock l m) h a = tt
+needs_no_other x (r.Down l y) h a = tt
+needs_no_other x (r.Up l y) h a = tt
+needs_no_other x (r.Spawn l f vs) h a = subst IsLone a.2 h
+needs_no_other x (r.Join l v) h a = subst IsLone a.1 h
+needs_no_other x (r.Print l v) h a = tt
+needs_no_other x (r.Tick l k) h a = tt
 
-pub asks_in : (c : Flat) (z : State) (i : Instr) (q : Request) → slice_get c.code z.at ≡ Some i → progress c z i i.step ≡ asks q → IsAskedIn c q
-asks_in c z i q there p = asked_in c z.at i q there (asks_of (StepAsks i.step) c z i q p (step_asks z i.line i.step))
+pub asks_no_other : (p : Source) (z : State) (i : Instr) (q : Request) → is_alone p ≡ true → slice_get (lowered p).code z.at ≡ Some i → progress (lowered p) z i i.step ≡ asks q → NeedsNoOther q
+asks_no_other p z i q alone there e =
+    needs_no_other i.step q (lone_code p z.at i alone there) (asks_of (StepAsks i.step) (lowered p) z i q e (step_asks z i.line i.step))

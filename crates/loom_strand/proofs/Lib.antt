@@ -18,3 +18,4 @@ pub mod Replies
 pub mod Answered
 pub mod Followed
 pub mod Resumed
+pub mod Lone

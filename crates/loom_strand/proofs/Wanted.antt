@@ -23,11 +23,12 @@ use Rattle.loom_strand.specs.declared.stage.Stage.{Stage}
 use Rattle.loom_strand.specs.declared.stage.Stage.TheVariants as stage
 use Rattle.loom_strand.specs.declared.stage.Want.TheVariants as w
 use Rattle.loom_strand.specs.Machine.{asks, progress}
-use Rattle.loom_strand.specs.Next.{GoesOn, IsNext, Asks, IsAskedIn, is_begin, has_none, has_ended}
+use Rattle.loom_strand.specs.Alone.{is_alone, NeedsNoOther}
+use Rattle.loom_strand.specs.Next.{GoesOn, IsNext, Asks, is_begin, has_none, has_ended}
 use Rattle.loom_strand.specs.Strand.{Strand, IsStarted, AsksFor, Wants}
 use Rattle.loom_strand.specs.Kept.{IsSound, Continues, Stops, thread_of, IsWaiting, IsRunning, IsStopping, HasStopped, AsksOnly, IsAt, IsKept}
 use Rattle.loom_strand.proofs.Continues.{continues_open, granted_continues, trapped_stops}
-use Rattle.loom_strand.proofs.Asking.{asks_numbers, never_own, is_own, asks_in}
+use Rattle.loom_strand.proofs.Asking.{asks_numbers, never_own, is_own, asks_no_other}
 
 pub is_lowered : (p : Source) → IsLawful p → IsLowered (lowered p)
 is_lowered p l = record { lawful = l; is = refl }
@@ -87,7 +88,7 @@ record IsAskedHere (p : Source) (t : ℕ) (b : Birth) (es : List Entry) (q : Req
   pub next : IsNext p t b.func b.args es q
   pub numbers : HasNumbers p q
   pub begins : is_begin q ≡ false
-  pub asked : IsAskedIn (lowered p) q
+  pub alone : is_alone p ≡ true → NeedsNoOther q
 
 asked_here : (p : Source) → IsLawful p → (t : ℕ) (b : Birth) (es : List Entry) (items : List Item) (z : State) (q : Request)
     → AreTold p t 0 items es → Continues (lowered p) (thread_of p b.func) b.func b.args items z → IsSound (lowered p) z
@@ -96,57 +97,57 @@ asked_here p l t b es items z q told h sound at = record {
   next = next_of p l t b.func b.args es items z at.0 q told h at.1 at.2;
   numbers = asks_numbers (lowered p) z at.0 q (is_lowered p l) at.1 at.2 (lowered_numbers p l z.at at.0 at.1) sound;
   begins = own_begin q (never_own (lowered p) z at.0 q at.2);
-  asked = asks_in (lowered p) z at.0 q at.1 at.2;
+  alone = λ a. asks_no_other p z at.0 q a at.1 at.2;
 }
 
 -- Threads
 
 asks_here : (s : Strand) (b : Birth) (q : Request) → s.wanted ≡ Some q → has_none s.entries ≡ false → has_ended s.entries ≡ false
-    → Asks s.program s.thread b.func b.args s.entries q → HasNumbers s.program q → is_begin q ≡ false → IsAskedIn (lowered s.program) q → AsksFor s b q
-asks_here s b q e some lives next numbers begins asked =
-    record { wanted = e; next = next; numbers = numbers; begins = begins ∙ sym some; lives = lives; asked = asked }
+    → Asks s.program s.thread b.func b.args s.entries q → HasNumbers s.program q → is_begin q ≡ false → (is_alone s.program ≡ true → NeedsNoOther q) → AsksFor s b q
+asks_here s b q e some lives next numbers begins alone =
+    record { wanted = e; next = next; numbers = numbers; begins = begins ∙ sym some; lives = lives; alone = alone }
 
 running_asks : (s : Strand) (b : Birth) (n : ℕ) (z : State) (q : Request) → IsLawful s.program → s.wanted ≡ Some q → IsRunning s.program s.thread b s.entries (Some q) n z → AsksFor s b q
 running_asks s b n z (r.Tick line k) l e h =
     asks_here s b (r.Tick line k) e h.begun h.lives
     (record { items = h.items; trace = tree_trace s.program l b.func b.args h.items Open (continues_open (lowered s.program) (thread_of s.program b.func) b.func b.args h.items z h.goes); told = h.told })
-    tt refl tt
+    tt refl (λ a. tt)
 running_asks s b n z (r.Begin line) l e h =
     let a : IsAskedHere s.program s.thread b s.entries (r.Begin line) = asked_here s.program l s.thread b s.entries h.items z (r.Begin line) h.told h.goes h.sound h.asks in
-    asks_here s b (r.Begin line) e h.begun h.lives a.next a.numbers a.begins a.asked
+    asks_here s b (r.Begin line) e h.begun h.lives a.next a.numbers a.begins a.alone
 running_asks s b n z (r.End line) l e h =
     let a : IsAskedHere s.program s.thread b s.entries (r.End line) = asked_here s.program l s.thread b s.entries h.items z (r.End line) h.told h.goes h.sound h.asks in
-    asks_here s b (r.End line) e h.begun h.lives a.next a.numbers a.begins a.asked
+    asks_here s b (r.End line) e h.begun h.lives a.next a.numbers a.begins a.alone
 running_asks s b n z (r.Trap line k) l e h =
     let a : IsAskedHere s.program s.thread b s.entries (r.Trap line k) = asked_here s.program l s.thread b s.entries h.items z (r.Trap line k) h.told h.goes h.sound h.asks in
-    asks_here s b (r.Trap line k) e h.begun h.lives a.next a.numbers a.begins a.asked
+    asks_here s b (r.Trap line k) e h.begun h.lives a.next a.numbers a.begins a.alone
 running_asks s b n z (r.Read line w) l e h =
     let a : IsAskedHere s.program s.thread b s.entries (r.Read line w) = asked_here s.program l s.thread b s.entries h.items z (r.Read line w) h.told h.goes h.sound h.asks in
-    asks_here s b (r.Read line w) e h.begun h.lives a.next a.numbers a.begins a.asked
+    asks_here s b (r.Read line w) e h.begun h.lives a.next a.numbers a.begins a.alone
 running_asks s b n z (r.Write line w v) l e h =
     let a : IsAskedHere s.program s.thread b s.entries (r.Write line w v) = asked_here s.program l s.thread b s.entries h.items z (r.Write line w v) h.told h.goes h.sound h.asks in
-    asks_here s b (r.Write line w v) e h.begun h.lives a.next a.numbers a.begins a.asked
+    asks_here s b (r.Write line w v) e h.begun h.lives a.next a.numbers a.begins a.alone
 running_asks s b n z (r.Lock line m) l e h =
     let a : IsAskedHere s.program s.thread b s.entries (r.Lock line m) = asked_here s.program l s.thread b s.entries h.items z (r.Lock line m) h.told h.goes h.sound h.asks in
-    asks_here s b (r.Lock line m) e h.begun h.lives a.next a.numbers a.begins a.asked
+    asks_here s b (r.Lock line m) e h.begun h.lives a.next a.numbers a.begins a.alone
 running_asks s b n z (r.Unlock line m) l e h =
     let a : IsAskedHere s.program s.thread b s.entries (r.Unlock line m) = asked_here s.program l s.thread b s.entries h.items z (r.Unlock line m) h.told h.goes h.sound h.asks in
-    asks_here s b (r.Unlock line m) e h.begun h.lives a.next a.numbers a.begins a.asked
+    asks_here s b (r.Unlock line m) e h.begun h.lives a.next a.numbers a.begins a.alone
 running_asks s b n z (r.Down line x) l e h =
     let a : IsAskedHere s.program s.thread b s.entries (r.Down line x) = asked_here s.program l s.thread b s.entries h.items z (r.Down line x) h.told h.goes h.sound h.asks in
-    asks_here s b (r.Down line x) e h.begun h.lives a.next a.numbers a.begins a.asked
+    asks_here s b (r.Down line x) e h.begun h.lives a.next a.numbers a.begins a.alone
 running_asks s b n z (r.Up line x) l e h =
     let a : IsAskedHere s.program s.thread b s.entries (r.Up line x) = asked_here s.program l s.thread b s.entries h.items z (r.Up line x) h.told h.goes h.sound h.asks in
-    asks_here s b (r.Up line x) e h.begun h.lives a.next a.numbers a.begins a.asked
+    asks_here s b (r.Up line x) e h.begun h.lives a.next a.numbers a.begins a.alone
 running_asks s b n z (r.Spawn line f vs) l e h =
     let a : IsAskedHere s.program s.thread b s.entries (r.Spawn line f vs) = asked_here s.program l s.thread b s.entries h.items z (r.Spawn line f vs) h.told h.goes h.sound h.asks in
-    asks_here s b (r.Spawn line f vs) e h.begun h.lives a.next a.numbers a.begins a.asked
+    asks_here s b (r.Spawn line f vs) e h.begun h.lives a.next a.numbers a.begins a.alone
 running_asks s b n z (r.Join line v) l e h =
     let a : IsAskedHere s.program s.thread b s.entries (r.Join line v) = asked_here s.program l s.thread b s.entries h.items z (r.Join line v) h.told h.goes h.sound h.asks in
-    asks_here s b (r.Join line v) e h.begun h.lives a.next a.numbers a.begins a.asked
+    asks_here s b (r.Join line v) e h.begun h.lives a.next a.numbers a.begins a.alone
 running_asks s b n z (r.Print line v) l e h =
     let a : IsAskedHere s.program s.thread b s.entries (r.Print line v) = asked_here s.program l s.thread b s.entries h.items z (r.Print line v) h.told h.goes h.sound h.asks in
-    asks_here s b (r.Print line v) e h.begun h.lives a.next a.numbers a.begins a.asked
+    asks_here s b (r.Print line v) e h.begun h.lives a.next a.numbers a.begins a.alone
 
 -- before the begin
 pub waiting_open : (p : Source) → IsLawful p → (b : Birth) (g : Function) → slice_get p.funcs b.func ≡ Some g → (items : List Item)
@@ -187,7 +188,7 @@ waiting_asks s b q l e h =
       numbers = tt;
       begins = sym (ap has_none h.none);
       lives = ap has_ended h.none;
-      asked = tt;
+      alone = λ a. tt;
     })
 
 -- at the end
@@ -211,7 +212,7 @@ stopping_asks s b q l e h =
       numbers = tt;
       begins = sym h.begun;
       lives = h.lives;
-      asked = tt;
+      alone = λ a. tt;
     })
 
 asks_at : (s : Strand) (b : Birth) (q : Request) (x : Stage) → IsLawful s.program → s.wanted ≡ Some q → IsAt x s (Some b) → AsksFor s b q

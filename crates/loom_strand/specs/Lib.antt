@@ -2,6 +2,7 @@ pub mod Machine
 pub mod Held
 pub mod Turned
 pub mod Next
+pub mod Alone
 pub mod Strand
 pub mod Kept
 pub mod Ran

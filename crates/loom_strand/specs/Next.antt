@@ -1,13 +1,8 @@
 -- What a thread asks for next.
-use Rattle.std.specs.Prelude.{ℕ, ◌≡◌, slice_get, Bool, true, false, List, [], ◌∷◌, ◌++◌, ℤ, Option, Some, None}
+use Rattle.std.specs.Prelude.{ℕ, Bool, true, false, List, [], ◌∷◌, ◌++◌, ℤ, Option, Some, None}
 use Rattle.loom_tree.specs.Tree.{Source}
 use Rattle.loom_lang.specs.Acts.{Deed}
 use Rattle.loom_lang.specs.Trace.{Item, Open, Finished, made, IsTrace}
-use Rattle.loom_flow.specs.declared.code.Operand.{Operand}
-use Rattle.loom_flow.specs.declared.code.Target.{Target}
-use Rattle.loom_flow.specs.declared.code.Step.TheVariants as s
-use Rattle.loom_flow.specs.declared.code.Instr.{Instr}
-use Rattle.loom_flow.specs.Flat.{Flat}
 use Rattle.loom_trace.specs.declared.entry.Entry.{Entry}
 use Rattle.loom_trace.specs.declared.entry.Entry.TheVariants as e
 use Rattle.loom_trace.specs.declared.request.Request.{Request}
@@ -42,12 +37,6 @@ pub record IsEnded (p : Source) (t f : ℕ) (vs : List ℤ) (es : List Entry) : 
 abbrev pub Asks : Source → ℕ → ℕ → List ℤ → List Entry → Request → Type 0
 Asks p t f vs es (r.Tick l k) = IsTick p t f vs es l k
 Asks p t f vs es q = IsNext p t f vs es q
-
--- What an instruction asks for of other threads. The others are told by their numbers.
-abbrev pub IsAskedIn : Flat → Request → Type 0
-IsAskedIn c (r.Spawn l f vs) = (at : ℕ) × (i : Instr) × (slice_get c.code at ≡ Some i) × (n : ℕ) × (d : Target) × (i.step ≡ s.Spawn f n d)
-IsAskedIn c (r.Join l v) = (at : ℕ) × (i : Instr) × (slice_get c.code at ≡ Some i) × (a : Operand) × (i.step ≡ s.Join a)
-IsAskedIn c _ = Unit {0}
 
 -- The life of a thread, by its entries
 

@@ -1,7 +1,6 @@
 -- A thread.
 use Rattle.std.specs.Prelude.{ℕ, ◌≡◌, true, false, List, [], Option, Some, None}
 use Rattle.loom_tree.specs.Tree.{Source}
-use Rattle.loom_flow.specs.Lowered.{lowered}
 use Rattle.loom_trace.specs.declared.entry.Entry.{Entry}
 use Rattle.loom_trace.specs.declared.request.Request.{Request}
 use Rattle.loom_law.specs.Part.{IsPart}
@@ -11,7 +10,8 @@ use Rattle.loom_strand.specs.declared.stage.Stage.{Stage}
 use Rattle.loom_strand.specs.declared.stage.Want.{Want}
 use Rattle.loom_strand.specs.declared.stage.Want.TheVariants as w
 use Rattle.loom_strand.specs.Held.{Held}
-use Rattle.loom_strand.specs.Next.{Asks, IsEnded, IsAskedIn, is_begin, has_none, has_ended}
+use Rattle.loom_strand.specs.Alone.{is_alone, NeedsNoOther}
+use Rattle.loom_strand.specs.Next.{Asks, IsEnded, is_begin, has_none, has_ended}
 
 -- What a thread keeps of its run: how far it is, how many entry and back-edge places it passed since its last entry or the tick that it
 -- asks for, and its machine.
@@ -65,7 +65,8 @@ pub record AsksFor (s : Strand) (b : Birth) (q : Request) : Type 0 where
   pub numbers : HasNumbers s.program q
   pub begins : is_begin q ≡ has_none s.entries
   pub lives : has_ended s.entries ≡ false
-  pub asked : IsAskedIn (lowered s.program) q
+  -- no other thread, where the program makes none
+  pub alone : is_alone s.program ≡ true → NeedsNoOther q
 
 -- It has ended.
 pub record IsOver (s : Strand) (b : Birth) : Type 0 where

@@ -6,3 +6,4 @@ pub mod UnderWay
 pub mod Words
 pub mod Written
 pub mod Top
+pub mod Behind

@@ -1,11 +1,9 @@
 -- Each turn of a run keeps what is known of it.
-use Rattle.std.proofs.Common.{ℕ, zero, suc, ◌<◌, ◌≡◌, inl, inr, ℤ, pos, Bool, true, false, not, List, [], ◌∷◌, ◌++◌, length, slice_get, slice_set, Some, refl, sym, ap, subst, ◌∙◌, append_assoc, append-nil, arith}
+use Rattle.std.proofs.Common.{ℕ, ◌<◌, ◌≡◌, inl, inr, ℤ, pos, Bool, true, false, not, List, [], ◌∷◌, ◌++◌, length, slice_set, refl, sym, ap, subst, ◌∙◌, append_assoc, append-nil, arith}
 use Rattle.std.proofs.lemmas.Bool.{and_parts}
 use Rattle.std.proofs.lemmas.List.{length-set}
 use Rattle.loom_tree.specs.Tree.{Source}
 use Rattle.loom_lang.specs.Rules.{cell_count}
-use Rattle.loom_flow.specs.declared.code.Instr.{Instr}
-use Rattle.loom_flow.specs.Lowered.{lowered}
 use Rattle.loom_trace.specs.declared.entry.Entry.{Entry}
 use Rattle.loom_trace.specs.declared.entry.Entry.TheVariants as e
 use Rattle.loom_trace.specs.declared.request.Request.{Request}
@@ -13,8 +11,9 @@ use Rattle.loom_trace.specs.declared.request.Request.TheVariants as r
 use Rattle.loom_law.specs.Event.{Event}
 use Rattle.loom_law.specs.Replay.{Store, start, IsRunning, after, replay, AreAllowed}
 use Rattle.loom_law.specs.Asked.{IsAnswerTo, HasNumbers}
-use Rattle.loom_strand.specs.Next.{IsAskedIn, is_begin, is_end, has_none, has_ended}
-use Rattle.loom_top.specs.Built.{runs_alone, all_alone, is_nil, is_built}
+use Rattle.loom_strand.specs.Alone.{is_alone, NeedsNoOther}
+use Rattle.loom_strand.specs.Next.{is_begin, is_end, has_none, has_ended}
+use Rattle.loom_top.specs.Built.{is_nil, is_built}
 use Rattle.loom_top.specs.Turn.{AsksAlone, IsGranted}
 use Rattle.loom_top.specs.Driven.{events_in, events_of, is_own, all_own, alone, IsDriven}
 
@@ -73,29 +72,12 @@ running p f vs = record { state = record { func = f; args = []; begun = true; en
 
 -- Requests that don't come
 
-not_alone : (is : List Instr) (at : ℕ) (i : Instr) → all_alone is ≡ true → slice_get is at ≡ Some i → runs_alone i.step ≡ true
-not_alone [] at i a h = cc
-not_alone (j ∷ is) zero i a h = let same : j ≡ i = cc in ap (λ (z : Instr). runs_alone z.step) (sym same) ∙ (and_parts (runs_alone j.step) (all_alone is) a).0
-not_alone (j ∷ is) (suc at) i a h = not_alone is at i (and_parts (runs_alone j.step) (all_alone is) a).1 h
-
-no_spawn : (p : Source) (l f : ℕ) (vs : List ℤ) → all_alone (lowered p).code ≡ true → IsAskedIn (lowered p) (r.Spawn l f vs) → ⊥
-no_spawn p l f vs a h =
-    let all : runs_alone h.1.step ≡ true = not_alone (lowered p).code h.0 h.1 a h.2 in
-    let one : runs_alone h.1.step ≡ false = ap runs_alone h.5 in
-    cc
-
-no_join : (p : Source) (l : ℕ) (v : ℤ) → all_alone (lowered p).code ≡ true → IsAskedIn (lowered p) (r.Join l v) → ⊥
-no_join p l v a h =
-    let all : runs_alone h.1.step ≡ true = not_alone (lowered p).code h.0 h.1 a h.2 in
-    let one : runs_alone h.1.step ≡ false = ap runs_alone h.4 in
-    cc
-
 nothing_in : {A : Type 0} (xs : List A) (n : ℕ) → is_nil xs ≡ true → n < length xs → ⊥
 nothing_in [] n e h = omega (arith, h)
 nothing_in (x ∷ xs) n e h = cc
 
 -- Nothing else is asked for.
-pub asks_alone : (p : Source) (q : Request) → is_built p ≡ true → HasNumbers p q → IsAskedIn (lowered p) q → AsksAlone (cell_count p.words) q
+pub asks_alone : (p : Source) (q : Request) → is_built p ≡ true → HasNumbers p q → (is_alone p ≡ true → NeedsNoOther q) → AsksAlone (cell_count p.words) q
 asks_alone p (r.Begin l) b n a = tt
 asks_alone p (r.End l) b n a = tt
 asks_alone p (r.Trap l k) b n a = tt
@@ -105,8 +87,8 @@ asks_alone p (r.Lock l m) b n a = nothing_in p.mutexes m (and_parts (is_nil p.mu
 asks_alone p (r.Unlock l m) b n a = nothing_in p.mutexes m (and_parts (is_nil p.mutexes) _ b).0 n
 asks_alone p (r.Down l x) b n a = nothing_in p.semas x (and_parts (is_nil p.semas) _ (and_parts (is_nil p.mutexes) _ b).1).0 n
 asks_alone p (r.Up l x) b n a = nothing_in p.semas x (and_parts (is_nil p.semas) _ (and_parts (is_nil p.mutexes) _ b).1).0 n
-asks_alone p (r.Spawn l g us) b n a = no_spawn p l g us (and_parts (is_nil p.semas) (all_alone (lowered p).code) (and_parts (is_nil p.mutexes) _ b).1).1 a
-asks_alone p (r.Join l u) b n a = no_join p l u (and_parts (is_nil p.semas) (all_alone (lowered p).code) (and_parts (is_nil p.mutexes) _ b).1).1 a
+asks_alone p (r.Spawn l g us) b n a = a (and_parts (is_nil p.semas) (is_alone p) (and_parts (is_nil p.mutexes) _ b).1).1
+asks_alone p (r.Join l u) b n a = a (and_parts (is_nil p.semas) (is_alone p) (and_parts (is_nil p.mutexes) _ b).1).1
 asks_alone p (r.Print l u) b n a = tt
 asks_alone p (r.Tick l k) b n a = tt
 

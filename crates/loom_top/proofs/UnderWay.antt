@@ -2,7 +2,6 @@
 use Rattle.std.proofs.Common.{ℕ, ◌+◌, ◌<◌, ◌≡◌, ℤ, true, false, List, [], ◌∷◌, ◌++◌, length, length-append, Option, Some, sym, ap, subst, ◌∙◌, arith, codes}
 use Rattle.loom_tree.specs.Tree.{Source}
 use Rattle.loom_lang.specs.Numbers.{function_number}
-use Rattle.loom_flow.specs.Lowered.{lowered}
 use Rattle.loom_trace.specs.declared.entry.Entry.{Entry}
 use Rattle.loom_trace.specs.declared.entry.Entry.TheVariants as e
 use Rattle.loom_trace.specs.declared.entry.Ending.TheVariants as k
@@ -14,7 +13,8 @@ use Rattle.loom_law.specs.Asked.{IsFunctionWith, HasNumbers, IsAnswer}
 use Rattle.loom_strand.specs.declared.stage.Birth.{Birth}
 use Rattle.loom_strand.specs.declared.stage.Want.{Want}
 use Rattle.loom_strand.specs.declared.stage.Want.TheVariants as want
-use Rattle.loom_strand.specs.Next.{IsAskedIn, IsEnded, is_begin, has_none, has_ended}
+use Rattle.loom_strand.specs.Alone.{is_alone, NeedsNoOther}
+use Rattle.loom_strand.specs.Next.{IsEnded, is_begin, has_none, has_ended}
 use Rattle.loom_strand.specs.Strand.{Strand, IsNew, IsSame, HasPart, AsksFor, IsOver, Wants}
 use Rattle.loom_top.specs.Built.{is_built}
 use Rattle.loom_top.specs.Answers.{IsRunOf}
@@ -71,7 +71,7 @@ pub record IsAsking (p : Source) (f n : ℕ) (s : Strand) (j : Contents) (vs : L
   pub way : IsUnderWay p f n s j vs
   pub wanted : s.wanted ≡ Some q
   pub numbers : HasNumbers p q
-  pub asked : IsAskedIn (lowered p) q
+  pub alone : is_alone p ≡ true → NeedsNoOther q
   pub begins : is_begin q ≡ has_none j.entries
   pub lives : has_ended j.entries ≡ false
 
@@ -84,13 +84,13 @@ asking {f = f} {z = z} {q = q} before same wants is =
       way = u;
       wanted = a.wanted;
       numbers = subst (λ (o : Source). HasNumbers o q) u.program a.numbers;
-      asked = subst (λ (o : Source). IsAskedIn (lowered o) q) u.program a.asked;
+      alone = subst (λ (o : Source). is_alone o ≡ true → NeedsNoOther q) u.program a.alone;
       begins = a.begins ∙ ap has_none u.entries;
       lives = sym (ap has_ended u.entries) ∙ a.lives;
     }
 
 pub way_alone : {p : Source} {f n : ℕ} {s : Strand} {j : Contents} {vs : List ℤ} {q : Request} → is_built p ≡ true → IsAsking p f n s j vs q → AsksAlone (length vs) q
-way_alone {p = p} {q = q} b a = subst (λ (m : ℕ). AsksAlone m q) (sym a.way.driven.cells) (asks_alone p q b a.numbers a.asked)
+way_alone {p = p} {q = q} b a = subst (λ (m : ℕ). AsksAlone m q) (sym a.way.driven.cells) (asks_alone p q b a.numbers a.alone)
 
 pub way_answers : {p : Source} {f n : ℕ} {s : Strand} {j : Contents} {vs : List ℤ} {q : Request} {x y : Entry} (us : List ℤ) → IsAsking p f n s j vs q
     → IsGranted vs us q x → y ≡ x → IsAnswer s.thread s.wanted y

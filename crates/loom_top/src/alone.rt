@@ -80,8 +80,8 @@ fn run_of(alloc: Global, file: &[u8], limit: u32) -> Result<(Journal, Ending), L
 {
     match parse_program(alloc, file) {
         Ok(program) => {
-            let flow = lower(alloc, &program)?;
-            if is_built(&flow) {
+            if is_built(&program) {
+                let flow = lower(alloc, &program)?;
                 Ok(run(alloc, &flow, limit)?)
             } else {
                 Err(LangError::Refused)

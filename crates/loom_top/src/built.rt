@@ -1,46 +1,62 @@
 //! Which programs can be run so far.
 ghost use Rattle.std.specs.Prelude.{◌≡◌};
-ghost use Rattle.loom_top.specs.Built.{runs_alone, all_alone, is_built};
+ghost use Rattle.loom_tree.specs.Tree.{body_of, behind, end, right_of, functions_of};
+ghost use Rattle.loom_strand.specs.Alone.{right_alone, body_alone, functions_alone};
+ghost use Rattle.loom_top.specs.Built.{is_built};
 
-use loom_flow::code::{Instr, Step};
-use loom_flow::flow::Flow;
+use loom_lang::program::Program;
+use loom_tree::statement::{Func, Kind, Right, Stmts};
 
-fn runs_alone(step: Step) -> bool
-    ensures { result ≡ runs_alone step }
+fn right_alone(right: &Right) -> bool
+    ensures { result ≡ right_alone (right_of right.now) }
 {
-    match step {
-        Step::Lock(_)
-        | Step::Unlock(_)
-        | Step::Down(_)
-        | Step::Up(_)
-        | Step::Join(_)
-        | Step::Spawn(_, _, _) => false,
-        Step::Move(_, _)
-        | Step::Read(_, _)
-        | Step::ReadCell(_, _, _)
-        | Step::Negate(_, _)
-        | Step::Invert(_, _)
-        | Step::Apply(_, _, _, _)
-        | Step::Write(_, _)
-        | Step::WriteCell(_, _, _)
-        | Step::Print(_)
-        | Step::Call(_, _)
-        | Step::Discard
-        | Step::Return(_)
-        | Step::Begin
-        | Step::Done
-        | Step::Edge(_)
-        | Step::Jump(_)
-        | Step::JumpIfZero(_, _)
-        | Step::Out => true,
+    match right {
+        Right::Value(_) => true,
+        Right::Call(_, _) => true,
+        Right::Spawn(_, _) => false,
     }
 }
 
-fn all_alone(code: &[Instr]) -> bool
-    ensures { result ≡ all_alone code.now }
+#[cycle(alone)]
+#[tactic(auto, using(crate::proofs::Behind::alone_behind))]
+fn body_alone(body: &Stmts) -> bool
+    ensures { result ≡ body_alone (body_of body.now) }
 {
-    'scan: for instr in code {
-        if !runs_alone(instr.step) {
+    match body {
+        Stmts::End => true,
+        Stmts::More(first, rest) => kind_alone(&first.kind) && body_alone(rest),
+    }
+}
+
+// A statement, with the statements in its blocks.
+#[cycle(alone)]
+#[tactic(auto, using(crate::proofs::Behind::and_true))]
+fn kind_alone(kind: &Kind) -> bool
+    ensures { result ≡ body_alone (behind 0 kind.now end) }
+{
+    match kind {
+        Kind::Let(_, right) => right_alone(right),
+        Kind::Set(_, right) => right_alone(right),
+        Kind::If(_, a, b) => body_alone(a) && body_alone(b),
+        Kind::While(_, a) => body_alone(a),
+        Kind::Join(_) => false,
+        Kind::SetCell(_, _, _) => true,
+        Kind::Call(_, _) => true,
+        Kind::Return(_) => true,
+        Kind::Lock(_) => true,
+        Kind::Unlock(_) => true,
+        Kind::Down(_) => true,
+        Kind::Up(_) => true,
+        Kind::Print(_) => true,
+        Kind::Skip => true,
+    }
+}
+
+fn functions_alone(funcs: &[Func]) -> bool
+    ensures { result ≡ functions_alone (functions_of funcs.now) }
+{
+    'scan: for f in funcs {
+        if !body_alone(&f.body) {
             return false;
         }
     }
@@ -48,9 +64,9 @@ fn all_alone(code: &[Instr]) -> bool
 }
 
 /// Whether a program has no form but those that can be run so far.
-pub fn is_built(flow: &Flow) -> bool
-    ensures { result ≡ is_built flow.now.program }
+pub fn is_built(program: &Program) -> bool
+    ensures { result ≡ is_built program.now }
 {
-    let program = flow.program();
-    program.mutexes().0.is_empty() && (program.semas().0.is_empty() && all_alone(flow.code()))
+    program.mutexes().0.is_empty()
+        && (program.semas().0.is_empty() && functions_alone(program.funcs().0.as_slice()))
 }

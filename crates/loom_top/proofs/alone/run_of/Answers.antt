@@ -1,4 +1,4 @@
-use Rattle.std.proofs.Common.{◌≡◌, false}
+use Rattle.std.proofs.Common.{◌≡◌, ◌∙◌, sym, false}
 use Rattle.loom_lang.proofs.Texts.{one_program}
 use Rattle.loom_top.specs.Built.{is_built}
 use Rattle.loom_top.proofs.Top.{not_built, none_runs}
@@ -7,7 +7,7 @@ use Rattle.loom_top.proofs.alone.run_of.Goals as goal
 pub returns-in-Ok-clause-refused : goal.returns-in-Ok-clause-refused
 returns-in-Ok-clause-refused c same q runs =
     let p = c.in-Ok.program in
-    let other : is_built p ≡ false = cc (c.is_built.ensures, c.if-is_built.false, c.in_ok-flow-in-Ok.ensures.program) in
+    let other : is_built p ≡ false = sym c.is_built.ensures ∙ c.if-is_built.false in
     not_built one_program c.args.file.now p q c.in-Ok.ensures.program other runs
 
 pub returns-clause-refused : goal.returns-clause-refused

@@ -59,21 +59,13 @@ impl Page {
         self.len = 0;
     }
 
-    fn push(&mut self, byte: u8)
-        requires { length self.old < 4096 }
-        ensures { self.new ≡ self.old ++ byte ∷ [] }
-    {
-        self.cells[self.len] = byte;
-        self.len += 1;
-    }
-
     fn add(&mut self, piece: &[u8])
         requires { length self.old + length piece.now ≤ 4096 }
         ensures { self.new ≡ self.old ++ piece.now }
     {
-        for byte in piece {
-            self.push(*byte);
-        }
+        let end = self.len + piece.len();
+        self.cells[self.len..end].copy_from_slice(piece);
+        self.len = end;
     }
 }
 

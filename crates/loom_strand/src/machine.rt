@@ -69,13 +69,6 @@ impl Machine {
         self.at
     }
 
-    /// The function of the frame.
-    pub fn func(&self) -> u8
-        ensures { result ≡ self.now.state.func }
-    {
-        self.func
-    }
-
     /// How many frames wait.
     pub fn waiting(&self) -> usize
         ensures { result ≡ length self.now.state.below }

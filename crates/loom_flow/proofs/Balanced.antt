@@ -2,7 +2,7 @@
 use Rattle.std.proofs.Common.{ℕ, ◌+◌, ◌-◌, ◌≡◌, ◌≤◌, List, [], ◌∷◌, ◌++◌, true, Option, Some, None, refl, sym, subst, length, append_assoc, arith}
 use Rattle.loom_tree.specs.Tree.{Expression, num, var, cell, neg, inverse, bin, Right, Simple, let_, set, set_cell, return, Function, Source}
 use Rattle.loom_tree.specs.Tree as tree
-use Rattle.loom_lang.specs.Rules.{takes, IsLawful}
+use Rattle.loom_lang.specs.Rules.{takes, KeepsRules}
 use Rattle.loom_flow.specs.Counted.{takes_right, takes_simple}
 use Rattle.loom_flow.proofs.Known.{few_in}
 use Rattle.loom_lang.specs.Numbers.{position, function_number}
@@ -130,7 +130,7 @@ store_balanced p m x (Some j) h = (omega arith, h, refl)
 
 -- In a program that keeps the rules a call has at most four arguments.
 
-pub four_arguments : (p : Source) (f : List ℕ) (es : List Expression) → IsLawful p → takes p.funcs f (length es) ≡ true → length es ≤ 4
+pub four_arguments : (p : Source) (f : List ℕ) (es : List Expression) → KeepsRules p → takes p.funcs f (length es) ≡ true → length es ≤ 4
 four_arguments p f es l h = few_in p p.funcs f (length es) l.functions h
 
 -- Statements
@@ -139,7 +139,7 @@ value_balanced : (p : Source) (xs : List (List ℕ)) (m : ℕ) (x : List ℕ) (e
 value_balanced p xs m x e None h = taking_balanced p xs m e (s.Write (word_named p x) (operand_of xs e)) h (omega arith) refl refl
 value_balanced p xs m x e (Some j) h = steps_balanced p xs m 0 (target.Local j) e (omega (arith, h))
 
-set_balanced : (p : Source) (xs : List (List ℕ)) (m n : ℕ) (x : List ℕ) (r : Right Expression) → IsLawful p → n + 4 ≤ m → takes_right p r ≡ true → IsSmallRight n r → Balanced m 0 (set_steps p xs x r) 0
+set_balanced : (p : Source) (xs : List (List ℕ)) (m n : ℕ) (x : List ℕ) (r : Right Expression) → KeepsRules p → n + 4 ≤ m → takes_right p r ≡ true → IsSmallRight n r → Balanced m 0 (set_steps p xs x r) 0
 set_balanced p xs m n x (Right.value e) l room known small = value_balanced p xs m x e (position x xs) (omega (arith, room, small))
 set_balanced p xs m n x (Right.call f es) l room known small =
     balanced_append m 0 1 0 (call_steps p xs f es) (store_step p x (position x xs) ∷ [])
@@ -167,7 +167,7 @@ pub condition_balanced : (p : Source) (xs : List (List ℕ)) (m to : ℕ) (e : E
 condition_balanced p xs m to e h = begun m _ (taking_balanced p xs m e (s.JumpIfZero (operand_of xs e) to) h refl refl refl)
 
 -- From each statement's beginning to its end there are as many values as before.
-pub simple_balanced : (p : Source) (xs : List (List ℕ)) (m n : ℕ) (x : Simple Expression) → IsLawful p → n + 4 ≤ m → takes_simple p x ≡ true → IsSmallSimple n x → Balanced m 0 (simple_steps p xs x) 0
+pub simple_balanced : (p : Source) (xs : List (List ℕ)) (m n : ℕ) (x : Simple Expression) → KeepsRules p → n + 4 ≤ m → takes_simple p x ≡ true → IsSmallSimple n x → Balanced m 0 (simple_steps p xs x) 0
 simple_balanced p xs m n (let_ x r) l room known small = completed m (set_steps p xs x r) (set_balanced p xs m n x r l room known small)
 simple_balanced p xs m n (set x r) l room known small = completed m (set_steps p xs x r) (set_balanced p xs m n x r l room known small)
 simple_balanced p xs m n (set_cell x i e) l room known small =

@@ -4,7 +4,7 @@ use Rattle.loom_tree.specs.declared.statement.Kind.{Kind}
 use Rattle.loom_tree.specs.declared.statement.Kind.TheVariants as k
 use Rattle.loom_tree.specs.Tree.{Expression, Right, Simple, let_, set, set_cell, return, Body, end, simple, if_, while_, Function, Source, behind, body_of, right_of, expressions_of}
 use Rattle.loom_tree.specs.Tree as tree
-use Rattle.loom_lang.specs.Rules.{locals_of, IsLawfulFunction, is_function, takes, knows, knows_call, knows_right, knows_simple, knows_body, counts_call, counts_right, counts_simple, counts_body}
+use Rattle.loom_lang.specs.Rules.{locals_of, FunctionKeepsRules, is_function, takes, knows, knows_call, knows_right, knows_simple, knows_body, counts_call, counts_right, counts_simple, counts_body}
 use Rattle.loom_flow.specs.Counted.{takes_right, takes_simple, takes_body}
 use Rattle.loom_flow.proofs.Truths.{both}
 
@@ -57,7 +57,7 @@ body_takes p xs (while_ l e a rest) h g =
     let g' : (counts_body p a ≡ true) × (counts_body p rest ≡ true) = both _ _ g in
     all _ _ (body_takes p xs a h''.0 g'.0) (body_takes p xs rest h''.1 g'.1)
 
-pub function_takes : (p : Source) (f : Function) → IsLawfulFunction p f → takes_body p f.body ≡ true
+pub function_takes : (p : Source) (f : Function) → FunctionKeepsRules p f → takes_body p f.body ≡ true
 function_takes p f h = body_takes p (locals_of f) f.body h.known h.counted
 
 -- a statement, and the statements behind it

@@ -2,7 +2,7 @@
 use Rattle.std.proofs.Common.{ℕ, suc, zero, ◌+◌, ◌-◌, ◌≡◌, ◌≤◌, ◌<◌, List, [], ◌∷◌, ◌++◌, true, false, ◌&&◌, Option, Some, None, refl, sym, ap, subst, ◌∙◌, map, take, slice_get, length, length-append, if◌then◌else◌, nat_le, le-leb, arith}
 use Rattle.std.proofs.lemmas.Option.{slice_get_within}
 use Rattle.loom_tree.specs.Tree.{Expression, Right, Simple, let_, set, Body, end, simple, if_, while_, Function, Source}
-use Rattle.loom_lang.specs.Rules.{locals_of, IsLawful, AreLawfulFunctions}
+use Rattle.loom_lang.specs.Rules.{locals_of, KeepsRules, FunctionsKeepRules}
 use Rattle.loom_flow.specs.Counted.{takes_simple, takes_body}
 use Rattle.loom_flow.proofs.Counts.{body_takes}
 use Rattle.loom_flow.specs.declared.code.Step.{Step}
@@ -118,7 +118,7 @@ condition_depth c l k at m to xs e small h lies =
 
 -- Statements: each of their instructions, and the number behind them
 
-body_keeps : (c : Flat) (m n : ℕ) (xs : List (List ℕ)) → IsLawful c.program → n + 4 ≤ m → (at k : ℕ) (a : Body) → takes_body c.program a ≡ true → IsSmallBody n a
+body_keeps : (c : Flat) (m n : ℕ) (xs : List (List ℕ)) → KeepsRules c.program → n + 4 ≤ m → (at k : ℕ) (a : Body) → takes_body c.program a ≡ true → IsSmallBody n a
     → Lies c.code at (body_code c.program xs at k a) → depth_before c at ≡ Some 0
     → Each (Keeps c m) at (body_code c.program xs at k a) × (depth_before c (at + size c.program xs a) ≡ Some 0)
 body_keeps c m n xs law room at k end known small lies h = (tt, depth_at c at (at + 0) 0 (omega arith) h)
@@ -234,7 +234,7 @@ starts_more : (c : Flat) (e : Entrance) (es : List Entrance) → depth_before c 
 starts_more c e es h f zero d g = subst (λ (q : Entrance). depth_before c q.start ≡ Some 0) (same_element e d g) h
 starts_more c e es h f (suc n) d g = f n d g
 
-functions_keep : (c : Flat) (m n : ℕ) → IsLawful c.program → n + 4 ≤ m → (fs : List Function) (at place : ℕ) → AreLawfulFunctions c.program fs → AreSmallFunctions n fs
+functions_keep : (c : Flat) (m n : ℕ) → KeepsRules c.program → n + 4 ≤ m → (fs : List Function) (at place : ℕ) → FunctionsKeepRules c.program fs → AreSmallFunctions n fs
     → Lies c.code at (functions_code c.program at place fs) → depth_before c at ≡ Some 0
     → Each (Keeps c m) at (functions_code c.program at place fs) × AreStarts c (entrances c.program at place fs)
 functions_keep c m n law room [] at place l small code h = (tt, λ k e g. cc)
@@ -258,7 +258,7 @@ functions_keep c m n law room (g ∷ gs) at place l small code h =
     )
 
 -- where each expression of the program has at most `n` nodes
-pub lowered_operands : (p : Source) → IsLawful p → (n : ℕ) → IsSmall n p → HasOperands (lowered p) (n + 4)
+pub lowered_operands : (p : Source) → KeepsRules p → (n : ℕ) → IsSmall n p → HasOperands (lowered p) (n + 4)
 lowered_operands p l n small =
     let c : Flat = lowered p in
     let code : List Instr = functions_code p 0 1 p.funcs in

@@ -3,7 +3,7 @@ use Rattle.std.proofs.Common.{ℕ, suc, zero, ◌+◌, ◌≡◌, ◌&&◌, ◌|
 use Rattle.loom_tree.specs.Tree.{Expression, num, var, cell, neg, inverse, bin, Right, Simple, let_, set, set_cell, return, Body, end, simple, if_, while_, Function, Source}
 use Rattle.loom_tree.specs.Tree as tree
 use Rattle.loom_lang.specs.Numbers.{position, mutex_number, sema_number, function_number}
-use Rattle.loom_lang.specs.Rules.{is_in, is_word, is_array, is_sema, takes, knows, knows_all, knows_call, knows_right, knows_simple, knows_body, locals_of, IsLawful, AreLawfulFunctions}
+use Rattle.loom_lang.specs.Rules.{is_in, is_word, is_array, is_sema, takes, knows, knows_all, knows_call, knows_right, knows_simple, knows_body, locals_of, KeepsRules, FunctionsKeepRules}
 use Rattle.loom_flow.specs.declared.code.Operand.{Operand}
 use Rattle.loom_flow.specs.declared.code.Operand.TheVariants as operand
 use Rattle.loom_flow.specs.declared.code.Target.{Target}
@@ -189,7 +189,7 @@ body_each p P xs at n (while_ l e a rest) h k t =
 
 -- Functions
 
-functions_each : (p : Source) (P : Step → Type 0) (at n : ℕ) (fs : List Function) → HoldsOf p P → AreLawfulFunctions p fs → AllSteps P (functions_code p at n fs)
+functions_each : (p : Source) (P : Step → Type 0) (at n : ℕ) (fs : List Function) → HoldsOf p P → FunctionsKeepRules p fs → AllSteps P (functions_code p at n fs)
 functions_each p P at n [] h l = tt
 functions_each p P at n (f ∷ fs) h l =
     both_each P (body_code p (locals_of f) at (suc n) f.body) _ (body_each p P (locals_of f) at (suc n) f.body h l.0.known (function_takes p f l.0))
@@ -200,5 +200,5 @@ all_at P [] at x h e = cc
 all_at P (y ∷ ys) zero x h e = subst P (same_element y x e) h.0
 all_at P (y ∷ ys) (suc at) x h e = all_at P ys at x h.1 e
 
-pub each_step : (p : Source) (P : Step → Type 0) (at : ℕ) (i : Instr) → IsLawful p → HoldsOf p P → slice_get (lowered p).code at ≡ Some i → P i.step
+pub each_step : (p : Source) (P : Step → Type 0) (at : ℕ) (i : Instr) → KeepsRules p → HoldsOf p P → slice_get (lowered p).code at ≡ Some i → P i.step
 each_step p P at i l h e = all_at (λ (j : Instr). P j.step) (lowered p).code at i (functions_each p P 0 1 p.funcs h l.functions) e

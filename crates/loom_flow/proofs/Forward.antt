@@ -3,7 +3,7 @@ use Rattle.std.proofs.Common.{ℕ, suc, zero, ◌+◌, ◌≡◌, ◌≤◌, ◌
 use Rattle.std.specs.Cmp.Lexicographic.{pointwise}
 use Rattle.std.proofs.lemmas.Option.{slice_get_within}
 use Rattle.loom_tree.specs.Tree.{Expression, Right, Simple, let_, set, Body, end, simple, if_, while_, Function, Source}
-use Rattle.loom_lang.specs.Rules.{locals_of, IsLawful, IsLawfulFunction, AreLawfulFunctions}
+use Rattle.loom_lang.specs.Rules.{locals_of, KeepsRules, FunctionKeepsRules, FunctionsKeepRules}
 use Rattle.loom_lang.specs.Numbers.{position, function_number}
 use Rattle.loom_flow.specs.declared.code.Step.{Step}
 use Rattle.loom_flow.specs.declared.code.Step.TheVariants as s
@@ -213,12 +213,12 @@ starts_of p f h =
     subst (HasStart (lowered p)) (sym (ap or_zero h.1)) (e.0, e.1, omega (arith, (stands p h.0 e.0 e.1).2.inside))
 
 -- a function that a program that keeps the rules has keeps them
-pub lawful_at : (p : Source) (fs : List Function) (n : ℕ) (g : Function) → AreLawfulFunctions p fs → slice_get fs n ≡ Some g → IsLawfulFunction p g
+pub lawful_at : (p : Source) (fs : List Function) (n : ℕ) (g : Function) → FunctionsKeepRules p fs → slice_get fs n ≡ Some g → FunctionKeepsRules p g
 lawful_at p [] n g l h = cc
-lawful_at p (f ∷ fs) zero g l h = subst (IsLawfulFunction p) (same_element f g h) l.0
+lawful_at p (f ∷ fs) zero g l h = subst (FunctionKeepsRules p) (same_element f g h) l.0
 lawful_at p (f ∷ fs) (suc n) g l h = lawful_at p fs n g l.1 h
 
-function_leads : (p : Source) (n : ℕ) (g : Function) (e : Entrance) → IsLawful p → slice_get p.funcs n ≡ Some g → slice_get (entrances p 0 1 p.funcs) n ≡ Some e
+function_leads : (p : Source) (n : ℕ) (g : Function) (e : Entrance) → KeepsRules p → slice_get p.funcs n ≡ Some g → slice_get (entrances p 0 1 p.funcs) n ≡ Some e
     → Stands (lowered p) n g e (slice_get (entrances p 0 1 p.funcs) (suc n)) → Each (LeadsAt (IsInFunction (lowered p) n) (lowered p)) e.start (function_code p e.start e.place g)
 function_leads p n g e l there has h =
     let c : Flat = lowered p in
@@ -230,7 +230,7 @@ function_leads p n g e l there has h =
     (body_known p (locals_of g) g.body l (lawful_at p p.funcs n g l.functions there).known))
     (tt, tt)
 
-instruction_leads : (p : Source) → IsLawful p → (n at : ℕ) (i : Instr) → IsInFunction (lowered p) n at → slice_get (lowered p).code at ≡ Some i → LeadsAt (IsInFunction (lowered p) n) (lowered p) at i
+instruction_leads : (p : Source) → KeepsRules p → (n at : ℕ) (i : Instr) → IsInFunction (lowered p) n at → slice_get (lowered p).code at ≡ Some i → LeadsAt (IsInFunction (lowered p) n) (lowered p) at i
 instruction_leads p l n at i h g =
     let e : Entrance = h.entrance in
     let there : (f : Function) × (slice_get p.funcs n ≡ Some f) × Stands (lowered p) n f e (slice_get (entrances p 0 1 p.funcs) (suc n)) = stands p n e h.there in
@@ -242,7 +242,7 @@ instruction_leads p l n at i h g =
 in_code : (p : Source) (n at : ℕ) → IsInFunction (lowered p) n at → at < length (lowered p).code
 in_code p n at h = let there : (f : Function) × (slice_get p.funcs n ≡ Some f) × Stands (lowered p) n f h.entrance (slice_get (entrances p 0 1 p.funcs) (suc n)) = stands p n h.entrance h.there in omega (arith, h.before, there.2.behind, there.2.inside)
 
-pub lowered_keeps : (p : Source) → IsLawful p → KeepsFunctions (lowered p)
+pub lowered_keeps : (p : Source) → KeepsRules p → KeepsFunctions (lowered p)
 lowered_keeps p l = record {
   inside = in_code p;
   starts = λ n e h. record { entrance = e; there = h; from = le_refl e.start; before = omega (arith, (stands p n e h).2.behind) };
@@ -260,7 +260,7 @@ leads_into Q R c at i f (s.Return a) h = tt
 leads_into Q R c at i f s.Out h = tt
 leads_into Q R c at i f _ h = f (suc at) h
 
-pub lowered_forward : (p : Source) → IsLawful p → JumpsForward (lowered p)
+pub lowered_forward : (p : Source) → KeepsRules p → JumpsForward (lowered p)
 lowered_forward p l at i h =
     let c : Flat = lowered p in
     let n : (n : ℕ) × IsInFunction c n at = covered p at (slice_get_within c.code at i h) in

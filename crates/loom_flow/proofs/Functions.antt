@@ -1,7 +1,7 @@
 -- The flat code of functions, one after another.
 use Rattle.std.proofs.Common.{ℕ, suc, ◌+◌, ◌≤◌, ◌≡◌, List, [], ◌∷◌, ◌++◌, length, map, refl, ap, sym, ◌∙◌, arith, append_assoc, length-append}
 use Rattle.loom_tree.specs.Tree.{Body, Function, Source}
-use Rattle.loom_lang.specs.Rules.{IsLawful, locals_of}
+use Rattle.loom_lang.specs.Rules.{KeepsRules, locals_of}
 use Rattle.loom_flow.specs.declared.code.Instr.{Instr}
 use Rattle.loom_flow.specs.declared.code.Site.{Site}
 use Rattle.loom_flow.specs.declared.code.Entrance.{Entrance}
@@ -104,7 +104,7 @@ calls_on p f all fs ns ns' e h =
     ∙ ap (λ (z : List Function). ns ++ map (λ (g : Function). set_of 0 (calls_body p g.body)) z) (sym e)
 
 -- there is room for the places of the next function
-pub room_for : (p : Source) (f : Function) (all fs : List Function) (at : ℕ) (sites : List Site) → IsLawful p → all ≡ f ∷ fs → sites ++ functions_sites p at all ≡ (lowered p).sites → length sites + (2 + place_count f.body) ≤ 65536
+pub room_for : (p : Source) (f : Function) (all fs : List Function) (at : ℕ) (sites : List Site) → KeepsRules p → all ≡ f ∷ fs → sites ++ functions_sites p at all ≡ (lowered p).sites → length sites + (2 + place_count f.body) ≤ 65536
 room_for p f all fs at sites l e h =
     let few : length (lowered p).sites ≤ 8321 = few_sites (lowered p) (record { lawful = l; is = refl }) in
     let whole : length (sites ++ functions_sites p at (f ∷ fs)) ≡ length (lowered p).sites = ap (λ (z : List Function). length (sites ++ functions_sites p at z)) (sym e) ∙ ap length h in

@@ -7,7 +7,7 @@ use Rattle.loom_tree.specs.declared.item.Word.{Word}
 use Rattle.loom_tree.specs.declared.item.Sema.{Sema}
 use Rattle.loom_tree.specs.Tree.{Function, Source}
 use Rattle.loom_lang.specs.Numbers.{position, Cells, cells_from, cells_named, sema_number}
-use Rattle.loom_lang.specs.Rules.{cells_of, cell_count, is_in, is_distinct, is_word, is_sema, takes, shared_names, IsLawful}
+use Rattle.loom_lang.specs.Rules.{cells_of, cell_count, is_in, is_distinct, is_word, is_sema, takes, shared_names, KeepsRules}
 use Rattle.loom_flow.specs.declared.code.Step.{Step}
 use Rattle.loom_flow.specs.declared.code.Step.TheVariants as s
 use Rattle.loom_flow.specs.declared.code.Instr.{Instr}
@@ -60,7 +60,7 @@ word_within n (w ∷ ws) x d h = by (pointwise ◌==◌ w.name x) refl h (word_w
         (or_else (is_none w.cells) (is_word ws x) g)
     by false e g again = let f : first_cell (cells_from (n + cells_of w) ws x) < n + cells_of w + cell_count ws = again g in omega (arith, f)
 
-word_there : (p : Source) (x : List ℕ) → IsLawful p → is_word p.words x ≡ true → first_cell (cells_named p x) < cell_count p.words
+word_there : (p : Source) (x : List ℕ) → KeepsRules p → is_word p.words x ≡ true → first_cell (cells_named p x) < cell_count p.words
 word_there p x l h =
     let names : List (List ℕ) = map (λ (w : Word). w.name) p.words in
     let within : first_cell (cells_from 0 p.words x) < 0 + cell_count p.words = word_within 0 p.words x (distinct_front names _ (distinct_front (shared_names p) _ l.once)) h in
@@ -122,7 +122,7 @@ taken_named (f ∷ fs) x n d h = by (pointwise ◌==◌ f.name x) refl h (taken_
         (or_else (length f.params == n) (takes fs x n) g)
     by false e g again = let t : Taken fs (position x names) n = again g in (suc t.0, t.1, ap (option_map suc) t.2, t.3, t.4)
 
-params_there : (p : Source) (f : List ℕ) (n : ℕ) → IsLawful p → takes p.funcs f n ≡ true → HasParams p (or_zero (position f (map (λ (g : Function). g.name) p.funcs))) n
+params_there : (p : Source) (f : List ℕ) (n : ℕ) → KeepsRules p → takes p.funcs f n ≡ true → HasParams p (or_zero (position f (map (λ (g : Function). g.name) p.funcs))) n
 params_there p f n l h =
     let t : Taken p.funcs (position f (map (λ (g : Function). g.name) p.funcs)) n = taken_named p.funcs f n (distinct_behind (shared_names p) _ l.once) h in
     (t.1, subst (λ (o : Option ℕ). slice_get p.funcs (or_zero o) ≡ Some t.1) (sym t.2) t.3, t.4)
@@ -142,7 +142,7 @@ other_numbers p (s.Spawn f n d) h = cc
 other_numbers p (s.Call f n) h = cc
 other_numbers p _ h = tt
 
-numbers_hold : (p : Source) → IsLawful p → HoldsOf p (HasNumbers p)
+numbers_hold : (p : Source) → KeepsRules p → HoldsOf p (HasNumbers p)
 numbers_hold p l = record {
   other = other_numbers p;
   read = λ x d h. word_there p x l h;
@@ -157,5 +157,5 @@ numbers_hold p l = record {
   call = λ f n h. params_there p f n l h;
 }
 
-pub lowered_numbers : (p : Source) → IsLawful p → (at : ℕ) (i : Instr) → slice_get (lowered p).code at ≡ Some i → HasNumbers p i.step
+pub lowered_numbers : (p : Source) → KeepsRules p → (at : ℕ) (i : Instr) → slice_get (lowered p).code at ≡ Some i → HasNumbers p i.step
 lowered_numbers p l at i h = each_step p (HasNumbers p) at i l (numbers_hold p l) h

@@ -1,7 +1,7 @@
 -- Where the functions stand in flat code.
 use Rattle.std.proofs.Common.{ℕ, suc, zero, ◌+◌, ◌≡◌, List, [], ◌∷◌, refl, sym, ap, subst, ◌∙◌, slice_get, length, arith}
 use Rattle.loom_tree.specs.Tree.{Function, Source}
-use Rattle.loom_lang.specs.Rules.{locals_of, IsLawful, AreLawfulFunctions}
+use Rattle.loom_lang.specs.Rules.{locals_of, KeepsRules, FunctionsKeepRules}
 use Rattle.loom_flow.specs.declared.code.Step.TheVariants as s
 use Rattle.loom_flow.specs.declared.code.Instr.{Instr}
 use Rattle.loom_flow.specs.declared.code.Site.{Site}
@@ -13,7 +13,7 @@ use Rattle.loom_flow.proofs.Roles.{body_known}
 use Rattle.loom_flow.proofs.Frames.{IsFunctionPlaced, ArePlaced}
 
 -- the functions from one on, whose first instruction and first place have these numbers
-placed_from : (c : Flat) (fs : List Function) (at place : ℕ) → IsLawful c.program → AreLawfulFunctions c.program fs
+placed_from : (c : Flat) (fs : List Function) (at place : ℕ) → KeepsRules c.program → FunctionsKeepRules c.program fs
     → Lies c.code at (functions_code c.program at place fs) → Lies c.sites place (functions_sites c.program at fs)
     → (f : ℕ) → IsFunctionPlaced c (slice_get fs f) (slice_get (entrances c.program at place fs) f)
 placed_from c [] at place l ls code sites f = refl
@@ -50,5 +50,5 @@ placed_from c (g ∷ gs) at place l ls code sites (suc f) =
     (subst (λ n. Lies c.code n more) (omega arith) code_last.1)
     (subst (λ n. Lies c.sites n others) (omega arith) sites_last.1) f
 
-pub are_placed : (p : Source) → IsLawful p → ArePlaced (lowered p)
+pub are_placed : (p : Source) → KeepsRules p → ArePlaced (lowered p)
 are_placed p l = placed_from (lowered p) p.funcs 0 1 l l.functions (lies_whole (functions_code p 0 1 p.funcs)) (lies_behind (site 0 0) (functions_sites p 0 p.funcs) 0 (functions_sites p 0 p.funcs) (lies_whole (functions_sites p 0 p.funcs)))

@@ -3,7 +3,7 @@ use Rattle.std.proofs.Common.{ℕ, suc, ◌+◌, ◌*◌, ◌≤◌, ◌≡◌, 
 use Rattle.std.specs.Prelude.{slice_get, flat_map}
 use Rattle.std.proofs.lemmas.List.{map-append}
 use Rattle.loom_tree.specs.Tree.{Body, end, simple, if_, while_, Function, Source}
-use Rattle.loom_lang.specs.Rules.{IsLawful, lines, locals_of}
+use Rattle.loom_lang.specs.Rules.{KeepsRules, lines, locals_of}
 use Rattle.loom_lang.specs.Places.{Place, body_places, places, places_from, line_of_place, line_of_function}
 use Rattle.loom_flow.specs.declared.code.Site.{Site}
 use Rattle.loom_flow.specs.Laws.{HasPlaces}
@@ -72,5 +72,5 @@ count_functions n (f ∷ fs) =
     let k = count_functions (suc n) fs in
     omega (arith, length-append (body_places f.body) (Place.out n ∷ places_from (suc n) fs), length-append (lines f.body) (flat_map (λ (f : Function). lines f.body) fs))
 
-pub few_places : (p : Source) → IsLawful p → length (places p) ≤ 8321
+pub few_places : (p : Source) → KeepsRules p → length (places p) ≤ 8321
 few_places p h = let k = count_functions 0 p.funcs in let fs = h.function_count in let ls = h.statements in omega arith

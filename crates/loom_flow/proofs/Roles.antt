@@ -5,7 +5,7 @@ use Rattle.loom_tree.specs.declared.item.Word.{Word}
 use Rattle.loom_tree.specs.declared.item.Sema.{Sema}
 use Rattle.loom_tree.specs.Tree.{Expression, num, var, cell, neg, inverse, bin, Right, Simple, let_, set, set_cell, return, Body, end, simple, if_, while_, Function, Source}
 use Rattle.loom_tree.specs.Tree as tree
-use Rattle.loom_lang.specs.Rules.{cells_of, is_in, is_distinct, is_word, is_array, is_sema, is_function, knows, knows_all, knows_call, knows_right, knows_simple, knows_body, shared_names, IsLawful}
+use Rattle.loom_lang.specs.Rules.{cells_of, is_in, is_distinct, is_word, is_array, is_sema, is_function, knows, knows_all, knows_call, knows_right, knows_simple, knows_body, shared_names, KeepsRules}
 use Rattle.loom_lang.specs.Numbers.{position, Cells, cells_from}
 use Rattle.loom_flow.proofs.Expressions.{IsNumbered, IsArray, IsKnown}
 use Rattle.loom_flow.proofs.Arguments.{AllKnown}
@@ -87,7 +87,7 @@ distinct_front (x ∷ xs) ys h =
     by true f e = absurd (f refl)
     by false f e = e
 
-pub array_known : (p : Source) (x : List ℕ) → IsLawful p → is_array p.words x ≡ true → IsArray p x
+pub array_known : (p : Source) (x : List ℕ) → KeepsRules p → is_array p.words x ≡ true → IsArray p x
 array_known p x l h = array_cells 0 p.words x (distinct_front (map (λ (w : Word). w.name) p.words) _ (distinct_front (shared_names p) _ l.once)) h
 
 -- Functions, mutexes and semaphores
@@ -120,7 +120,7 @@ variable_known p xs x h = by (position x xs) refl
 local_known : (p : Source) (xs : List (List ℕ)) (x : List ℕ) → is_in x xs ≡ true → IsNumbered p x (position x xs)
 local_known p xs x h = variable_known p xs x (ap (λ b. b || is_word p.words x) h)
 
-pub knows_expression : (p : Source) (xs : List (List ℕ)) (e : Expression) → IsLawful p → knows p xs e ≡ true → IsKnown p xs e
+pub knows_expression : (p : Source) (xs : List (List ℕ)) (e : Expression) → KeepsRules p → knows p xs e ≡ true → IsKnown p xs e
 knows_expression p xs (num n) l h = tt
 knows_expression p xs (var x) l h = variable_known p xs x h
 knows_expression p xs (cell x i) l h = let g : (is_array p.words x ≡ true) × (knows p xs i ≡ true) = both _ _ h in (array_known p x l g.0, knows_expression p xs i l g.1)
@@ -128,21 +128,21 @@ knows_expression p xs (neg a) l h = knows_expression p xs a l h
 knows_expression p xs (inverse a) l h = knows_expression p xs a l h
 knows_expression p xs (bin o a b) l h = let g : (knows p xs a ≡ true) × (knows p xs b ≡ true) = both _ _ h in (knows_expression p xs a l g.0, knows_expression p xs b l g.1)
 
-knows_arguments : (p : Source) (xs : List (List ℕ)) (es : List Expression) → IsLawful p → knows_all p xs es ≡ true → AllKnown p xs es
+knows_arguments : (p : Source) (xs : List (List ℕ)) (es : List Expression) → KeepsRules p → knows_all p xs es ≡ true → AllKnown p xs es
 knows_arguments p xs [] l h = tt
 knows_arguments p xs (e ∷ es) l h = let g : (knows p xs e ≡ true) × (knows_all p xs es ≡ true) = both _ _ h in (knows_expression p xs e l g.0, knows_arguments p xs es l g.1)
 
-call_known : (p : Source) (xs : List (List ℕ)) (f : List ℕ) (es : List Expression) → IsLawful p → knows_call p xs f es ≡ true → IsFunction p f × AllKnown p xs es
+call_known : (p : Source) (xs : List (List ℕ)) (f : List ℕ) (es : List Expression) → KeepsRules p → knows_call p xs f es ≡ true → IsFunction p f × AllKnown p xs es
 call_known p xs f es l h =
     let g : (is_function p.funcs f ≡ true) × (knows_all p xs es ≡ true) = both _ _ h in
     (has_position f (map (λ (k : Function). k.name) p.funcs) (function_in p.funcs f g.0), knows_arguments p xs es l g.1)
 
-right_known : (p : Source) (xs : List (List ℕ)) (x : List ℕ) (r : Right Expression) → IsLawful p → knows_right p xs x r ≡ true → IsNumbered p x (position x xs) × IsKnownRight p xs r
+right_known : (p : Source) (xs : List (List ℕ)) (x : List ℕ) (r : Right Expression) → KeepsRules p → knows_right p xs x r ≡ true → IsNumbered p x (position x xs) × IsKnownRight p xs r
 right_known p xs x (Right.value e) l h = let g : ((is_in x xs || is_word p.words x) ≡ true) × (knows p xs e ≡ true) = both _ _ h in (variable_known p xs x g.0, knows_expression p xs e l g.1)
 right_known p xs x (Right.call f es) l h = let g : (is_in x xs ≡ true) × (knows_call p xs f es ≡ true) = both _ _ h in (local_known p xs x g.0, call_known p xs f es l g.1)
 right_known p xs x (Right.spawn f es) l h = let g : (is_in x xs ≡ true) × (knows_call p xs f es ≡ true) = both _ _ h in (local_known p xs x g.0, call_known p xs f es l g.1)
 
-simple_known : (p : Source) (xs : List (List ℕ)) (x : Simple Expression) → IsLawful p → knows_simple p xs x ≡ true → IsKnownSimple p xs x
+simple_known : (p : Source) (xs : List (List ℕ)) (x : Simple Expression) → KeepsRules p → knows_simple p xs x ≡ true → IsKnownSimple p xs x
 simple_known p xs (let_ x r) l h = right_known p xs x r l h
 simple_known p xs (set x r) l h = right_known p xs x r l h
 simple_known p xs (set_cell x i e) l h =
@@ -160,7 +160,7 @@ simple_known p xs (tree.join e) l h = knows_expression p xs e l h
 simple_known p xs (tree.print e) l h = knows_expression p xs e l h
 simple_known p xs tree.skip l h = tt
 
-pub body_known : (p : Source) (xs : List (List ℕ)) (a : Body) → IsLawful p → knows_body p xs a ≡ true → IsKnownBody p xs a
+pub body_known : (p : Source) (xs : List (List ℕ)) (a : Body) → KeepsRules p → knows_body p xs a ≡ true → IsKnownBody p xs a
 body_known p xs end l h = tt
 body_known p xs (simple k x rest) l h = let g : (knows_simple p xs x ≡ true) × (knows_body p xs rest ≡ true) = both _ _ h in (simple_known p xs x l g.0, body_known p xs rest l g.1)
 body_known p xs (if_ k e a b rest) l h =

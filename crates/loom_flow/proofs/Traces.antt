@@ -1,7 +1,7 @@
 -- Flat code has the traces of the tree.
 use Rattle.std.proofs.Common.{ℕ, ◌≡◌, List, [], ℤ, true, false, Option, Some, None, refl, sym, ap, subst, ◌∙◌, slice_get, arith}
 use Rattle.loom_tree.specs.Tree.{Function, Source}
-use Rattle.loom_lang.specs.Rules.{IsLawful}
+use Rattle.loom_lang.specs.Rules.{KeepsRules}
 use Rattle.loom_lang.specs.Trace as trace
 use Rattle.loom_lang.specs.Trace.{Item, Outcome, Lists, Thread, made, enter, broken, emit, any, calls_to, frame_limit, ended, IsTrace}
 use Rattle.loom_flow.specs.declared.code.Entrance.{Entrance}
@@ -44,7 +44,7 @@ to_code c placed f vs n (Some g) found q h e =
     let some : any (λ (k : ℕ). emit (made g.line trace.begin) (emit (enter f) (runs c t k z))) es r = ever_behind (made g.line trace.begin) (enter f) (λ k. runs c t k z) es r (tree es r i) in
     (some.0, subst (λ (m : Lists). emit (made g.line trace.begin) m es r) (sym (ap {B = Lists} (started c t f vs some.0) (e ∙ h.1))) some.1)
 
-pub lowered_traces : (p : Source) → IsLawful p → HasTraces (lowered p) p
+pub lowered_traces : (p : Source) → KeepsRules p → HasTraces (lowered p) p
 lowered_traces p l f vs items r =
     let c : Flat = lowered p in
     let placed : ArePlaced c = are_placed p l in (

@@ -3,7 +3,7 @@ use Rattle.std.specs.Prelude.{ℕ, List, ◌≡◌, refl}
 use Rattle.std.specs.Coded.{Coded, code_by, coded×, coded_ℕ, coded_list}
 use Rattle.loom_tree.specs.Tree.{Source}
 use Rattle.loom_tree.specs.Code.{source_code}
-use Rattle.loom_lang.specs.Rules.{IsLawful}
+use Rattle.loom_lang.specs.Rules.{KeepsRules}
 use Rattle.loom_flow.specs.declared.code.Instr.{Instr}
 use Rattle.loom_flow.specs.declared.code.Site.{Site}
 use Rattle.loom_flow.specs.declared.code.Entrance.{Entrance}
@@ -15,7 +15,7 @@ use Rattle.loom_flow.specs.Lowered.{lowered}
 
 -- It is the flat code of its program, which keeps the rules.
 pub record IsLowered (c : Flat) : Type 0 where
-  pub lawful : IsLawful c.program
+  pub lawful : KeepsRules c.program
   pub is : c ≡ lowered c.program
 
 abbrev pub flat_code : Coded Flat

@@ -1,7 +1,7 @@
 -- What flat code keeps of a program, and what its instructions keep to.
 use Rattle.std.specs.Prelude.{slice_get, Contains, IsBitSet, ℕ, suc, ◌+◌, ◌-◌, ◌≡◌, ◌≤◌, ◌<◌, ◌↔◌, ℤ, List, Option, Some, None, map, length}
 use Rattle.loom_tree.specs.Tree.{Function, Source}
-use Rattle.loom_lang.specs.Rules.{IsLawful, cell_count}
+use Rattle.loom_lang.specs.Rules.{KeepsRules, cell_count}
 use Rattle.loom_lang.specs.Places.{Place, entry, inside, back_edge, out, places, place_at, line_of_place}
 use Rattle.loom_lang.specs.Trace.{Item, Outcome, IsTrace}
 use Rattle.loom_flow.specs.declared.code.Step.{Step}
@@ -104,14 +104,14 @@ pub record HasOperands (c : Flat) (most : ℕ) : Type 0 where
 -- What an interpreter rests on, of the flat code of every program
 
 abbrev pub AllJumpForward : Type 0
-AllJumpForward = (p : Source) → IsLawful p → JumpsForward (lowered p)
+AllJumpForward = (p : Source) → KeepsRules p → JumpsForward (lowered p)
 
 abbrev pub AllKeepFunctions : Type 0
-AllKeepFunctions = (p : Source) → IsLawful p → KeepsFunctions (lowered p)
+AllKeepFunctions = (p : Source) → KeepsRules p → KeepsFunctions (lowered p)
 
 -- where no expression has more nodes than these
 abbrev pub AllHaveOperands : Type 0
-AllHaveOperands = (p : Source) → IsLawful p → (n : ℕ) → IsSmall n p → HasOperands (lowered p) (n + 4)
+AllHaveOperands = (p : Source) → KeepsRules p → (n : ℕ) → IsSmall n p → HasOperands (lowered p) (n + 4)
 
 -- Numbers
 
@@ -134,4 +134,4 @@ HasNumbers p (s.Call f n) = HasParams p f n
 HasNumbers p _ = Unit {0}
 
 abbrev pub AllHaveNumbers : Type 0
-AllHaveNumbers = (p : Source) → IsLawful p → (at : ℕ) (i : Instr) → slice_get (lowered p).code at ≡ Some i → HasNumbers p i.step
+AllHaveNumbers = (p : Source) → KeepsRules p → (at : ℕ) (i : Instr) → slice_get (lowered p).code at ≡ Some i → HasNumbers p i.step

@@ -1,7 +1,7 @@
 //! From a program to its flat code.
 ghost use Rattle.std.specs.Prelude.{◌≡◌, ◌<◌, ◌≤◌, ◌+◌, ◌∷◌, ◌++◌, [], true, OnOk, IfOk, length};
 ghost use Rattle.loom_tree.specs.Tree.{body_of, function_of, functions_of};
-ghost use Rattle.loom_lang.specs.Rules.{IsLawful, IsLawfulFunction, locals_of};
+ghost use Rattle.loom_lang.specs.Rules.{KeepsRules, FunctionKeepsRules, locals_of};
 ghost use Rattle.loom_flow.specs.Laws.{HasTraces, HasPlaces, HasInstructionPlaces, HasCalls};
 ghost use Rattle.loom_flow.specs.Lowered.{place_count, functions_code, functions_sites, entrances, calls_body, set_of, lowered};
 
@@ -40,7 +40,7 @@ fn put_function(
     f: &Func,
 ) -> Result<(), NoMemory>
     requires locals { scope.now.locals ≡ locals_of (function_of f.now) }
-    requires lawful { IsLawfulFunction scope.now.program (function_of f.now) }
+    requires lawful { FunctionKeepsRules scope.now.program (function_of f.now) }
     requires room { length sites.old.items + (2 + place_count (body_of f.now.body)) ≤ 65536 }
     ensures code { OnOk result (code.new.items ≡ code.old.items ++ functions_code scope.now.program (length code.old.items) (length sites.old.items) (function_of f.now ∷ [])) }
     ensures sites { OnOk result (sites.new.items ≡ sites.old.items ++ functions_sites scope.now.program (length code.old.items) (function_of f.now ∷ [])) }
@@ -64,7 +64,7 @@ struct Made {
 
 /// The next function.
 fn put(alloc: Global, made: &mut Made, scope: &mut Scope, f: &Func) -> Result<(), NoMemory>
-    requires lawful { IsLawfulFunction scope.old.program (function_of f.now) }
+    requires lawful { FunctionKeepsRules scope.old.program (function_of f.now) }
     requires room { length made.old.sites.items + (2 + place_count (body_of f.now.body)) ≤ 65536 }
     ensures program { OnOk result (scope.new.program ≡ scope.old.program) }
     ensures code { OnOk result (made.new.code.items ≡ made.old.code.items ++ functions_code scope.old.program (length made.old.code.items) (length made.old.sites.items) (function_of f.now ∷ [])) }
@@ -82,7 +82,7 @@ fn put(alloc: Global, made: &mut Made, scope: &mut Scope, f: &Func) -> Result<()
 
 fn put_all(alloc: Global, scope: &mut Scope, funcs: &[Func]) -> Result<Made, NoMemory>
     requires funcs { functions_of funcs.now ≡ scope.old.program.funcs }
-    requires lawful { IsLawful scope.old.program }
+    requires lawful { KeepsRules scope.old.program }
     ensures program { OnOk result (scope.new.program ≡ scope.old.program) }
     ensures code { IfOk result (λ m. m.code.items ≡ (lowered scope.old.program).code) }
     ensures sites { IfOk result (λ m. m.sites.items ≡ (lowered scope.old.program).sites) }

@@ -8,7 +8,7 @@ use Rattle.loom_lang.specs.declared.local.Local.{Local}
 use Rattle.loom_lang.specs.declared.refusal.Which.TheVariants as which
 use Rattle.loom_lang.specs.declared.refusal.Reason.{Reason}
 use Rattle.loom_lang.specs.declared.refusal.Reason.TheVariants as reason
-use Rattle.loom_lang.specs.Rules.{is_function, takes, is_distinct, is_apart, locals_of, lines_of, cell_count, file_names, IsLawful, IsLawfulFunction, AreLawfulFunctions}
+use Rattle.loom_lang.specs.Rules.{is_function, takes, is_distinct, is_apart, locals_of, lines_of, cell_count, file_names, KeepsRules, FunctionKeepsRules, FunctionsKeepRules}
 use Rattle.loom_lang.specs.Gathered.{source_of_items}
 use Rattle.loom_lang.specs.Refusal.{line_if, unknown_lines, miscounted_lines, main_lines, locals_at, over, shared_lines, lines_of_reason, IsFaultless}
 use Rattle.loom_lang.proofs.Empty.{is_empty, empty_append, none_among, among_none}
@@ -48,7 +48,7 @@ params_kept f h = ltb-false 4 (length f.params) (go (nat_lt 4 (length f.params))
 kept_params : (f : Function) → length f.params ≤ 4 → is_empty (params_in f) ≡ true
 kept_params f h = ap (λ b. is_empty (line_if b f.line)) (le-ltb 4 (length f.params) h)
 
-functions_kept : (p : Source) (fs : List Function) → is_empty (flat_map (unknown_in p) fs) ≡ true → is_empty (flat_map (miscounted_in p) fs) ≡ true → is_empty (flat_map params_in fs) ≡ true → is_empty (flat_map over_in fs) ≡ true → have_own (file_names p) fs ≡ true → AreLawfulFunctions p fs
+functions_kept : (p : Source) (fs : List Function) → is_empty (flat_map (unknown_in p) fs) ≡ true → is_empty (flat_map (miscounted_in p) fs) ≡ true → is_empty (flat_map params_in fs) ≡ true → is_empty (flat_map over_in fs) ≡ true → have_own (file_names p) fs ≡ true → FunctionsKeepRules p fs
 functions_kept p [] u m a l o = tt
 functions_kept p (f ∷ fs) u m a l o =
     let u' : (is_empty (unknown_in p f) ≡ true) × (is_empty (flat_map (unknown_in p) fs) ≡ true) = both _ _ (sym (empty_functions (unknown_in p) f fs) ∙ u) in
@@ -57,7 +57,7 @@ functions_kept p (f ∷ fs) u m a l o =
     let l' : (is_empty (over_in f) ≡ true) × (is_empty (flat_map over_in fs) ≡ true) = both _ _ (sym (empty_functions over_in f fs) ∙ l) in
     let o' : ((is_distinct (locals_of f) && is_apart (locals_of f) (file_names p)) ≡ true) × (have_own (file_names p) fs ≡ true) = both _ _ o in
     let own : (is_distinct (locals_of f) ≡ true) × (is_apart (locals_of f) (file_names p) ≡ true) = both _ _ o'.0 in
-    let lawful : IsLawfulFunction p f = record {
+    let lawful : FunctionKeepsRules p f = record {
       once = own.0;
       apart = own.1;
       known = sym (unknown_empty p (locals_of f) f.body) ∙ u'.0;
@@ -69,11 +69,11 @@ functions_kept p (f ∷ fs) u m a l o =
 
 -- and the other way
 
-kept_each : (g : Function → List ℕ) (p : Source) → ((f : Function) → IsLawfulFunction p f → is_empty (g f) ≡ true) → (fs : List Function) → AreLawfulFunctions p fs → is_empty (flat_map g fs) ≡ true
+kept_each : (g : Function → List ℕ) (p : Source) → ((f : Function) → FunctionKeepsRules p f → is_empty (g f) ≡ true) → (fs : List Function) → FunctionsKeepRules p fs → is_empty (flat_map g fs) ≡ true
 kept_each g p h [] k = refl
 kept_each g p h (f ∷ fs) k = empty_functions g f fs ∙ and_of _ _ (h f k.0) (kept_each g p h fs k.1)
 
-kept_own : (p : Source) (fs : List Function) → AreLawfulFunctions p fs → have_own (file_names p) fs ≡ true
+kept_own : (p : Source) (fs : List Function) → FunctionsKeepRules p fs → have_own (file_names p) fs ≡ true
 kept_own p [] k = refl
 kept_own p (f ∷ fs) k = and_of _ _ (and_of _ _ k.0.once k.0.apart) (kept_own p fs k.1)
 
@@ -90,7 +90,7 @@ no_main_kept true l h = refl
 no_main_kept false l h = cc
 
 -- Items without a fault keep the rules.
-pub faultless_lawful : (items : List Item) (last : ℕ) → IsFaultless items last → IsLawful (source_of_items items)
+pub faultless_lawful : (items : List Item) (last : ℕ) → IsFaultless items last → KeepsRules (source_of_items items)
 faultless_lawful items last h =
     let p : Source = source_of_items items in
     let none : (why : Reason) → is_empty (lines_of_reason items last why) ≡ true = λ why. none_among (lines_of_reason items last why) (λ l a. h l why a) in
@@ -111,7 +111,7 @@ faultless_lawful items last h =
       statements = over_kept 4096 _ (none (reason.TooMany which.Statements));
     }
 
-kept : (items : List Item) (last : ℕ) → IsLawful (source_of_items items) → (why : Reason) → is_empty (lines_of_reason items last why) ≡ true
+kept : (items : List Item) (last : ℕ) → KeepsRules (source_of_items items) → (why : Reason) → is_empty (lines_of_reason items last why) ≡ true
 kept items last h reason.Syntax = refl
 kept items last h reason.SecondOnLine = second_empty 0 (lines_of (source_of_items items)) ∙ h.lines
 kept items last h reason.UnknownName = kept_each (unknown_in (source_of_items items)) (source_of_items items) (λ f k. unknown_empty (source_of_items items) (locals_of f) f.body ∙ k.known) (source_of_items items).funcs h.functions
@@ -129,5 +129,5 @@ kept items last h (reason.TooMany which.Cells) = let cells : cell_count (source_
 kept items last h (reason.TooMany which.Statements) = kept_over 4096 _ h.statements
 
 -- Items that keep the rules have no fault.
-pub lawful_faultless : (items : List Item) (last : ℕ) → IsLawful (source_of_items items) → IsFaultless items last
+pub lawful_faultless : (items : List Item) (last : ℕ) → KeepsRules (source_of_items items) → IsFaultless items last
 lawful_faultless items last h line why a = among_none (lines_of_reason items last why) line (kept items last h why) a

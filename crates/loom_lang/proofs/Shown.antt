@@ -4,7 +4,7 @@ use Rattle.std.proofs.lemmas.Bool.{ltb-false}
 use Rattle.loom_tree.specs.declared.expression.Op.TheVariants as o
 use Rattle.loom_tree.specs.Tree.{num, var, bin, Right, Simple, let_, set, print, end, simple, while_, Function, Source}
 use Rattle.loom_tree.specs.Decimal.{decimal}
-use Rattle.loom_lang.specs.Rules.{is_distinct, is_apart, takes, knows_body, counts_body, locals_of, lines_of, is_ascending, shared_names, file_names, cell_count, IsLawful, IsLawfulFunction, AreLawfulFunctions}
+use Rattle.loom_lang.specs.Rules.{is_distinct, is_apart, takes, knows_body, counts_body, locals_of, lines_of, is_ascending, shared_names, file_names, cell_count, KeepsRules, FunctionKeepsRules, FunctionsKeepRules}
 use Rattle.loom_lang.specs.Places.{nowhere, entry, inside, back_edge, out, places, line_of_place}
 use Rattle.loom_lang.specs.Canonical.{canonical_text}
 
@@ -37,7 +37,7 @@ tests p =
     && (not (nat_lt 64 (length p.funcs))
     && (not (nat_lt 64 (length (shared_names p))) && (not (nat_lt 1024 (cell_count p.words)) && not (nat_lt 4096 (length (lines_of p)))))))))
 
-function_tested : (p : Source) (f : Function) → tests_function p f ≡ true → IsLawfulFunction p f
+function_tested : (p : Source) (f : Function) → tests_function p f ≡ true → FunctionKeepsRules p f
 function_tested p f h =
     let a : (is_distinct (locals_of f) ≡ true) × _ = both _ _ h in
     let b : (is_apart (locals_of f) (file_names p) ≡ true) × _ = both _ _ a.1 in
@@ -46,11 +46,11 @@ function_tested p f h =
     let e : (not (nat_lt 4 (length f.params)) ≡ true) × _ = both _ _ d.1 in
     record { once = a.0; apart = b.0; known = c.0; counted = d.0; params = at_most 4 _ e.0; locals = at_most 32 _ e.1 }
 
-functions_tested : (p : Source) (fs : List Function) → tests_functions p fs ≡ true → AreLawfulFunctions p fs
+functions_tested : (p : Source) (fs : List Function) → tests_functions p fs ≡ true → FunctionsKeepRules p fs
 functions_tested p [] h = tt
 functions_tested p (f ∷ fs) h = let g : (tests_function p f ≡ true) × (tests_functions p fs ≡ true) = both _ _ h in (function_tested p f g.0, functions_tested p fs g.1)
 
-pub tested : (p : Source) → tests p ≡ true → IsLawful p
+pub tested : (p : Source) → tests p ≡ true → KeepsRules p
 tested p h =
     let a : (is_distinct (file_names p) ≡ true) × _ = both _ _ h in
     let b : (tests_functions p p.funcs ≡ true) × _ = both _ _ a.1 in
@@ -106,7 +106,7 @@ calls = record {
   } ∷ [];
 }
 
-pub calls_lawful : IsLawful calls
+pub calls_lawful : KeepsRules calls
 calls_lawful = tested calls refl
 
 pub calls_places : places calls

@@ -10,7 +10,7 @@ use Rattle.loom_lexer.specs.Tokens.{last_line}
 use Rattle.loom_lang.specs.declared.refusal.Reason.{Reason}
 use Rattle.loom_lang.specs.declared.refusal.Reason.TheVariants as reason
 use Rattle.loom_lang.specs.Gathered.{source_of_items}
-use Rattle.loom_lang.specs.Rules.{IsLawful}
+use Rattle.loom_lang.specs.Rules.{KeepsRules}
 use Rattle.loom_lang.specs.Program.{IsText, IsProgram}
 use Rattle.loom_lang.specs.Refusal.{IsFaulty, IsRefusedProgram}
 use Rattle.loom_lang.specs.Laws.{HasOneProgram}
@@ -44,7 +44,7 @@ no_program_of_tokens bytes ps n l r q h = no_file ps n h.items r (text_tokens by
 -- bytes that are in the grammar and break the rules are no program
 faulty_no_program : (bytes : List ℕ) (line : ℕ) (why : Reason) → IsFaulty bytes line why → (q : Source) → IsProgram bytes q → ⊥
 faulty_no_program bytes line why f q h =
-    lawful_faultless f.items (last_line bytes) (subst IsLawful (sym (program_of_text bytes f.items q f.text h)) h.lawful) line why f.fault.stands
+    lawful_faultless f.items (last_line bytes) (subst KeepsRules (sym (program_of_text bytes f.items q f.text h)) h.lawful) line why f.fault.stands
 
 pub refused_no_program : (bytes : List ℕ) (line : ℕ) (why : Reason) → IsRefusedProgram bytes line why → (q : Source) → IsProgram bytes q → ⊥
 refused_no_program bytes line reason.Syntax r q h = no_program_of_tokens bytes r.tokens r.token r.lexed r.refused q h

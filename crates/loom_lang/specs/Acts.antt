@@ -14,7 +14,7 @@ acts (made l a ∷ is) = record { line = l; act = a } ∷ acts is
 acts (begins l env ∷ is) = acts is
 acts (done l ∷ is) = acts is
 acts (edge l ∷ is) = acts is
-acts (enter f ∷ is) = acts is
+acts (enter f env ∷ is) = acts is
 acts (out f ∷ is) = acts is
 
 -- Two acts answer the same request. A read may be answered by any value, a `spawn` by any new thread, and the store may

@@ -4,7 +4,7 @@ use Rattle.loom_tree.specs.Token.{Placed}
 use Rattle.loom_tree.specs.Tree.{Item, Source}
 use Rattle.loom_lexer.specs.Tokens.{AreTokens}
 use Rattle.loom_syntax.specs.Written.{IsFile}
-use Rattle.loom_lang.specs.Rules.{IsLawful}
+use Rattle.loom_lang.specs.Rules.{KeepsRules}
 use Rattle.loom_lang.specs.Gathered.{source_of_items}
 
 -- the bytes are a text of these items
@@ -18,4 +18,4 @@ pub record IsProgram (bytes : List ℕ) (p : Source) : Type 0 where
   pub items : List Item
   pub text : IsText bytes items
   pub gathered : source_of_items items ≡ p
-  pub lawful : IsLawful p
+  pub lawful : KeepsRules p

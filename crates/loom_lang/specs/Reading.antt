@@ -4,12 +4,12 @@ use Rattle.loom_tree.specs.declared.item.Item.{Item}
 use Rattle.loom_tree.specs.Tree.{items_of}
 use Rattle.loom_lang.specs.declared.read.ReadError.{ReadError}
 use Rattle.loom_lang.specs.declared.read.ReadError.TheVariants as e
-use Rattle.loom_lang.specs.Rules.{IsLawful}
+use Rattle.loom_lang.specs.Rules.{KeepsRules}
 use Rattle.loom_lang.specs.Gathered.{source_of_items}
 use Rattle.loom_lang.specs.Program.{IsText}
 use Rattle.loom_lang.specs.Refusal.{IsRefusedProgram}
 
 abbrev pub IsReading : List ℕ → Result (List Item) ReadError → Type 0
-IsReading bytes (Ok items) = IsText bytes (items_of items) × IsLawful (source_of_items (items_of items))
+IsReading bytes (Ok items) = IsText bytes (items_of items) × KeepsRules (source_of_items (items_of items))
 IsReading bytes (Err (e.Refused r)) = IsRefusedProgram bytes r.line r.reason
 IsReading bytes (Err e.NoMemory) = Unit {0}

@@ -165,7 +165,7 @@ cell_count [] = 0
 cell_count (w ∷ ws) = cells_of w + cell_count ws
 
 -- what is asked of each function by itself
-pub record IsLawfulFunction (p : Source) (f : Function) : Type 0 where
+pub record FunctionKeepsRules (p : Source) (f : Function) : Type 0 where
   -- a local is declared once, and is no name of the file
   pub once : is_distinct (locals_of f) ≡ true
   pub apart : is_apart (locals_of f) (file_names p) ≡ true
@@ -176,15 +176,15 @@ pub record IsLawfulFunction (p : Source) (f : Function) : Type 0 where
   pub params : length f.params ≤ 4
   pub locals : length (locals_of f) ≤ 32
 
-abbrev pub AreLawfulFunctions : Source → List Function → Type 0
-AreLawfulFunctions p [] = Unit {0}
-AreLawfulFunctions p (f ∷ fs) = IsLawfulFunction p f × AreLawfulFunctions p fs
+abbrev pub FunctionsKeepRules : Source → List Function → Type 0
+FunctionsKeepRules p [] = Unit {0}
+FunctionsKeepRules p (f ∷ fs) = FunctionKeepsRules p f × FunctionsKeepRules p fs
 
 -- A program keeps the rules on names and the limits.
-pub record IsLawful (p : Source) : Type 0 where
+pub record KeepsRules (p : Source) : Type 0 where
   -- a name of the file is declared once
   pub once : is_distinct (file_names p) ≡ true
-  pub functions : AreLawfulFunctions p p.funcs
+  pub functions : FunctionsKeepRules p p.funcs
   -- `main` exists and has no parameters
   pub main : takes p.funcs (codes "main") 0 ≡ true
   -- At most one statement begins on a line: in the order of the text each begins behind the line of the one before it.

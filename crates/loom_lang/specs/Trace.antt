@@ -60,8 +60,8 @@ pub data Item : Type 0 where
   done : ℕ → Item
   -- the back edge of the loop of this line
   edge : ℕ → Item
-  -- a frame of the function of this number begins, and ends
-  enter : ℕ → Item
+  -- a frame of the function of this number begins, with its locals at that moment, and ends
+  enter : ℕ → Locals → Item
   out : ℕ → Item
 
 -- A list is whole, or breaks off somewhere.
@@ -241,7 +241,7 @@ frame_locals f vs = bound f.params vs ++ map (λ x. (x, pos 0)) (lets f.body)
 abbrev pub framed : Thread → Calls → ℕ → ℕ → List ℤ → (ℤ → Lists) → Option Function → Lists
 framed t deeper n f vs more None = broken
 framed t deeper n f vs more (Some g) =
-    emit (enter f) (body t deeper n (frame_locals g vs) g.body (λ v. emit (out f) (more v)) (λ env. emit (out f) (more (pos 0))))
+    emit (enter f (frame_locals g vs)) (body t deeper n (frame_locals g vs) g.body (λ v. emit (out f) (more v)) (λ env. emit (out f) (more (pos 0))))
 
 -- A call is described by its depth: so many frames fit, and the next one traps.
 abbrev pub calls_to : Thread → ℕ → ℕ → Calls

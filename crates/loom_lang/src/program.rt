@@ -1,7 +1,7 @@
 //! Programs.
 ghost use Rattle.std.specs.Prelude.{◌≡◌, IfOk};
 ghost use Rattle.loom_tree.specs.Tree.{functions_of};
-ghost use Rattle.loom_lang.specs.Rules.{IsLawful};
+ghost use Rattle.loom_lang.specs.Rules.{KeepsRules};
 
 use crate::declarations::Declarations;
 use loom_tree::item::{Funcs, Mutexes, Semas, Words};
@@ -21,7 +21,7 @@ pub struct Program {
 impl Model for Program {
     ghost use Rattle.loom_tree.specs.Code.{source_code};
     ghost use Rattle.loom_tree.specs.Tree.{Source, functions_of};
-    ghost use Rattle.loom_lang.specs.Rules.{IsLawful};
+    ghost use Rattle.loom_lang.specs.Rules.{KeepsRules};
 
     ghost Value = { Source };
 
@@ -29,12 +29,12 @@ impl Model for Program {
 
     ghost view = { λ p. record { words = p.words; mutexes = p.mutexes; semas = p.semas; funcs = functions_of p.funcs } };
 
-    ghost invariant = { λ p. IsLawful (record { words = p.words; mutexes = p.mutexes; semas = p.semas; funcs = functions_of p.funcs }) };
+    ghost invariant = { λ p. KeepsRules (record { words = p.words; mutexes = p.mutexes; semas = p.semas; funcs = functions_of p.funcs }) };
 }
 
 impl Program {
     pub(crate) fn new(p: Declarations) -> Program
-        requires { IsLawful p }
+        requires { KeepsRules p }
         ensures { result ≡ p }
     {
         let Declarations {
@@ -54,7 +54,7 @@ impl Program {
     /// The words and arrays, in the order of the text.
     pub fn words(&self) -> &Words
         ensures words { result.now ≡ self.now.words }
-        ensures rules { IsLawful self.now }
+        ensures rules { KeepsRules self.now }
     {
         &self.words
     }
@@ -62,7 +62,7 @@ impl Program {
     /// The mutexes, in the order of the text.
     pub fn mutexes(&self) -> &Mutexes
         ensures mutexes { result.now ≡ self.now.mutexes }
-        ensures rules { IsLawful self.now }
+        ensures rules { KeepsRules self.now }
     {
         &self.mutexes
     }
@@ -70,7 +70,7 @@ impl Program {
     /// The semaphores, in the order of the text.
     pub fn semas(&self) -> &Semas
         ensures semas { result.now ≡ self.now.semas }
-        ensures rules { IsLawful self.now }
+        ensures rules { KeepsRules self.now }
     {
         &self.semas
     }
@@ -78,7 +78,7 @@ impl Program {
     /// The functions, in the order of the text.
     pub fn funcs(&self) -> &Funcs
         ensures funcs { functions_of result.now ≡ self.now.funcs }
-        ensures rules { IsLawful self.now }
+        ensures rules { KeepsRules self.now }
     {
         &self.funcs
     }

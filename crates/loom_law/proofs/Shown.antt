@@ -5,7 +5,7 @@ use Rattle.loom_trace.specs.declared.entry.Entry.TheVariants as e
 use Rattle.loom_tree.specs.declared.expression.Op.TheVariants as o
 use Rattle.loom_tree.specs.Tree.{num, var, bin, Right, Simple, let_, set, simple, while_, Source}
 use Rattle.loom_tree.specs.Tree as tree
-use Rattle.loom_lang.specs.Rules.{IsLawful}
+use Rattle.loom_lang.specs.Rules.{KeepsRules}
 use Rattle.loom_lang.specs.Trace.{Act, begin, end, trap, threads, overflow, read, write, lock, spawn, join, print, Finished, Open}
 use Rattle.loom_lang.specs.Acts.{Deed, IsAlike}
 use Rattle.loom_lang.proofs.Shown.{tested}
@@ -55,7 +55,7 @@ adds = record {
   } ∷ [];
 }
 
-pub adds_lawful : IsLawful adds
+pub adds_lawful : KeepsRules adds
 adds_lawful = tested adds refl
 
 abbrev pub adds_events : List Event
@@ -243,7 +243,7 @@ spawns = record {
   } ∷ [];
 }
 
-pub spawns_lawful : IsLawful spawns
+pub spawns_lawful : KeepsRules spawns
 spawns_lawful = tested spawns refl
 
 abbrev pub spawns_events : List Event
@@ -323,7 +323,7 @@ full = record {
   funcs = record { name = codes "main"; line = 2; params = []; body = simple 3 (tree.up (codes "s")) tree.end } ∷ [];
 }
 
-pub full_lawful : IsLawful full
+pub full_lawful : KeepsRules full
 full_lawful = tested full refl
 
 abbrev pub full_events : List Event
@@ -373,7 +373,7 @@ locks = record {
   funcs = record { name = codes "main"; line = 2; params = []; body = simple 3 (tree.lock (codes "m")) (simple 4 (tree.lock (codes "m")) tree.end) } ∷ [];
 }
 
-pub locks_lawful : IsLawful locks
+pub locks_lawful : KeepsRules locks
 locks_lawful = tested locks refl
 
 abbrev pub locks_events : List Event

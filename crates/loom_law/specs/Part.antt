@@ -22,7 +22,7 @@ IsPassed p t n x more false es = more n es
 abbrev pub AreTold : Source → ℕ → ℕ → List Item → List Entry → Type 0
 AreTold p t n [] es = es ≡ []
 AreTold p t n (made l a ∷ is) es = (fs : List Entry) × (es ≡ entry_by t l a ∷ fs) × AreTold p t 0 is fs
-AreTold p t n (enter f ∷ is) es = IsPassed p t (suc n) (entry f) (λ m fs. AreTold p t m is fs) (suc n == tick_after) es
+AreTold p t n (enter f env ∷ is) es = IsPassed p t (suc n) (entry f) (λ m fs. AreTold p t m is fs) (suc n == tick_after) es
 AreTold p t n (edge l ∷ is) es = IsPassed p t (suc n) (back_edge l) (λ m fs. AreTold p t m is fs) (suc n == tick_after) es
 AreTold p t n (begins l env ∷ is) es = AreTold p t n is es
 AreTold p t n (done l ∷ is) es = AreTold p t n is es

@@ -1,7 +1,7 @@
 -- A thread behind an answer.
 use Rattle.std.proofs.Common.{ℕ, ◌≡◌, false, List, [], ◌∷◌, ◌++◌, Option, Some, None, refl, inl, inr, sym, ap, subst, ◌∙◌, slice_get}
 use Rattle.loom_tree.specs.Tree.{Function, Source}
-use Rattle.loom_lang.specs.Rules.{IsLawful}
+use Rattle.loom_lang.specs.Rules.{KeepsRules}
 use Rattle.loom_lang.specs.Places.{line_of_function}
 use Rattle.loom_lang.specs.Trace.{Item, Outcome, Open, Finished, made, enter, begin, end, ended}
 use Rattle.loom_flow.specs.declared.code.Instr.{Instr}
@@ -57,7 +57,7 @@ after s x m st k = with_entries s (s.entries ++ x ∷ []) s.limit m st k
 -- Stages
 
 -- its begin: behind it the entry place of its function is passed
-pub begun_running : (p : Source) → IsLawful p → (t : ℕ) (b : Birth) (es : List Entry) (g : Function) (en : Entrance) → es ≡ [] → slice_get p.funcs b.func ≡ Some g → slice_get (lowered p).entrances b.func ≡ Some en
+pub begun_running : (p : Source) → KeepsRules p → (t : ℕ) (b : Birth) (es : List Entry) (g : Function) (en : Entrance) → es ≡ [] → slice_get p.funcs b.func ≡ Some g → slice_get (lowered p).entrances b.func ≡ Some en
     → IsRunning p t b (es ++ e.Begin t (line_of_function (slice_get p.funcs b.func)) ∷ []) None 1 (at_start b.func en b.args)
 begun_running p l t b es g en none there place = record {
   items = made line begin ∷ enter b.func ∷ [];
@@ -89,7 +89,7 @@ begun_running p l t b es g en none there place = record {
     }
 
 -- a tick
-pub ticked_running : (p : Source) → IsLawful p → (t : ℕ) (b : Birth) (es : List Entry) (line k n : ℕ) (z : State) → IsRunning p t b es (Some (r.Tick line k)) n z → IsRunning p t b (es ++ e.Tick t line k ∷ []) None n z
+pub ticked_running : (p : Source) → KeepsRules p → (t : ℕ) (b : Birth) (es : List Entry) (line k n : ℕ) (z : State) → IsRunning p t b es (Some (r.Tick line k)) n z → IsRunning p t b (es ++ e.Tick t line k ∷ []) None n z
 ticked_running p l t b es line k n z h = record {
   items = h.items;
   told = h.told;
@@ -103,7 +103,7 @@ ticked_running p l t b es line k n z h = record {
 }
 
 -- what an instruction asked for, granted
-pub granted_running : (p : Source) → IsLawful p → (t : ℕ) (b : Birth) (es : List Entry) (items : List Item) (z : State) (q : Request) (x : Entry) → AreTold p t 0 items es
+pub granted_running : (p : Source) → KeepsRules p → (t : ℕ) (b : Birth) (es : List Entry) (items : List Item) (z : State) (q : Request) (x : Entry) → AreTold p t 0 items es
     → Continues (lowered p) (thread_of p b.func) b.func b.args items z → IsSound (lowered p) z
     → (i : Instr) → slice_get (lowered p).code z.at ≡ Some i → progress (lowered p) z i i.step ≡ asks q → (g : IsGranted t (Some b) q x) → IsRunning p t b (es ++ x ∷ []) None 0 (answered z i.step g.value)
 granted_running p l t b es items z q x told h sound i there a g = record {
@@ -138,7 +138,7 @@ trapped_stopping p t b es items z q x told h i there a g = record {
 }
 
 -- its end
-pub ended_over : (p : Source) → IsLawful p → (t : ℕ) (b : Birth) (es : List Entry) (wanted : Option Request) → IsStopping p t b es wanted → HasStopped p t b (es ++ e.End t (line_of_function (slice_get p.funcs b.func)) ∷ []) None
+pub ended_over : (p : Source) → KeepsRules p → (t : ℕ) (b : Birth) (es : List Entry) (wanted : Option Request) → IsStopping p t b es wanted → HasStopped p t b (es ++ e.End t (line_of_function (slice_get p.funcs b.func)) ∷ []) None
 ended_over p l t b es wanted h = record {
   whole = record {
     items = h.items ++ made line end ∷ [];

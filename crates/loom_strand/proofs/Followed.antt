@@ -1,6 +1,6 @@
 -- What a thread keeps behind an answer.
 use Rattle.std.proofs.Common.{ℕ, ◌≡◌, ◌<◌, ◌⊎◌, List, [], ◌∷◌, ◌++◌, Option, Some, None, refl, inl, inr, sym, ap, subst, ◌∙◌, slice_get, arith}
-use Rattle.loom_lang.specs.Rules.{IsLawful}
+use Rattle.loom_lang.specs.Rules.{KeepsRules}
 use Rattle.loom_lang.specs.Places.{line_of_function}
 use Rattle.loom_lang.specs.Trace.{Item, Open, Finished}
 use Rattle.loom_flow.specs.declared.code.Instr.{Instr}
@@ -31,7 +31,7 @@ use Rattle.loom_strand.proofs.Answered.{after, begun_running, ticked_running, gr
 
 -- What is known of the thread before an answer `x` to request `q`, and what follows it.
 record Given (s : Strand) (b : Birth) (q : Request) (x : Entry) (m : Held) (st : Stage) (k : ℕ) : Type 0 where
-  pub lawful : IsLawful s.program
+  pub lawful : KeepsRules s.program
   pub few : s.inside.passed < tick_after
   pub birth : s.birth ≡ Some b
   pub answers : IsAnswerTo s.thread q x
@@ -41,7 +41,7 @@ follows_as : (s : Strand) (b : Birth) (q : Request) (x : Entry) (m : Held) (st :
     → Follows (lowered s.program).entrances (lowered s.program).code s.inside.held m s.inside.passed y st k
 follows_as s b q x m st k y g is = subst (λ z. Follows (lowered s.program).entrances (lowered s.program).code s.inside.held m s.inside.passed z st k) is g.follows
 
-kept_in : (s : Strand) (b : Birth) (x : Entry) (m m' : Held) (st st' : Stage) (k k' : ℕ) → s.birth ≡ Some b → m' ≡ m → st' ≡ st → k' ≡ k → IsLawful s.program → k < tick_after
+kept_in : (s : Strand) (b : Birth) (x : Entry) (m m' : Held) (st st' : Stage) (k k' : ℕ) → s.birth ≡ Some b → m' ≡ m → st' ≡ st → k' ≡ k → KeepsRules s.program → k < tick_after
     → KeepsRoom st (lowered s.program) m
     → IsAt st (after s x m st k) (Some b) → IsKept (after s x m' st' k')
 kept_in s b x m m' st st' k k' birth em es ek lawful few room at =
@@ -155,7 +155,7 @@ answered_kept s (Some b) (Some q) x m st k h e w a f =
 
 -- The entries of a thread are those of a trace.
 
-part_at : (s : Strand) (b : Birth) (y : Stage) → IsLawful s.program → IsAt y s (Some b) → HasPart s (Some b)
+part_at : (s : Strand) (b : Birth) (y : Stage) → KeepsRules s.program → IsAt y s (Some b) → HasPart s (Some b)
 part_at s b stage.Waits l h = record {
   items = [];
   outcome = Open;

@@ -3,7 +3,7 @@ use Rattle.std.proofs.Common.{ℕ, ◌≡◌, ◌<◌, false, List, [], ◌∷�
 use Rattle.std.specs.Prelude.{option_map, is_some}
 use Rattle.std.proofs.lemmas.Option.{slice_get_within}
 use Rattle.loom_tree.specs.Tree.{Source}
-use Rattle.loom_lang.specs.Rules.{IsLawful}
+use Rattle.loom_lang.specs.Rules.{KeepsRules}
 use Rattle.loom_lang.specs.Places.{places, place_at, line_of_place, line_of_function}
 use Rattle.loom_flow.specs.Flat.{Flat, State}
 use Rattle.loom_flow.specs.Lowered.{lowered}
@@ -138,7 +138,7 @@ free_room c s b h =
     (let room : KeepsRoom s.inside.stage (lowered s.program) s.inside.held = h.kept.room in
     let here : KeepsRoom stage.Runs (lowered s.program) s.inside.held = subst (λ x. KeepsRoom x (lowered s.program) s.inside.held) h.stage room in here)
 
-kept_as : (s : Strand) (b : Birth) (q : Option Request) (m : Held) (st st' : Stage) (k : ℕ) → s.birth ≡ Some b → st' ≡ st → IsLawful s.program → k < tick_after → KeepsRoom st (lowered s.program) m
+kept_as : (s : Strand) (b : Birth) (q : Option Request) (m : Held) (st st' : Stage) (k : ℕ) → s.birth ≡ Some b → st' ≡ st → KeepsRules s.program → k < tick_after → KeepsRoom st (lowered s.program) m
     → IsAt st (resumed s q m st k) (Some b) → IsKept (resumed s q m st' k)
 kept_as s b q m st st' k birth es lawful few room at =
     subst (λ z. IsKept (resumed s q m z k)) (sym es) (record { lawful = lawful; room = room; few = few; stage = subst (IsAt st (resumed s q m st k)) (sym birth) at })

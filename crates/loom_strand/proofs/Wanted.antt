@@ -1,7 +1,7 @@
 -- What a thread asks for goes on the trace of its entries.
 use Rattle.std.proofs.Common.{ℕ, ◌≡◌, true, false, List, [], ◌∷◌, ◌++◌, ℤ, Option, Some, None, refl, inl, inr, sym, ap, subst, ◌∙◌, slice_get, append-nil}
 use Rattle.loom_tree.specs.Tree.{Function, Source}
-use Rattle.loom_lang.specs.Rules.{IsLawful}
+use Rattle.loom_lang.specs.Rules.{KeepsRules}
 use Rattle.loom_lang.specs.Places.{line_of_function}
 use Rattle.loom_lang.specs.Acts.{Deed}
 use Rattle.loom_lang.specs.Trace.{Item, Outcome, Open, made, begin, end, ended, IsTrace}
@@ -30,10 +30,10 @@ use Rattle.loom_strand.specs.Kept.{IsSound, Continues, Stops, thread_of, IsWaiti
 use Rattle.loom_strand.proofs.Continues.{continues_open, granted_continues, trapped_stops}
 use Rattle.loom_strand.proofs.Asking.{asks_numbers, never_own, is_own, asks_no_other}
 
-pub is_lowered : (p : Source) → IsLawful p → IsLowered (lowered p)
+pub is_lowered : (p : Source) → KeepsRules p → IsLowered (lowered p)
 is_lowered p l = record { lawful = l; is = refl }
 
-pub tree_trace : (p : Source) → IsLawful p → (f : ℕ) (vs : List ℤ) (items : List Item) (q : Outcome) → IsFlatTrace (lowered p) f vs items q → IsTrace p f vs items q
+pub tree_trace : (p : Source) → KeepsRules p → (f : ℕ) (vs : List ℤ) (items : List Item) (q : Outcome) → IsFlatTrace (lowered p) f vs items q → IsTrace p f vs items q
 tree_trace p l f vs items q h = (lowered_traces p l f vs items q).0 h
 
 -- the end may be broken off
@@ -42,7 +42,7 @@ stops_open c p f vs items h = subst (λ es. IsFlatTrace c f vs es Open) (append-
 
 -- Requests of instructions
 
-granted_on : (p : Source) → IsLawful p → (f : ℕ) (vs : List ℤ) (items : List Item) (z : State) (i : Instr) (q : Request) (v : ℤ)
+granted_on : (p : Source) → KeepsRules p → (f : ℕ) (vs : List ℤ) (items : List Item) (z : State) (i : Instr) (q : Request) (v : ℤ)
     → slice_get (lowered p).code z.at ≡ Some i → progress (lowered p) z i i.step ≡ asks q → Continues (lowered p) (thread_of p f) f vs items z
     → (o : Option Deed) → granted q v ≡ o → GoesOn p f vs items o
 granted_on p l f vs items z i q v there a h None e = tt
@@ -50,7 +50,7 @@ granted_on p l f vs items z i q v there a h (Some d) e =
     tree_trace p l f vs (items ++ made d.line d.act ∷ []) Open
     (continues_open (lowered p) (thread_of p f) f vs (items ++ made d.line d.act ∷ []) _ (granted_continues (lowered p) (thread_of p f) f vs items z i q v d there a e h))
 
-trapped_on : (p : Source) → IsLawful p → (f : ℕ) (vs : List ℤ) (items : List Item) (z : State) (i : Instr) (q : Request)
+trapped_on : (p : Source) → KeepsRules p → (f : ℕ) (vs : List ℤ) (items : List Item) (z : State) (i : Instr) (q : Request)
     → slice_get (lowered p).code z.at ≡ Some i → progress (lowered p) z i i.step ≡ asks q → Continues (lowered p) (thread_of p f) f vs items z
     → (o : Option Deed) → trapped q ≡ o → GoesOn p f vs items o
 trapped_on p l f vs items z i q there a h None e = tt
@@ -58,7 +58,7 @@ trapped_on p l f vs items z i q there a h (Some d) e =
     tree_trace p l f vs (items ++ made d.line d.act ∷ []) Open
     (stops_open (lowered p) p f vs (items ++ made d.line d.act ∷ []) (trapped_stops (lowered p) (thread_of p f) f vs items z i q d there a e h))
 
-next_of : (p : Source) → IsLawful p → (t f : ℕ) (vs : List ℤ) (es : List Entry) (items : List Item) (z : State) (i : Instr) (q : Request)
+next_of : (p : Source) → KeepsRules p → (t f : ℕ) (vs : List ℤ) (es : List Entry) (items : List Item) (z : State) (i : Instr) (q : Request)
     → AreTold p t 0 items es → Continues (lowered p) (thread_of p f) f vs items z → slice_get (lowered p).code z.at ≡ Some i → progress (lowered p) z i i.step ≡ asks q → IsNext p t f vs es q
 next_of p l t f vs es items z i q told h there a = record {
   items = items;
@@ -90,7 +90,7 @@ record IsAskedHere (p : Source) (t : ℕ) (b : Birth) (es : List Entry) (q : Req
   pub begins : is_begin q ≡ false
   pub alone : is_alone p ≡ true → NeedsNoOther q
 
-asked_here : (p : Source) → IsLawful p → (t : ℕ) (b : Birth) (es : List Entry) (items : List Item) (z : State) (q : Request)
+asked_here : (p : Source) → KeepsRules p → (t : ℕ) (b : Birth) (es : List Entry) (items : List Item) (z : State) (q : Request)
     → AreTold p t 0 items es → Continues (lowered p) (thread_of p b.func) b.func b.args items z → IsSound (lowered p) z
     → (i : Instr) × (slice_get (lowered p).code z.at ≡ Some i) × (progress (lowered p) z i i.step ≡ asks q) → IsAskedHere p t b es q
 asked_here p l t b es items z q told h sound at = record {
@@ -107,7 +107,7 @@ asks_here : (s : Strand) (b : Birth) (q : Request) → s.wanted ≡ Some q → h
 asks_here s b q e some lives next numbers begins alone =
     record { wanted = e; next = next; numbers = numbers; begins = begins ∙ sym some; lives = lives; alone = alone }
 
-running_asks : (s : Strand) (b : Birth) (n : ℕ) (z : State) (q : Request) → IsLawful s.program → s.wanted ≡ Some q → IsRunning s.program s.thread b s.entries (Some q) n z → AsksFor s b q
+running_asks : (s : Strand) (b : Birth) (n : ℕ) (z : State) (q : Request) → KeepsRules s.program → s.wanted ≡ Some q → IsRunning s.program s.thread b s.entries (Some q) n z → AsksFor s b q
 running_asks s b n z (r.Tick line k) l e h =
     asks_here s b (r.Tick line k) e h.begun h.lives
     (record { items = h.items; trace = tree_trace s.program l b.func b.args h.items Open (continues_open (lowered s.program) (thread_of s.program b.func) b.func b.args h.items z h.goes); told = h.told })
@@ -150,7 +150,7 @@ running_asks s b n z (r.Print line v) l e h =
     asks_here s b (r.Print line v) e h.begun h.lives a.next a.numbers a.begins a.alone
 
 -- before the begin
-pub waiting_open : (p : Source) → IsLawful p → (b : Birth) (g : Function) → slice_get p.funcs b.func ≡ Some g → (items : List Item)
+pub waiting_open : (p : Source) → KeepsRules p → (b : Birth) (g : Function) → slice_get p.funcs b.func ≡ Some g → (items : List Item)
     → flat.thread (lowered p) (Some g) b.func b.args 0 items Open → IsTrace p b.func b.args items Open
 waiting_open p l b g there items h =
     tree_trace p l b.func b.args items Open (record { most_steps = 0; gives = subst (λ o. flat.thread (lowered p) o b.func b.args 0 items Open) (sym there) h })
@@ -159,7 +159,7 @@ started_open : (c : Flat) (t : _) (f : ℕ) (vs : List ℤ) (o : Option Entrance
 started_open c t f vs None = (refl, refl)
 started_open c t f vs (Some e) = inl (refl, refl)
 
-begins_next : (s : Strand) (b : Birth) → IsLawful s.program → IsWaiting s.program b s.entries s.wanted
+begins_next : (s : Strand) (b : Birth) → KeepsRules s.program → IsWaiting s.program b s.entries s.wanted
     → IsNext s.program s.thread b.func b.args s.entries (r.Begin (line_of_function (slice_get s.program.funcs b.func)))
 begins_next s b l h = record {
   items = [];
@@ -179,7 +179,7 @@ pub only_this : (q r : Request) (wanted : Option Request) → wanted ≡ Some q 
 only_this q r wanted e (inl none) = let no : ◌≡◌ {A = Option Request} None (Some q) = sym none ∙ e in absurd (let x : ⊥ = cc in x)
 only_this q r wanted e (inr is) = let same : ◌≡◌ {A = Option Request} (Some r) (Some q) = sym is ∙ e in cc
 
-waiting_asks : (s : Strand) (b : Birth) (q : Request) → IsLawful s.program → s.wanted ≡ Some q → IsWaiting s.program b s.entries s.wanted → AsksFor s b q
+waiting_asks : (s : Strand) (b : Birth) (q : Request) → KeepsRules s.program → s.wanted ≡ Some q → IsWaiting s.program b s.entries s.wanted → AsksFor s b q
 waiting_asks s b q l e h =
     let same : r.Begin (line_of_function (slice_get s.program.funcs b.func)) ≡ q = only_this q (r.Begin (line_of_function (slice_get s.program.funcs b.func))) s.wanted e h.asks in
     subst (AsksFor s b) same (record {
@@ -192,7 +192,7 @@ waiting_asks s b q l e h =
     })
 
 -- at the end
-ends_next : (s : Strand) (b : Birth) → IsLawful s.program → IsStopping s.program s.thread b s.entries s.wanted
+ends_next : (s : Strand) (b : Birth) → KeepsRules s.program → IsStopping s.program s.thread b s.entries s.wanted
     → IsNext s.program s.thread b.func b.args s.entries (r.End (line_of_function (slice_get s.program.funcs b.func)))
 ends_next s b l h = record {
   items = h.items;
@@ -203,7 +203,7 @@ ends_next s b l h = record {
   trapped = tt;
 }
 
-stopping_asks : (s : Strand) (b : Birth) (q : Request) → IsLawful s.program → s.wanted ≡ Some q → IsStopping s.program s.thread b s.entries s.wanted → AsksFor s b q
+stopping_asks : (s : Strand) (b : Birth) (q : Request) → KeepsRules s.program → s.wanted ≡ Some q → IsStopping s.program s.thread b s.entries s.wanted → AsksFor s b q
 stopping_asks s b q l e h =
     let same : r.End (line_of_function (slice_get s.program.funcs b.func)) ≡ q = only_this q (r.End (line_of_function (slice_get s.program.funcs b.func))) s.wanted e h.asks in
     subst (AsksFor s b) same (record {
@@ -215,7 +215,7 @@ stopping_asks s b q l e h =
       alone = λ a. tt;
     })
 
-asks_at : (s : Strand) (b : Birth) (q : Request) (x : Stage) → IsLawful s.program → s.wanted ≡ Some q → IsAt x s (Some b) → AsksFor s b q
+asks_at : (s : Strand) (b : Birth) (q : Request) (x : Stage) → KeepsRules s.program → s.wanted ≡ Some q → IsAt x s (Some b) → AsksFor s b q
 asks_at s b q stage.Waits l e h = waiting_asks s b q l e h
 asks_at s b q stage.Runs l e h =
     running_asks s b s.inside.passed s.inside.held.state q l e (subst (λ o. IsRunning s.program s.thread b s.entries o s.inside.passed s.inside.held.state) e h)

@@ -1,7 +1,7 @@
 -- What a thread keeps between its calls.
 use Rattle.std.specs.Prelude.{ℕ, suc, ◌≡◌, ◌==◌, ◌≤◌, ◌<◌, ◌⊎◌, true, false, List, [], ◌∷◌, ◌++◌, length, ℤ, Option, Some, None, slice_get, if◌then◌else◌}
 use Rattle.loom_tree.specs.Tree.{Source}
-use Rattle.loom_lang.specs.Rules.{IsLawful}
+use Rattle.loom_lang.specs.Rules.{KeepsRules}
 use Rattle.loom_lang.specs.Places.{line_of_function}
 use Rattle.loom_lang.specs.Trace.{Item, Outcome, Thread, made, begins, done, edge, enter, out, ended}
 use Rattle.loom_flow.specs.declared.code.Instr.{Instr}
@@ -132,7 +132,7 @@ KeepsRoom stage.Runs c m = HasRoom c m
 KeepsRoom _ c m = Unit {0}
 
 pub record IsKept (s : Strand) : Type 0 where
-  pub lawful : IsLawful s.program
+  pub lawful : KeepsRules s.program
   pub room : KeepsRoom s.inside.stage (lowered s.program) s.inside.held
   -- no place more was passed than goes without a tick
   pub few : s.inside.passed < tick_after

@@ -6,7 +6,7 @@ use Rattle.std.proofs.lemmas.List.{length-replicate}
 use Rattle.std.proofs.lemmas.Bool.{and_parts, eqb-true}
 use Rattle.loom_tree.specs.declared.item.Word.{Word}
 use Rattle.loom_tree.specs.Tree.{Function, Source}
-use Rattle.loom_lang.specs.Rules.{is_in, is_distinct, takes, shared_names, cells_of, cell_count, IsLawful}
+use Rattle.loom_lang.specs.Rules.{is_in, is_distinct, takes, shared_names, cells_of, cell_count, KeepsRules}
 use Rattle.loom_lang.specs.Numbers.{position, function_number}
 use Rattle.loom_lang.specs.Trace.{Open, thread}
 use Rattle.loom_law.specs.Part.{IsPart}
@@ -56,7 +56,7 @@ found (f ∷ fs) x n d h = here (pointwise ◌==◌ f.name x) (length f.params =
         let b = behind g in
         record { number = suc b.number; function = b.function; first = rw is (ap (option_map suc) b.first); is = b.is; params = b.params }
 
-pub main_found : (p : Source) → IsLawful p → IsFound p.funcs (codes "main") 0
+pub main_found : (p : Source) → KeepsRules p → IsFound p.funcs (codes "main") 0
 main_found p h = found p.funcs (codes "main") 0 (distinct_behind (shared_names p) (names p.funcs) h.once) h.main
 
 pub main_function : (p : Source) (f : ℕ) → IsFound p.funcs (codes "main") 0 → function_number p (codes "main") ≡ Some f → IsFunctionWith p f []

@@ -1,6 +1,6 @@
 use Rattle.std.proofs.Common.{◌≡◌, ◌+◌, List, [], ◌∷◌, ◌++◌, length, drop, ap, ◌∙◌, subst}
 use Rattle.loom_tree.specs.Tree.{Function, Source, function_of, functions_of}
-use Rattle.loom_lang.specs.Rules.{AreLawfulFunctions}
+use Rattle.loom_lang.specs.Rules.{FunctionsKeepRules}
 use Rattle.loom_flow.specs.Lowered.{functions_code, functions_sites, entrances, calls_body, set_of}
 use Rattle.loom_lang.proofs.Noted.{drop_at}
 use Rattle.loom_flow.proofs.Functions.{functions_code_step, functions_sites_step, entrances_step, calls_on, room_for}
@@ -22,7 +22,7 @@ put-preserved c =
     let calls = c.in_ok-put.ensures.calls ∙ ap (λ (q : Source). c.put.made.calls.items ++ set_of 0 (calls_body q f.body) ∷ []) is in
     record {
       program = c.in_ok-put.ensures.program ∙ is;
-      lawful = (let P : List Function → Type 0 = λ fs. AreLawfulFunctions c.args.scope.now.program fs in subst P next c.put.invariant.lawful).1;
+      lawful = (let P : List Function → Type 0 = λ fs. FunctionsKeepRules c.args.scope.now.program fs in subst P next c.put.invariant.lawful).1;
       code = functions_code_step c.args.scope.now.program f _ _ _ _ _ _ next code sites ∙ c.put.invariant.code;
       sites = functions_sites_step c.args.scope.now.program f _ _ _ _ _ _ _ next code sites ∙ c.put.invariant.sites;
       entrances = entrances_step c.args.scope.now.program f _ _ _ _ _ _ _ _ next code sites entries ∙ c.put.invariant.entrances;

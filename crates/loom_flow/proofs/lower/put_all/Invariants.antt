@@ -1,13 +1,13 @@
 use Rattle.std.proofs.Common.{◌≡◌, ◌++◌, length, map, drop}
 use Rattle.loom_tree.specs.Tree.{Function, functions_of}
-use Rattle.loom_lang.specs.Rules.{AreLawfulFunctions}
+use Rattle.loom_lang.specs.Rules.{FunctionsKeepRules}
 use Rattle.loom_flow.specs.Lowered.{functions_code, functions_sites, entrances, calls_body, set_of, lowered}
 use Rattle.loom_flow.proofs.lower.put_all.Given as goal
 
 abbrev pub invariant-put : goal.invariant-put
 invariant-put l = record {
   program : l.scope.program ≡ l.fn.scope.program;
-  lawful : AreLawfulFunctions l.fn.scope.program (functions_of (drop l.f-index l.funcs));
+  lawful : FunctionsKeepRules l.fn.scope.program (functions_of (drop l.f-index l.funcs));
   code :
       l.made.code.items ++ functions_code l.fn.scope.program (length l.made.code.items) (length l.made.sites.items) (functions_of (drop l.f-index l.funcs))
       ≡ (lowered l.fn.scope.program).code;

@@ -1,0 +1,1 @@
+//! Laws of texts, stated as the contracts of functions that do nothing.

@@ -7,10 +7,12 @@ use Rattle.loom_trace.specs.declared.entry.Ending.TheVariants as k
 use Rattle.loom_lang.specs.Trace.{Locals, begin, end, read, write, spawn, join, print, made, begins, done, enter, out, Finished, IsTrace}
 use Rattle.loom_event.proofs.Shown.{adds}
 use Rattle.loom_event.proofs.Runs.{next, given}
-use Rattle.loom_law.specs.Filter.{Region, Clause, Filter, plan_of}
-use Rattle.loom_law.specs.Filter as filters
+use Rattle.loom_command.specs.Filter.{Region, Clause, Filter}
+use Rattle.loom_law.specs.Filter.{plan_of}
+use Rattle.loom_command.specs.Filter as filters
 use Rattle.loom_law.specs.Walk.{Version, Op, enters, past, leave, blocked, Step, goes, makes, items, told}
 use Rattle.loom_law.specs.Walk as walk
+use Rattle.loom_command.specs.Script as script
 use Rattle.loom_law.specs.Control.{means, install, Command}
 use Rattle.loom_law.specs.Control as control
 use Rattle.loom_law.specs.Part.{Own, IsPart}
@@ -46,7 +48,7 @@ abbrev pub fix : Filter
 fix = Clause.exclusive (Region.between (on_line 3 ∷ []) (on_line 3 ∷ []) ∷ Region.between (on_line 7 ∷ []) (on_line 7 ∷ []) ∷ []) ∷ []
 
 abbrev pub commands : List Command
-commands = record { trigger = control.at 0; name = codes "fix"; action = install (means (plan_of adds fix)) } ∷ []
+commands = record { trigger = script.at 0; name = codes "fix"; action = install (means (plan_of adds fix)) } ∷ []
 
 abbrev pub setting : Setting
 setting = record { program = adds; commands = commands; limit = 100000; stop = λ x. false }

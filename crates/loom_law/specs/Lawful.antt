@@ -18,7 +18,8 @@ use Rattle.loom_law.specs.Walk.{Version, Plans, Step, place_number, unborn}
 use Rattle.loom_law.specs.Part.{Own, led, IsPart, Point, IsPlaceOf, ComesTo, HasMoved, KeepsAway, IsInside}
 use Rattle.loom_law.specs.Watch.{nothing_seen, seen_from, where_all_made, IsClear}
 use Rattle.loom_law.specs.Paths.{IsUnsafe}
-use Rattle.loom_law.specs.Control.{Trigger, at, stall, Judgement, refused, means, Action, install, remove, Command, command_at, plans_of, have_one_name, Holder, Control, control, taken, entries_of, listed, since_asked, is_post, is_past}
+use Rattle.loom_command.specs.Script.{Trigger, at, stall}
+use Rattle.loom_law.specs.Control.{Judgement, refused, means, Action, install, remove, Command, command_at, plans_of, have_one_name, Holder, Control, control, taken, entries_of, listed, since_asked, is_post, is_past}
 
 -- what a run is judged by
 pub record Setting : Type 0 where

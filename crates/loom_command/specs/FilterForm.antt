@@ -52,7 +52,7 @@ IsFile (b ∷ bs) = (is_part b ≡ true) × Each is_file_part bs
 -- a name of the language, none of its words
 abbrev pub IsName : List ℕ → Type 0
 IsName [] = ⊥
-IsName (b ∷ bs) = (is_letter b ≡ true) × (Each is_part bs × (keyword_of (b ∷ bs) ≡ None))
+IsName (b ∷ bs) = (is_letter b ≡ true) × Each is_part bs × (keyword_of (b ∷ bs) ≡ None)
 
 abbrev pub largest_number : ℕ
 largest_number = 1000000
@@ -97,11 +97,11 @@ IsSome [] = ⊥
 IsSome (x ∷ xs) = Unit {0}
 
 abbrev pub IsRegion : Region → Type 0
-IsRegion (between es xs) = IsSome es × (AllByRecursion IsStep es × (IsSome xs × AllByRecursion IsStep xs))
+IsRegion (between es xs) = IsSome es × AllByRecursion IsStep es × IsSome xs × AllByRecursion IsStep xs
 IsRegion (whole f test) = IsName f × IsTestIf test
 
 abbrev pub IsClause : Clause → Type 0
-IsClause (order a b ss) = IsStep a × (IsStep b × AllByRecursion IsStep ss)
+IsClause (order a b ss) = IsStep a × IsStep b × AllByRecursion IsStep ss
 IsClause (exclusive r rs) = IsRegion r × AllByRecursion IsRegion rs
 IsClause (unilateral r) = IsRegion r
 

@@ -30,7 +30,7 @@ Stands _ rest = Unit {0}
 abbrev pub AreWritten : List Piece → List ℕ → List ℕ → Type 0
 AreWritten [] rest bytes = bytes ≡ rest
 AreWritten (x ∷ xs) rest bytes =
-    (blanks : List ℕ) × ((more : List ℕ) × ((bytes ≡ blanks ++ (bytes_of x ++ more)) × (Each is_blank blanks × (Stands x more × AreWritten xs rest more))))
+    (blanks : List ℕ) × (more : List ℕ) × (bytes ≡ blanks ++ (bytes_of x ++ more)) × Each is_blank blanks × Stands x more × AreWritten xs rest more
 
 -- The pieces of a filter, in the order of its grammar
 

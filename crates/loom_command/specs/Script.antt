@@ -50,12 +50,12 @@ IsField (b ∷ bs) = Each is_dark (b ∷ bs)
 abbrev pub HasFields : List (List ℕ) → List ℕ → List ℕ → Type 0
 HasFields [] rest bytes = bytes ≡ rest
 HasFields (f ∷ fs) rest bytes =
-    (blanks : List ℕ) × ((more : List ℕ) × ((bytes ≡ blanks ++ (f ++ more)) × (Each is_blank blanks × (IsField f × (Stops is_dark more × HasFields fs rest more)))))
+    (blanks : List ℕ) × (more : List ℕ) × (bytes ≡ blanks ++ (f ++ more)) × Each is_blank blanks × IsField f × Stops is_dark more × HasFields fs rest more
 
 -- A line without a field, or of which the first begins with `#`
 -- (35 is `#`)
 abbrev pub IsSkipped : List ℕ → Type 0
-IsSkipped line = Each is_blank line ⊎ ((f : List ℕ) × ((rest : List ℕ) × HasFields ((35 ∷ f) ∷ []) rest line))
+IsSkipped line = Each is_blank line ⊎ ((f : List ℕ) × (rest : List ℕ) × HasFields ((35 ∷ f) ∷ []) rest line)
 
 -- Commands
 
@@ -76,7 +76,7 @@ pub record IsName (name : List ℕ) : Type 0 where
 
 -- the fields that tell when: a number has no leading zeros
 abbrev pub WhenFields : Trigger → List ℕ → List ℕ → Type 0
-WhenFields (at n) a b = (a ≡ codes "at") × ((b ≡ decimal n) × (n ≤ latest))
+WhenFields (at n) a b = (a ≡ codes "at") × (b ≡ decimal n) × (n ≤ latest)
 WhenFields stall a b = (a ≡ codes "on") × (b ≡ codes "stall")
 
 abbrev pub EndsDark : List ℕ → Type 0
@@ -120,7 +120,7 @@ abbrev pub AreCommands : ℕ → List (List ℕ) → List ScriptCommand → Type
 AreCommands n [] cs = cs ≡ []
 AreCommands n (l ∷ ls) cs =
     (IsSkipped l × AreCommands (suc n) ls cs)
-    ⊎ ((c : ScriptCommand) × ((rest : List ScriptCommand) × ((cs ≡ c ∷ rest) × (IsCommandLine n l c × AreCommands (suc n) ls rest))))
+    ⊎ ((c : ScriptCommand) × (rest : List ScriptCommand) × (cs ≡ c ∷ rest) × IsCommandLine n l c × AreCommands (suc n) ls rest)
 
 pub record IsScript (bytes : List ℕ) (cs : List ScriptCommand) : Type 0 where
   pub commands : AreCommands 1 (lines bytes) cs

@@ -1,0 +1,73 @@
+-- From what a thread asks for to one more entry of a lawful journal.
+use Rattle.std.specs.Prelude.{ℕ, ◌≡◌, ◌⊎◌, ◌++◌, ◌∷◌, false, true, List, [], ℤ, Option, Some}
+use Rattle.std.specs.List.{list_any}
+use Rattle.loom_trace.specs.declared.entry.Entry.{Entry}
+use Rattle.loom_trace.specs.declared.request.Request.{Request}
+use Rattle.loom_lang.specs.Trace.{made}
+use Rattle.loom_lang.specs.Acts.{Deed}
+use Rattle.loom_law.specs.Asked.{granted, trapped}
+use Rattle.loom_law.specs.Event.{Event, entry_by}
+use Rattle.loom_law.specs.Replay.{Spawned, start, thread_at, replay, IsAllowed}
+use Rattle.loom_rule.specs.Walk.{Op, cross, goes, makes, entry_of_op}
+use Rattle.loom_rule.specs.Walk as walk
+use Rattle.loom_rule.specs.Part.{Own, led, KeepsAway, AsksToMake, AsksToCross, AsksToAct}
+use Rattle.loom_rule.specs.Control.{Control, control, listed, since_asked, entries_of}
+use Rattle.loom_rule.specs.Lawful.{Setting, front_of, plans, own, IsFlagged, IsHeldOff, IsOpen, is_cross, owes_cross, is_begin, is_spawn_of, has_any, KeptAway, IsLawful}
+use Rattle.loom_rule.specs.Laws.{IsUnfinished, own_with, Needs, MayTurn}
+
+-- The deed grants the request, with some value, or it is the trap that may stand in its place.
+abbrev pub IsAnswered : Request → Deed → Type 0
+IsAnswered q d = ((v : ℤ) × (granted q v ≡ Some d)) ⊎ (trapped q ≡ Some d)
+
+abbrev pub event_of_deed : ℕ → Deed → Event
+event_of_deed t d = record { thread = t; line = d.line; act = d.act }
+
+-- Behind the entries and events so far thread t asks for an act, the store allows this answer, and nothing keeps the thread from making it.
+pub record MayAnswer (s : Setting) (es : List Entry) (xs : List Event) (t : ℕ) (q : Request) (d : Deed) : Type 0 where
+  pub state : Spawned
+  pub there : thread_at (replay (start s.program) xs) t ≡ Some state
+  pub asks : AsksToAct s.program (plans s) (own s es t state) q
+  pub answer : IsAnswered q d
+  pub allowed : IsAllowed (replay (start s.program) xs) (event_of_deed t d)
+  pub goes_on : IsOpen s (front_of s es xs)
+  pub not_held_off : IsHeldOff s (front_of s es xs) t → ⊥
+  pub no_cross : owes_cross (entry_by t d.line d.act) (listed t es) ≡ false
+  -- the thread keeps away from the places that are flagged for the command that was asked
+  pub away : (k : ℕ) → Control.asked (control s.commands es) ≡ Some k → has_any (entries_of t (since_asked es)) ≡ true
+      → KeepsAway (IsFlagged s k) (led s.program (plans s) (own s es t state) asks.steps)
+  pub no_begin : (k : ℕ) → Control.asked (control s.commands es) ≡ Some k → is_begin (entry_by t d.line d.act) ≡ true
+      → list_any (is_spawn_of t) (since_asked es) ≡ false
+
+-- So it may make that turn: the steps before it are those with which it asks. (Shown.)
+abbrev pub HasAnswers : Type 0
+HasAnswers = (s : Setting) (es : List Entry) (h : IsLawful s es) (t : ℕ) (q : Request) (d : Deed) (m : MayAnswer s es h.events t q d)
+    → (turn : MayTurn s es h.events t (entry_by t d.line d.act) (goes (made d.line d.act)))
+    × ((turn.state ≡ m.state) × (turn.before ≡ m.asks.steps))
+
+-- And the journal with the answer is lawful. (Shown.)
+abbrev pub HasAnswerTurns : Type 0
+HasAnswerTurns = (s : Setting) (es : List Entry) (h : IsLawful s es) → IsUnfinished es → (t : ℕ) (q : Request) (d : Deed) → MayAnswer s es h.events t q d
+    → (h' : IsLawful s (es ++ entry_by t d.line d.act ∷ [])) × (h'.events ≡ h.events ++ event_of_deed t d ∷ [])
+
+-- The thread asks to make an operation: for `Cross` with the newest version.
+abbrev pub AsksToDo : Setting → List Entry → Own → ℕ → Op → Type 0
+AsksToDo s es x l (cross y n m) =
+    (n ≡ walk.Version.number (Control.version (control s.commands es))) × AsksToCross s.program (plans s) x l y m (Control.version (control s.commands es))
+AsksToDo s es x l o = AsksToMake s.program (plans s) x l o
+
+-- Behind the entries and events so far thread t asks to make an operation, and nothing keeps it from making it.
+pub record MayMake (s : Setting) (es : List Entry) (xs : List Event) (t l : ℕ) (o : Op) : Type 0 where
+  pub state : Spawned
+  pub there : thread_at (replay (start s.program) xs) t ≡ Some state
+  pub asks : AsksToDo s es (own s es t state) l o
+  pub goes_on : IsOpen s (front_of s es xs)
+  pub not_held_off : IsHeldOff s (front_of s es xs) t → ⊥
+  pub crosses : is_cross (entry_of_op t l o) ≡ owes_cross (entry_of_op t l o) (listed t es)
+  pub away : (k : ℕ) → Control.asked (control s.commands es) ≡ Some k → has_any (entries_of t (since_asked es)) ≡ true
+      → KeptAway s (own_with s es t state (entry_of_op t l o)) k
+  pub needs : Needs s (front_of s es xs) (entry_of_op t l o)
+
+-- So the journal with the operation is lawful. (Shown.)
+abbrev pub HasMakingTurns : Type 0
+HasMakingTurns = (s : Setting) (es : List Entry) (h : IsLawful s es) → IsUnfinished es → (t l : ℕ) (o : Op) → MayMake s es h.events t l o
+    → (h' : IsLawful s (es ++ entry_of_op t l o ∷ [])) × (h'.events ≡ h.events)

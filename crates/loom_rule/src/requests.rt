@@ -1,0 +1,12 @@
+//! Laws that lead from what a thread asks for to a turn, stated as the contracts of functions that do nothing.
+ghost use Rattle.loom_rule.specs.TurnLaws.{HasAnswers, HasAnswerTurns};
+
+/// From a thread's request and the answer that the store allows to the premises of a turn.
+pub fn answers()
+    ensures { HasAnswers }
+{}
+
+/// With the answer to a thread's request a lawful journal is lawful.
+pub fn answer_turns()
+    ensures { HasAnswerTurns }
+{}

@@ -140,7 +140,7 @@ more p plans z vs us (makes l (blocked what) ∷ ss) ahead h =
 -- Another act that answers the same
 
 -- the steps don't say that the thread is blocked at a `join` in whose place this is a trap
-abbrev IsFree : List Step → Act → Type 0
+abbrev pub IsFree : List Step → Act → Type 0
 IsFree ss a = (before : List Step) (l c : ℕ) (behind : List Step) → ss ≡ before ++ makes l (blocked (w.Join c)) ∷ behind → a ≡ trap (not_spawned (pos c)) → ⊥
 
 free_behind : (s : Step) (ss : List Step) (a : Act) → IsFree (s ∷ ss) a → IsFree ss a
@@ -477,10 +477,22 @@ act_needs s g t l (spawn c f ws) = tt
 act_needs s g t l (join c) = tt
 act_needs s g t l (print v) = tt
 
-goes_with : (p : Source) (plans : Plans) (x : Own) (q : Request) (d : Deed) (h : AsksToAct p plans x q) → IsAnswered q d
+pub goes_with : (p : Source) (plans : Plans) (x : Own) (q : Request) (d : Deed) (h : AsksToAct p plans x q) → IsAnswered q d
     → IsTrace p x.func x.args (items h.steps ++ made d.line d.act ∷ []) Open
 goes_with p plans x q d h (inl g) = subst (GoesOn p x h.steps) g.1 (h.granted g.0)
 goes_with p plans x q d h (inr g) = subst (GoesOn p x h.steps) g h.trapped
+
+-- what stands before the request stands so before each answer to it
+pub woven_ahead : (p : Source) (plans : Plans) (x : Own) (q : Request) (d : Deed) (h : AsksToAct p plans x q) → IsAnswered q d → IsFree h.steps d.act
+    → AreWoven p plans (unborn x.versions) h.steps (made d.line d.act ∷ [])
+woven_ahead p plans x q d h answer free =
+    let trace : IsTrace p x.func x.args (items h.steps ++ made d.line d.act ∷ []) Open = goes_with p plans x q d h answer in
+    let next = next_act h.next d.line d.act
+    (one_next_item p x.func x.args (items h.steps ++ h.next ∷ []) (items h.steps ++ made d.line d.act ∷ []) Open Open h.trace trace (items h.steps) [] [] h.next
+    (made d.line d.act) refl refl) in
+    let woven : AreWoven p plans (unborn x.versions) h.steps (made d.line next.0 ∷ []) =
+    subst (λ i. AreWoven p plans (unborn x.versions) h.steps (i ∷ [])) next.1.0 h.woven in
+    other_act p plans (unborn x.versions) h.steps d.line next.0 d.act next.1.1 free woven
 
 keeps_taking : (F : Place → Type 0) (z : Walk) (vs : List Version) → KeepsAway F z → KeepsAway F (to_take z vs)
 keeps_taking F z vs h = record { passed = h.passed; stood = h.stood }
@@ -492,14 +504,9 @@ answers s es h t q d m =
     let vs : List Version = taken s.commands t es in
     let steps : List Step = m.asks.steps in
     let trace : IsTrace p x.func x.args (items steps ++ made d.line d.act ∷ []) Open = goes_with p (plans s) x q d m.asks m.answer in
-    let next = next_act m.asks.next d.line d.act
-    (one_next_item p x.func x.args (items steps ++ m.asks.next ∷ []) (items steps ++ made d.line d.act ∷ []) Open Open m.asks.trace trace (items steps) [] [] m.asks.next
-    (made d.line d.act) refl refl) in
-    let woven : AreWoven p (plans s) (unborn vs) steps (made d.line next.0 ∷ []) =
-    subst (λ i. AreWoven p (plans s) (unborn vs) steps (i ∷ [])) next.1.0 m.asks.woven in
     let a : ActPart p (plans s) t m.state.func m.state.args vs (with_newest (entry_by t d.line d.act) (Control.version (control s.commands es)) vs) (entries_of t es) d.line d.act steps =
     act_part p (plans s) t m.state.func m.state.args vs (Control.version (control s.commands es)) (entries_of t es) d.line d.act steps trace
-    (other_act p (plans s) (unborn vs) steps d.line next.0 d.act next.1.1 (free_steps s es h t d steps m.asks.tells m.allowed) woven) m.asks.tells m.asks.rests m.asks.taken in
+    (woven_ahead p (plans s) x q d m.asks m.answer (free_steps s es h t d steps m.asks.tells m.allowed)) m.asks.tells m.asks.rests m.asks.taken in
     (
       record {
         state = m.state;

@@ -1,14 +1,19 @@
 -- From what a thread asks for to one more entry of a lawful journal.
-use Rattle.std.specs.Prelude.{ℕ, ◌≡◌, ◌⊎◌, ◌++◌, ◌∷◌, false, true, List, [], ℤ, Option, Some}
+use Rattle.std.specs.Prelude.{ℕ, ◌≡◌, ◌⊎◌, ◌++◌, ◌∷◌, Bool, false, true, List, [], ℤ, pos, Option, Some, None}
 use Rattle.std.specs.List.{list_any}
+use Rattle.loom_tree.specs.Tree.{Source}
 use Rattle.loom_trace.specs.declared.entry.Entry.{Entry}
+use Rattle.loom_trace.specs.declared.entry.Entry.TheVariants as e
+use Rattle.loom_trace.specs.declared.entry.What.{What}
+use Rattle.loom_trace.specs.declared.entry.What.TheVariants as w
 use Rattle.loom_trace.specs.declared.request.Request.{Request}
+use Rattle.loom_trace.specs.declared.request.Request.TheVariants as r
 use Rattle.loom_lang.specs.Trace.{made}
 use Rattle.loom_lang.specs.Acts.{Deed}
 use Rattle.loom_law.specs.Asked.{granted, trapped}
 use Rattle.loom_law.specs.Event.{Event, entry_by}
 use Rattle.loom_law.specs.Replay.{Spawned, start, thread_at, replay, IsAllowed}
-use Rattle.loom_rule.specs.Walk.{Op, cross, goes, makes, entry_of_op}
+use Rattle.loom_rule.specs.Walk.{Plans, Op, cross, blocked, goes, makes, entry_of_op}
 use Rattle.loom_rule.specs.Walk as walk
 use Rattle.loom_rule.specs.Part.{Own, led, KeepsAway, AsksToMake, AsksToCross, AsksToAct}
 use Rattle.loom_rule.specs.Control.{Control, control, listed, since_asked, entries_of}
@@ -71,3 +76,30 @@ pub record MayMake (s : Setting) (es : List Entry) (xs : List Event) (t l : ℕ)
 abbrev pub HasMakingTurns : Type 0
 HasMakingTurns = (s : Setting) (es : List Entry) (h : IsLawful s es) → IsUnfinished es → (t l : ℕ) (o : Op) → MayMake s es h.events t l o
     → (h' : IsLawful s (es ++ entry_of_op t l o ∷ [])) × (h'.events ≡ h.events)
+
+-- Requests that are disabled
+
+-- the last of these entries is `Blocked`
+abbrev pub is_blocked_entry : Entry → Bool
+is_blocked_entry (e.Blocked t l what) = true
+is_blocked_entry _ = false
+
+abbrev pub blocked_behind : Bool → List Entry → Bool
+blocked_behind b [] = b
+blocked_behind b (x ∷ xs) = blocked_behind (is_blocked_entry x) xs
+
+abbrev pub ends_blocked : List Entry → Bool
+ends_blocked es = blocked_behind false es
+
+-- the request on a line for which a thread may be blocked, where no filter makes it ask
+abbrev pub request_of : ℕ → What → Option Request
+request_of l (w.Lock m) = Some (r.Lock l m)
+request_of l (w.Down k) = Some (r.Down l k)
+request_of l (w.Join c) = Some (r.Join l (pos c))
+request_of l (w.Enter k c) = None
+request_of l (w.Wait k n) = None
+
+-- A thread that asks for it, and whose last entry isn't `Blocked`, may ask to be told as blocked there. (Shown.)
+abbrev pub HasBlocks : Type 0
+HasBlocks = (p : Source) (plans : Plans) (x : Own) (q : Request) (l : ℕ) (what : What) → AsksToAct p plans x q → request_of l what ≡ Some q
+    → ends_blocked x.entries ≡ false → AsksToMake p plans x l (blocked what)

@@ -609,7 +609,7 @@ own_same s es x t z self =
     ap (λ vs. an_own t z.func z.args vs (entries_of t es ++ x ∷ [])) (sym (newest_taken s.commands t x es self))
     ∙ ap (λ us. an_own t z.func z.args (taken s.commands t (es ++ x ∷ [])) us) (sym (mine t x es self))
 
-moved : (p : Source) (plans : Plans) (x : Own) (h : IsPart p plans x) (before : List Step) (step : Step) (y : Entry) → h.steps ≡ before ++ step ∷ []
+pub moved : (p : Source) (plans : Plans) (x : Own) (h : IsPart p plans x) (before : List Step) (step : Step) (y : Entry) → h.steps ≡ before ++ step ∷ []
     → told x.thread (step ∷ []) ≡ y ∷ [] → HasMoved p plans x before
 moved p plans x h before step y is tells = record {
   last = step;
@@ -659,11 +659,11 @@ event_turns s es h open_ y m ok =
 -- Before an operation
 
 -- these steps stand before the operation
-record BeforeOp (t : ℕ) (ss : List Step) (es : List Entry) (l : ℕ) (o : Op) : Type 0 where
-  before : List Step
-  behind : List Step
-  whole : ss ≡ before ++ makes l o ∷ behind
-  same : told t before ≡ es
+pub record BeforeOp (t : ℕ) (ss : List Step) (es : List Entry) (l : ℕ) (o : Op) : Type 0 where
+  pub before : List Step
+  pub behind : List Step
+  pub whole : ss ≡ before ++ makes l o ∷ behind
+  pub same : told t before ≡ es
 
 op_here : (t m : ℕ) (q : Op) (l : ℕ) (o : Op) (ss : List Step) → entry_of_op t m q ∷ told t ss ≡ entry_of_op t l o ∷ [] → BeforeOp t (makes m q ∷ ss) [] l o
 op_here t m q l o ss h =
@@ -682,7 +682,7 @@ with_told t s ss x y es fs l o tells h go =
     let c : BeforeOp t ss es l o = go others in
     record { before = s ∷ c.before; behind = c.behind; whole = ap (◌∷◌ s) c.whole; same = tells c.before ∙ (ap (λ z. z ∷ told t c.before) first ∙ ap (◌∷◌ y) c.same) }
 
-before_op : (t : ℕ) (ss : List Step) (es : List Entry) (l : ℕ) (o : Op) → told t ss ≡ es ++ entry_of_op t l o ∷ [] → BeforeOp t ss es l o
+pub before_op : (t : ℕ) (ss : List Step) (es : List Entry) (l : ℕ) (o : Op) → told t ss ≡ es ++ entry_of_op t l o ∷ [] → BeforeOp t ss es l o
 before_op t [] es l o h = absurd (never_empty es (entry_of_op t l o) h)
 before_op t (makes m q ∷ ss) [] l o h = op_here t m q l o ss h
 before_op t (goes (made m a) ∷ ss) [] l o h = let first : entry_by t m a ≡ entry_of_op t l o = cc in absurd (act_is_no_op t m l a o first)

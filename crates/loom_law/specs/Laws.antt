@@ -5,12 +5,12 @@ use Rattle.loom_tree.specs.Tree.{Source}
 use Rattle.loom_trace.specs.declared.entry.Entry.{Entry}
 use Rattle.loom_trace.specs.declared.entry.Entry.TheVariants as e
 use Rattle.loom_trace.specs.declared.entry.Ending.{Ending}
-use Rattle.loom_lang.specs.Places.{Place, nowhere}
+use Rattle.loom_lang.specs.Places.{Place, nowhere, place_at}
 use Rattle.loom_lang.specs.Rules as rules
 use Rattle.loom_lang.specs.Trace.{end, made}
 use Rattle.loom_command.specs.Filter.{Filter}
 use Rattle.loom_law.specs.Filter.{Plan, before_in, has, plan_of}
-use Rattle.loom_law.specs.Walk.{Version, Plans, Op, leave, entry_of_op, Step, goes, makes, holds, unborn, told, filter_of, Owes}
+use Rattle.loom_law.specs.Walk.{place_number, Version, Plans, Op, leave, entry_of_op, Step, goes, makes, holds, unborn, told, filter_of, Owes}
 use Rattle.loom_law.specs.Part.{Own, led, IsPart, Point, IsPlaceOf, HasMoved, KeepsAway, IsInside}
 use Rattle.loom_law.specs.Watch.{nothing_seen, seen_from, where_all_made, IsClear}
 use Rattle.loom_law.specs.Paths.{IsUnsafe}
@@ -214,3 +214,7 @@ pub record IsNearlyLawful (s : Setting) (es : List Entry) : Type 0 where
 -- That is enough. (Shown.)
 abbrev pub HasEnough : Type 0
 HasEnough = (s : Setting) (es : List Entry) → IsNearlyLawful s es → IsLawful s es
+
+-- A place has one number, as a number has one place. (Shown.)
+abbrev pub HasOneNumber : Type 0
+HasOneNumber = (p : Source) → rules.KeepsRules p → (k : ℕ) (x : Place) → place_at p k ≡ Some x → place_number p x ≡ k

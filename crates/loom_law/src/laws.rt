@@ -1,5 +1,5 @@
 //! Laws of full parts and of journals, stated as the contracts of functions that do nothing.
-ghost use Rattle.loom_law.specs.Laws.{HasHeldRegions, HasOnePart, HasOneMove, HasOneMade, HasBalance, HasExclusion, IsAlwaysObeyed, HasNewest, HasOwedActive, HasOwedInstalled, HasHeldLeaves, HasRightLeaves, HasFronts, HasEmptyEnds, HasBeginning, HasEventTurns, HasOperationTurns, HasControlTurns, HasEnough, HasSoundPlaces, IsOutsideWhereFlagged};
+ghost use Rattle.loom_law.specs.Laws.{HasHeldRegions, HasOnePart, HasOneMove, HasOneMade, HasBalance, HasExclusion, IsAlwaysObeyed, HasNewest, HasOwedActive, HasOwedInstalled, HasHeldLeaves, HasRightLeaves, HasFronts, HasEmptyEnds, HasBeginning, HasEventTurns, HasOperationTurns, HasControlTurns, HasEnough, HasSoundPlaces, IsOutsideWhereFlagged, HasOneNumber};
 
 /// A thread holds each clause whose regions it is inside.
 pub fn held_regions()
@@ -104,4 +104,9 @@ pub fn sound_places()
 /// So a filter sees nothing of a thread that stands at a flagged place.
 pub fn outside_where_flagged()
     ensures { IsOutsideWhereFlagged }
+{}
+
+/// A place has one number.
+pub fn one_number()
+    ensures { HasOneNumber }
 {}

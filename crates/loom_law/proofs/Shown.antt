@@ -1,410 +1,430 @@
--- Worked programs, their runs, and lists that are no run.
-use Rattle.std.proofs.Common.{ℕ, ◌≡◌, inl, inr, pos, List, [], ◌∷◌, ◌++◌, map, Some, None, refl, ap, subst, codes, arith}
+-- A worked program with a filter: its journal, the full parts of its threads, and lists that are no part.
+use Rattle.std.proofs.Common.{ℕ, Bool, true, false, ◌&&◌, ◌||◌, ◌==◌, ◌≡◌, zero, suc, inl, inr, pos, List, [], ◌∷◌, map, Some, None, refl, sym, ap, subst, codes, arith}
 use Rattle.loom_trace.specs.declared.entry.Entry.{Entry}
 use Rattle.loom_trace.specs.declared.entry.Entry.TheVariants as e
-use Rattle.loom_tree.specs.declared.expression.Op.TheVariants as o
-use Rattle.loom_tree.specs.Tree.{num, var, bin, Right, Simple, let_, set, simple, while_, Source}
-use Rattle.loom_tree.specs.Tree as tree
-use Rattle.loom_lang.specs.Rules.{KeepsRules}
-use Rattle.loom_lang.specs.Trace.{Act, begin, end, trap, threads, overflow, read, write, lock, spawn, join, print, Finished, Open}
-use Rattle.loom_lang.specs.Acts.{Deed, IsAlike}
-use Rattle.loom_lang.proofs.Shown.{tested}
-use Rattle.loom_lang.proofs.NextAct.{one_next_act}
-use Rattle.loom_lang.proofs.Shown.{calls}
-use Rattle.loom_law.specs.Event.{Event}
-use Rattle.loom_law.specs.Replay.{start, thread_at, replay, AreAllowed}
-use Rattle.loom_law.specs.Run.{IsTraced, IsThreadTraced, IsRun}
-use Rattle.loom_law.proofs.Runs.{next, given, threads_traced, begins, does, allowed_behind, event_of, events_told}
+use Rattle.loom_trace.specs.declared.entry.What.TheVariants as w
+use Rattle.loom_trace.specs.declared.entry.Ending.TheVariants as k
+use Rattle.loom_lang.specs.Trace.{Locals, begin, end, read, write, spawn, join, print, made, begins, done, enter, out, Finished, IsTrace}
+use Rattle.loom_event.proofs.Shown.{adds}
+use Rattle.loom_event.proofs.Runs.{next, given}
+use Rattle.loom_command.specs.Filter.{Region, Clause, Filter}
+use Rattle.loom_law.specs.Filter.{plan_of}
+use Rattle.loom_command.specs.Filter as filters
+use Rattle.loom_law.specs.Walk.{Version, Op, enters, past, leave, blocked, Step, goes, makes, items, told}
+use Rattle.loom_law.specs.Walk as walk
+use Rattle.loom_command.specs.Script as script
+use Rattle.loom_law.specs.Control.{means, install, Command}
+use Rattle.loom_law.specs.Control as control
+use Rattle.loom_law.specs.Part.{Own, IsPart}
+use Rattle.loom_lang.specs.Places.{nowhere}
+use Rattle.loom_event.specs.Event.{Event}
+use Rattle.loom_event.specs.Replay.{start, thread_at, replay}
+use Rattle.loom_event.specs.Run.{AreRun}
+use Rattle.loom_event.proofs.Shown.{event}
+use Rattle.loom_law.specs.Filter.{is_alone}
+use Rattle.loom_law.specs.Control.{Control, command_at, entries_of, listed}
+use Rattle.loom_law.specs.Lawful.{Setting, Front, plans, over, owes_cross, is_cross, IsDue, IsParked, MayMove, MayInstall, HasPart, StandsAt, IsOutside, IsLawful}
+use Rattle.loom_event.proofs.Runs.{threads_traced, does, events_told, event_of}
+use Rattle.loom_event.proofs.Runs as runs
+use Rattle.loom_event.specs.Run.{IsTraced}
+use Rattle.loom_event.proofs.Shown.{deed}
+use Rattle.loom_law.specs.Filter.{clauses}
+use Rattle.loom_law.specs.Walk.{unborn, holds, walked}
+use Rattle.loom_tree.specs.Tree.{Source}
+use Rattle.loom_trace.specs.declared.entry.What.{What}
+use Rattle.loom_lang.specs.Trace.{Item}
+use Rattle.loom_law.specs.Walk.{Walk, after_op, MayStand}
+use Rattle.loom_law.specs.Lawful.{Follows, Posted}
+use Rattle.loom_law.proofs.Held.{Covers}
+use Rattle.loom_law.proofs.Inside.{none_cross, steps_cross, covered, good_start}
+use Rattle.loom_law.proofs.Fronts.{front_at, Each, each_one, StandsBehind, nothing_made}
+use Rattle.loom_event.specs.Replay.{Spawned}
 
-abbrev pub deed : ℕ → Act → Deed
-deed l a = record { line = l; act = a }
+-- both updates are kept: {inc.lm:3; inc.lm:3} <> {inc.lm:7; inc.lm:7}
+abbrev pub on_line : ℕ → filters.Event
+on_line l = record { file = codes "inc.lm"; line = l; test = None }
 
-abbrev pub event : ℕ → ℕ → Act → Event
-event t l a = record { thread = t; line = l; act = a }
+abbrev pub fix : Filter
+fix = Clause.exclusive (Region.between (on_line 3 ∷ []) (on_line 3 ∷ []) ∷ Region.between (on_line 7 ∷ []) (on_line 7 ∷ []) ∷ []) ∷ []
 
--- Two threads add to a word
+abbrev pub commands : List Command
+commands = record { trigger = script.at 0; name = codes "fix"; action = install (means (plan_of adds fix)) } ∷ []
 
--- 1  shared x;
--- 2  fn add() {
--- 3    x = x + 1;
--- 4  }
--- 5  fn main() {
--- 6    let a = spawn add();
--- 7    x = x + 1;
--- 8    join a;
--- 9    print x;
--- 10 }
-abbrev pub adds : Source
-adds = record {
-  words = record { name = codes "x"; cells = None; first = pos 0 } ∷ [];
-  mutexes = [];
-  semas = [];
-  funcs = record {
-    name = codes "add";
-    line = 2;
-    params = [];
-    body = simple 3 (set (codes "x") (Right.value (bin o.Add (var (codes "x")) (num (pos 1))))) tree.end;
-  } ∷ record {
-    name = codes "main";
-    line = 5;
-    params = [];
-    body = simple 6 (let_ (codes "a") (Right.spawn (codes "add") []))
-        (simple 7 (set (codes "x") (Right.value (bin o.Add (var (codes "x")) (num (pos 1)))))
-        (simple 8 (tree.join (var (codes "a")))
-        (simple 9 (tree.print (var (codes "x"))) tree.end)));
-  } ∷ [];
+abbrev pub setting : Setting
+setting = record { program = adds; commands = commands; limit = 100000; stop = λ x. false }
+
+abbrev pub journal : List Entry
+journal =
+    e.Asked 1 ∷ e.Installed 1 1 (0 ∷ 0 ∷ 0 ∷ 0 ∷ 0 ∷ 0 ∷ 0 ∷ 0 ∷ []) ∷ e.Begin 1 5 ∷ e.Spawn 1 6 2 0 [] ∷ e.Begin 2 2 ∷ e.Enter 1 7 1 1
+    ∷ e.Blocked 2 3 (w.Enter 1 1) ∷ e.At 1 7 1 (3 ∷ 4 ∷ []) ∷ e.Read 1 7 0 (pos 0) ∷ e.Write 1 7 0 (pos 1) ∷ e.Past 1 7 1 (3 ∷ 4 ∷ [])
+    ∷ e.Leave 1 7 1 1 ∷ e.Enter 2 3 1 1 ∷ e.Blocked 1 8 (w.Join 2) ∷ e.At 2 3 1 (1 ∷ 2 ∷ []) ∷ e.Read 2 3 0 (pos 1) ∷ e.Write 2 3 0 (pos 2)
+    ∷ e.Past 2 3 1 (1 ∷ 2 ∷ []) ∷ e.Leave 2 3 1 1 ∷ e.End 2 2 ∷ e.Join 1 8 2 ∷ e.Read 1 9 0 (pos 2) ∷ e.Print 1 9 (pos 2) ∷ e.End 1 5
+    ∷ e.Finish k.Done ∷ []
+
+-- The full parts
+
+abbrev pub version : Version
+version = record { number = 1; active = 1 ∷ [] }
+
+abbrev pub add_own : Own
+add_own = record {
+  thread = 2;
+  func = 0;
+  args = [];
+  versions = version ∷ [];
+  entries = e.Begin 2 2 ∷ e.Blocked 2 3 (w.Enter 1 1) ∷ e.Enter 2 3 1 1 ∷ e.At 2 3 1 (1 ∷ 2 ∷ []) ∷ e.Read 2 3 0 (pos 1) ∷ e.Write 2 3 0 (pos 2)
+      ∷ e.Past 2 3 1 (1 ∷ 2 ∷ []) ∷ e.Leave 2 3 1 1 ∷ e.End 2 2 ∷ [];
 }
 
-pub adds_lawful : KeepsRules adds
-adds_lawful = tested adds refl
+abbrev pub add_steps : List Step
+add_steps =
+    goes (made 2 begin) ∷ goes (enter 0 []) ∷ goes (begins 3 []) ∷ makes 3 (blocked (w.Enter 1 1)) ∷ makes 3 (enters 1 1)
+    ∷ makes 3 (walk.at 1 (1 ∷ 2 ∷ [])) ∷ goes (made 3 (read 0 (pos 1))) ∷ goes (made 3 (write 0 (pos 2))) ∷ goes (done 3)
+    ∷ makes 3 (past 1 (1 ∷ 2 ∷ [])) ∷ makes 3 (leave 1 1) ∷ goes (out 0) ∷ goes (made 2 end) ∷ []
 
-abbrev pub adds_events : List Event
-adds_events =
-    event 1 5 begin ∷ event 1 6 (spawn 2 0 []) ∷ event 2 2 begin ∷ event 1 7 (read 0 (pos 0)) ∷ event 2 3 (read 0 (pos 0))
-    ∷ event 1 7 (write 0 (pos 1)) ∷ event 2 3 (write 0 (pos 1)) ∷ event 2 2 end ∷ event 1 8 (join 2) ∷ event 1 9 (read 0 (pos 1))
-    ∷ event 1 9 (print (pos 1)) ∷ event 1 5 end ∷ []
+add_trace : IsTrace adds 0 [] (items add_steps) Finished
+add_trace = record {
+  most_turns = 0;
+  gives =
+      next (next
+      (next (given (pos 1) (next (next (next
+      (next (next (refl, inl refl)))))))));
+}
 
-abbrev pub adds_entries : List Entry
-adds_entries =
-    e.Begin 1 5 ∷ e.Spawn 1 6 2 0 [] ∷ e.Begin 2 2 ∷ e.Read 1 7 0 (pos 0) ∷ e.Read 2 3 0 (pos 0) ∷ e.Write 1 7 0 (pos 1) ∷ e.Write 2 3 0 (pos 1)
-    ∷ e.End 2 2 ∷ e.Join 1 8 2 ∷ e.Read 1 9 0 (pos 1) ∷ e.Print 1 9 (pos 1) ∷ e.End 1 5 ∷ []
-
--- what `add` does where it reads 0
-add_traced : IsTraced adds 0 [] (deed 2 begin ∷ deed 3 (read 0 (pos 0)) ∷ deed 3 (write 0 (pos 1)) ∷ deed 2 end ∷ [])
-add_traced = record {
-  items = _;
+pub add_part : IsPart adds (plans setting) add_own
+add_part = record {
+  steps = add_steps;
+  ahead = [];
   outcome = Finished;
-  trace = record {
-    most_turns = 0;
-    gives =
-        next (next
-        (next (given (pos 0) (next (next (next
-        (next (next (refl, inl refl)))))))));
-  };
-  same = refl;
+  trace = add_trace;
+  woven = ((refl, tt), (refl, (refl, (record { asks = refl; not_yet = refl }, (refl, (refl, (refl, (refl, (refl, (refl, (refl, (refl, (refl, tt)))))))))))));
+  tells = refl;
+  taken = refl;
 }
 
-adding_traced : IsTraced adds 1 [] (deed 5 begin ∷ deed 6 (spawn 2 0 []) ∷ deed 7 (read 0 (pos 0)) ∷ deed 7 (write 0 (pos 1)) ∷ deed 8 (join 2)
-    ∷ deed 9 (read 0 (pos 1)) ∷ deed 9 (print (pos 1)) ∷ deed 5 end ∷ [])
-adding_traced = record {
-  items = _;
+abbrev pub main_own : Own
+main_own = record {
+  thread = 1;
+  func = 1;
+  args = [];
+  versions = version ∷ [];
+  entries = e.Begin 1 5 ∷ e.Spawn 1 6 2 0 [] ∷ e.Enter 1 7 1 1 ∷ e.At 1 7 1 (3 ∷ 4 ∷ []) ∷ e.Read 1 7 0 (pos 0) ∷ e.Write 1 7 0 (pos 1)
+      ∷ e.Past 1 7 1 (3 ∷ 4 ∷ []) ∷ e.Leave 1 7 1 1 ∷ e.Blocked 1 8 (w.Join 2) ∷ e.Join 1 8 2 ∷ e.Read 1 9 0 (pos 2) ∷ e.Print 1 9 (pos 2)
+      ∷ e.End 1 5 ∷ [];
+}
+
+abbrev pub before_spawn : Locals
+before_spawn = (codes "a", pos 0) ∷ []
+
+abbrev pub behind_spawn : Locals
+behind_spawn = (codes "a", pos 2) ∷ []
+
+abbrev pub main_steps : List Step
+main_steps =
+    goes (made 5 begin) ∷ goes (enter 1 before_spawn) ∷ goes (begins 6 before_spawn) ∷ goes (made 6 (spawn 2 0 [])) ∷ goes (done 6)
+    ∷ goes (begins 7 behind_spawn) ∷ makes 7 (enters 1 1) ∷ makes 7 (walk.at 1 (3 ∷ 4 ∷ [])) ∷ goes (made 7 (read 0 (pos 0)))
+    ∷ goes (made 7 (write 0 (pos 1))) ∷ goes (done 7) ∷ makes 7 (past 1 (3 ∷ 4 ∷ [])) ∷ makes 7 (leave 1 1) ∷ goes (begins 8 behind_spawn)
+    ∷ makes 8 (blocked (w.Join 2)) ∷ goes (made 8 (join 2)) ∷ goes (done 8) ∷ goes (begins 9 behind_spawn) ∷ goes (made 9 (read 0 (pos 2)))
+    ∷ goes (made 9 (print (pos 2))) ∷ goes (done 9) ∷ goes (out 1) ∷ goes (made 5 end) ∷ []
+
+main_trace : IsTrace adds 1 [] (items main_steps) Finished
+main_trace = record {
+  most_turns = 0;
+  gives =
+      next (next
+      (next (inr (given 2 (next (next
+      (next (given (pos 0) (next (next (next
+      (next (inr (next (next
+      (next (given (pos 2) (next (next (next
+      (next (next (refl, inl refl)))))))))))))))))))))));
+}
+
+pub main_part : IsPart adds (plans setting) main_own
+main_part = record {
+  steps = main_steps;
+  ahead = [];
   outcome = Finished;
-  trace = record {
-    most_turns = 0;
-    gives =
-        next (next
-        (next (inr (given 2 (next (next
-        (next (given (pos 0) (next (next (next
-        (next (inr (next (next
-        (next (given (pos 1) (next (next (next
-        (next (next (refl, inl refl)))))))))))))))))))))));
-  };
-  same = refl;
+  trace = main_trace;
+  woven = (
+    (refl, tt),
+    (
+      refl,
+      (
+        refl,
+        (
+          refl,
+          (
+            refl,
+            (
+              refl,
+              (
+                refl,
+                (
+                  refl,
+                  (
+                    refl,
+                    (
+                      refl,
+                      (
+                        refl,
+                        (
+                          refl,
+                          (
+                            refl,
+                            (
+                              refl,
+                              (
+                                record { asks = refl; not_yet = refl },
+                                (
+                                  refl,
+                                  (
+                                    refl,
+                                    (
+                                      refl,
+                                      (refl, (refl, (refl, (refl, (refl, tt))))),
+                                    ),
+                                  ),
+                                ),
+                              ),
+                            ),
+                          ),
+                        ),
+                      ),
+                    ),
+                  ),
+                ),
+              ),
+            ),
+          ),
+        ),
+      ),
+    ),
+  );
+  tells = refl;
+  taken = refl;
 }
 
-pub adds_run : IsRun adds adds_entries
-adds_run = record {
-  events = adds_events;
-  told = refl;
-  run = record {
-    traced = threads_traced adds adds_events (adding_traced, (add_traced, tt)) refl refl;
-    allowed =
-        begins refl refl (does refl (refl, omega arith) (begins refl refl (does refl refl (does refl refl (does refl tt (does refl tt (does refl tt
-        (does refl (record { state = _; is = refl; ended = refl }) (does refl refl (does refl tt (does refl tt tt)))))))))));
-  };
-}
+-- The journal
 
--- The write of thread 2 is lost: behind its read it asks for a write, and not for its end.
-abbrev pub lost_events : List Event
-lost_events =
-    event 1 5 begin ∷ event 1 6 (spawn 2 0 []) ∷ event 2 2 begin ∷ event 1 7 (read 0 (pos 0)) ∷ event 2 3 (read 0 (pos 0))
-    ∷ event 1 7 (write 0 (pos 1)) ∷ event 2 2 end ∷ event 1 8 (join 2) ∷ event 1 9 (read 0 (pos 1)) ∷ event 1 9 (print (pos 1)) ∷ event 1 5 end ∷ []
+abbrev pub events : List Event
+events =
+    event 1 5 begin ∷ event 1 6 (spawn 2 0 []) ∷ event 2 2 begin ∷ event 1 7 (read 0 (pos 0)) ∷ event 1 7 (write 0 (pos 1))
+    ∷ event 2 3 (read 0 (pos 1)) ∷ event 2 3 (write 0 (pos 2)) ∷ event 2 2 end ∷ event 1 8 (join 2) ∷ event 1 9 (read 0 (pos 2))
+    ∷ event 1 9 (print (pos 2)) ∷ event 1 5 end ∷ []
 
-abbrev pub lost_entries : List Entry
-lost_entries =
-    e.Begin 1 5 ∷ e.Spawn 1 6 2 0 [] ∷ e.Begin 2 2 ∷ e.Read 1 7 0 (pos 0) ∷ e.Read 2 3 0 (pos 0) ∷ e.Write 1 7 0 (pos 1) ∷ e.End 2 2 ∷ e.Join 1 8 2
-    ∷ e.Read 1 9 0 (pos 1) ∷ e.Print 1 9 (pos 1) ∷ e.End 1 5 ∷ []
+pub all_parts : (t : ℕ) → HasPart setting journal t (thread_at (replay (start adds) events) t)
+all_parts zero = refl
+all_parts (suc zero) = main_part
+all_parts (suc (suc zero)) = add_part
+all_parts (suc (suc (suc t))) = nothing_made 3 (suc (suc (suc t))) journal (omega arith) refl
 
-pub lost_is_no_run : IsRun adds lost_entries → ⊥
-lost_is_no_run h =
-    let same : h.events ≡ lost_events = events_told h.events lost_events (ap (map event_of) h.told) in
-    let P : List Event → Type 0 = λ xs. IsThreadTraced adds xs 2 (thread_at (replay (start adds) xs) 2) in
-    let lost : IsTraced adds 0 [] (deed 2 begin ∷ deed 3 (read 0 (pos 0)) ∷ deed 2 end ∷ []) = subst P same (h.run.traced 2) in
-    let good = add_traced in
-    let front : List Deed = deed 2 begin ∷ deed 3 (read 0 (pos 0)) ∷ [] in
-    let alike : IsAlike (deed 3 (write 0 (pos 1))) (deed 2 end) =
-    one_next_act adds 0 [] good.items lost.items good.outcome lost.outcome good.trace lost.trace front _ _ _ _ good.same lost.same in
-    let equal : write 0 (pos 1) ≡ end = alike.act in
+-- behind the one command none is due, and no filter is unilateral
+nothing_due : (f : Front) → Control.next f.control ≡ 2 → IsDue setting f → ⊥
+nothing_due f is h =
+    let P : ℕ → Type 0 = λ n. command_at commands n ≡ Some h.command in
+    let none : command_at commands 2 ≡ Some h.command = subst P is h.is in
     cc
 
--- The last read gives 7, where the word is 1.
-abbrev pub changed_front : List Event
-changed_front =
-    event 1 5 begin ∷ event 1 6 (spawn 2 0 []) ∷ event 2 2 begin ∷ event 1 7 (read 0 (pos 0)) ∷ event 2 3 (read 0 (pos 0))
-    ∷ event 1 7 (write 0 (pos 1)) ∷ event 2 3 (write 0 (pos 1)) ∷ event 2 2 end ∷ event 1 8 (join 2) ∷ []
+never : (b : Bool) → ((b && false) || false) ≡ true → ⊥
+never true h = cc
+never false h = cc
 
-abbrev pub changed_rest : List Event
-changed_rest = event 1 9 (read 0 (pos 7)) ∷ event 1 9 (print (pos 7)) ∷ event 1 5 end ∷ []
+none_alone : (k c : ℕ) → is_alone (plans setting k) c ≡ true → ⊥
+none_alone zero c h = cc
+none_alone (suc zero) c h = never (1 == c) h
+none_alone (suc (suc k)) c h = cc
 
-abbrev pub changed_entries : List Entry
-changed_entries =
-    e.Begin 1 5 ∷ e.Spawn 1 6 2 0 [] ∷ e.Begin 2 2 ∷ e.Read 1 7 0 (pos 0) ∷ e.Read 2 3 0 (pos 0) ∷ e.Write 1 7 0 (pos 1) ∷ e.Write 2 3 0 (pos 1)
-    ∷ e.End 2 2 ∷ e.Join 1 8 2 ∷ e.Read 1 9 0 (pos 7) ∷ e.Print 1 9 (pos 7) ∷ e.End 1 5 ∷ []
+moves : {f : Front} {t : ℕ} {x : Entry} → over setting f ≡ false → Control.closing f.control ≡ false → Control.next f.control ≡ 2
+    → Control.asked f.control ≡ None → is_cross x ≡ owes_cross x (listed t f.entries) → IsParked setting f t x (Control.asked f.control)
+    → MayMove setting f t x
+moves {f = f} runs closing next asked crosses parked = record {
+  goes_on = record {
+    runs = runs;
+    not_closing = closing;
+    not_due = nothing_due f next;
+    not_refused = λ k h. cc;
+  };
+  not_held_off = λ h. none_alone h.filter h.clause h.alone;
+  crosses = crosses;
+  parked = parked;
+}
 
-pub changed_is_no_run : IsRun adds changed_entries → ⊥
-changed_is_no_run h =
-    let same : h.events ≡ changed_front ++ changed_rest = events_told h.events (changed_front ++ changed_rest) (ap (map event_of) h.told) in
-    let allowed : AreAllowed (start adds) (changed_front ++ changed_rest) = subst (AreAllowed (start adds)) same h.run.allowed in
-    let behind : AreAllowed (replay (start adds) changed_front) changed_rest = allowed_behind (start adds) changed_front changed_rest allowed in
-    let word : Some (pos 1) ≡ Some (pos 7) = behind.0.1 in
+stands_nowhere : (t : ℕ) → StandsAt setting (front_at setting events (e.Asked 1 ∷ [])) t nowhere
+stands_nowhere zero = refl
+stands_nowhere (suc zero) = refl
+stands_nowhere (suc (suc t)) = refl
+
+outside_first : (t : ℕ) → IsOutside setting (e.Asked 1 ∷ []) t (thread_at (start adds) t) (plan_of adds fix) nowhere
+outside_first zero = tt
+outside_first (suc zero) = tt
+outside_first (suc (suc t)) = tt
+
+installs : MayInstall setting (front_at setting events (e.Asked 1 ∷ [])) 1 1 (0 ∷ 0 ∷ 0 ∷ 0 ∷ 0 ∷ 0 ∷ 0 ∷ 0 ∷ [])
+installs = record {
+  command = _;
+  is = refl;
+  plan = plan_of adds fix;
+  installs = refl;
+  asked = refl;
+  not_refused = refl;
+  version = refl;
+  lists = record { count = refl; place = λ t. nowhere; are = refl; stands = stands_nowhere; flagged = λ t. inl refl };
+  outside = outside_first;
+}
+
+all_ended : (t : ℕ) (x : Spawned) → thread_at (replay (start adds) events) t ≡ Some x → x.ended ≡ true
+all_ended zero x h = cc
+all_ended (suc zero) x h = cc
+all_ended (suc (suc zero)) x h = cc
+all_ended (suc (suc (suc t))) x h = cc
+
+first_due : IsDue setting (front_at setting events [])
+first_due = record { command = _; is = refl; answered = refl; not_closing = refl; runs = refl; triggered = omega arith }
+
+pub entries_stand : Each (StandsBehind setting events) [] journal
+entries_stand = (
+  (first_due, refl),
+  (
+    (refl, installs),
+    (
+      (moves refl refl refl refl refl tt, tt),
+      (
+        moves refl refl refl refl refl tt,
+        (
+          (moves refl refl refl refl refl tt, tt),
+          (
+            (moves refl refl refl refl refl tt, (refl, refl)),
+            (
+              (moves refl refl refl refl refl tt, record { by = 1; other = refl; holds = refl }),
+              (
+                (moves refl refl refl refl refl tt, (refl, (tt, (tt, tt)))),
+                (
+                  moves refl refl refl refl refl tt,
+                  (
+                    moves refl refl refl refl refl tt,
+                    (
+                      (moves refl refl refl refl refl tt, refl),
+                      (
+                        (moves refl refl refl refl refl tt, refl),
+                        (
+                          (moves refl refl refl refl refl tt, (refl, refl)),
+                          (
+                            (moves refl refl refl refl refl tt, (_, refl, refl)),
+                            (
+                              (moves refl refl refl refl refl tt, (refl, (tt, (tt, tt)))),
+                              (
+                                moves refl refl refl refl refl tt,
+                                (
+                                  moves refl refl refl refl refl tt,
+                                  (
+                                    (moves refl refl refl refl refl tt, refl),
+                                    (
+                                      (moves refl refl refl refl refl tt, refl),
+                                      (
+                                        (moves refl refl refl refl refl tt, refl),
+                                        (
+                                          moves refl refl refl refl refl tt,
+                                          (
+                                            moves refl refl refl refl refl tt,
+                                            (
+                                              moves refl refl refl refl refl tt,
+                                              (
+                                                (moves refl refl refl refl refl tt, refl),
+                                                (
+                                                  (refl, (refl, (omega arith, (refl, (all_ended, nothing_due _ refl))))),
+                                                  tt,
+                                                ),
+                                              ),
+                                            ),
+                                          ),
+                                        ),
+                                      ),
+                                    ),
+                                  ),
+                                ),
+                              ),
+                            ),
+                          ),
+                        ),
+                      ),
+                    ),
+                  ),
+                ),
+              ),
+            ),
+          ),
+        ),
+      ),
+    ),
+  ),
+)
+
+main_traced : IsTraced adds 1 [] (deed 5 begin ∷ deed 6 (spawn 2 0 []) ∷ deed 7 (read 0 (pos 0)) ∷ deed 7 (write 0 (pos 1)) ∷ deed 8 (join 2)
+    ∷ deed 9 (read 0 (pos 2)) ∷ deed 9 (print (pos 2)) ∷ deed 5 end ∷ [])
+main_traced = record { items = items main_steps; outcome = Finished; trace = main_trace; same = refl }
+
+add_traced : IsTraced adds 0 [] (deed 2 begin ∷ deed 3 (read 0 (pos 1)) ∷ deed 3 (write 0 (pos 2)) ∷ deed 2 end ∷ [])
+add_traced = record { items = items add_steps; outcome = Finished; trace = add_trace; same = refl }
+
+run : AreRun adds events
+run = record {
+  traced = threads_traced adds events (main_traced, (add_traced, tt)) refl refl;
+  allowed =
+      runs.begins refl refl (does refl (refl, omega arith) (runs.begins refl refl (does refl refl (does refl tt (does refl refl (does refl tt (does refl tt
+      (does refl (record { state = _; is = refl; ended = refl }) (does refl refl (does refl tt (does refl tt tt)))))))))));
+}
+
+-- The journal is lawful.
+pub lawful : IsLawful setting journal
+lawful = record {
+  events = events;
+  tells = refl;
+  run = run;
+  parts = all_parts;
+  stands = each_one (StandsBehind setting events) journal entries_stand;
+}
+
+-- Without the enter before the watched line these are no entries of thread 1, and the journal isn't lawful
+
+abbrev pub bare_own : Own
+bare_own = record main_own {
+  entries = e.Begin 1 5 ∷ e.Spawn 1 6 2 0 [] ∷ e.At 1 7 1 (3 ∷ 4 ∷ []) ∷ e.Read 1 7 0 (pos 0) ∷ e.Write 1 7 0 (pos 1)
+      ∷ e.Past 1 7 1 (3 ∷ 4 ∷ []) ∷ e.Leave 1 7 1 1 ∷ e.Blocked 1 8 (w.Join 2) ∷ e.Join 1 8 2 ∷ e.Read 1 9 0 (pos 2) ∷ e.Print 1 9 (pos 2)
+      ∷ e.End 1 5 ∷ [];
+}
+
+pub bare_is_no_part : IsPart adds (plans setting) bare_own → ⊥
+bare_is_no_part h =
+    let none : none_cross (told 1 h.steps) ≡ true = subst (λ es. none_cross es ≡ true) (sym h.tells) refl in
+    let held : Covers [] 1 (3 ∷ 4 ∷ []) (clauses (plans setting 1)) =
+    covered adds (plans setting) (unborn (version ∷ [])) 1 h.steps h.ahead (e.Begin 1 5 ∷ e.Spawn 1 6 2 0 [] ∷ []) 7 1 (3 ∷ 4 ∷ []) _
+    (steps_cross 1 h.steps none) h.woven (good_start (plans setting) (version ∷ [])) h.tells in
+    let bad : false ≡ true = held.0 refl in
     cc
 
--- One thread calls, loops and counts
+abbrev pub bare_journal : List Entry
+bare_journal =
+    e.Asked 1 ∷ e.Installed 1 1 (0 ∷ 0 ∷ 0 ∷ 0 ∷ 0 ∷ 0 ∷ 0 ∷ 0 ∷ []) ∷ e.Begin 1 5 ∷ e.Spawn 1 6 2 0 [] ∷ e.Begin 2 2
+    ∷ e.Blocked 2 3 (w.Enter 1 1) ∷ e.At 1 7 1 (3 ∷ 4 ∷ []) ∷ e.Read 1 7 0 (pos 0) ∷ e.Write 1 7 0 (pos 1) ∷ e.Past 1 7 1 (3 ∷ 4 ∷ [])
+    ∷ e.Leave 1 7 1 1 ∷ e.Enter 2 3 1 1 ∷ e.Blocked 1 8 (w.Join 2) ∷ e.At 2 3 1 (1 ∷ 2 ∷ []) ∷ e.Read 2 3 0 (pos 1) ∷ e.Write 2 3 0 (pos 2)
+    ∷ e.Past 2 3 1 (1 ∷ 2 ∷ []) ∷ e.Leave 2 3 1 1 ∷ e.End 2 2 ∷ e.Join 1 8 2 ∷ e.Read 1 9 0 (pos 2) ∷ e.Print 1 9 (pos 2) ∷ e.End 1 5
+    ∷ e.Finish k.Done ∷ []
 
-abbrev pub calls_events : List Event
-calls_events =
-    event 1 5 begin ∷ event 1 3 (read 0 (pos 0)) ∷ event 1 3 (write 0 (pos 1)) ∷ event 1 9 (read 0 (pos 1)) ∷ event 1 9 (write 0 (pos 2))
-    ∷ event 1 3 (read 0 (pos 2)) ∷ event 1 3 (write 0 (pos 3)) ∷ event 1 9 (read 0 (pos 3)) ∷ event 1 9 (write 0 (pos 6)) ∷ event 1 3 (read 0 (pos 6))
-    ∷ event 1 3 (write 0 (pos 7)) ∷ event 1 9 (read 0 (pos 7)) ∷ event 1 9 (write 0 (pos 14)) ∷ event 1 12 (read 0 (pos 14))
-    ∷ event 1 12 (print (pos 14)) ∷ event 1 5 end ∷ []
+pub bare_is_unlawful : IsLawful setting bare_journal → ⊥
+bare_is_unlawful h =
+    let same : h.events ≡ events = events_told h.events events (ap (map event_of) h.tells) in
+    let P : List Event → Type 0 = λ xs. HasPart setting bare_journal 1 (thread_at (replay (start adds) xs) 1) in
+    bare_is_no_part (subst P same (h.parts 1))
 
-abbrev pub calls_entries : List Entry
-calls_entries =
-    e.Begin 1 5 ∷ e.Read 1 3 0 (pos 0) ∷ e.Write 1 3 0 (pos 1) ∷ e.Read 1 9 0 (pos 1) ∷ e.Write 1 9 0 (pos 2) ∷ e.Read 1 3 0 (pos 2)
-    ∷ e.Write 1 3 0 (pos 3) ∷ e.Read 1 9 0 (pos 3) ∷ e.Write 1 9 0 (pos 6) ∷ e.Read 1 3 0 (pos 6) ∷ e.Write 1 3 0 (pos 7) ∷ e.Read 1 9 0 (pos 7)
-    ∷ e.Write 1 9 0 (pos 14) ∷ e.Read 1 12 0 (pos 14) ∷ e.Print 1 12 (pos 14) ∷ e.End 1 5 ∷ []
+-- No thread makes `Blocked` twice behind each other, and nothing of an order begins before what it follows
 
-calling_traced : IsTraced calls 1 [] (deed 5 begin ∷ deed 3 (read 0 (pos 0)) ∷ deed 3 (write 0 (pos 1)) ∷ deed 9 (read 0 (pos 1))
-    ∷ deed 9 (write 0 (pos 2)) ∷ deed 3 (read 0 (pos 2)) ∷ deed 3 (write 0 (pos 3)) ∷ deed 9 (read 0 (pos 3)) ∷ deed 9 (write 0 (pos 6))
-    ∷ deed 3 (read 0 (pos 6)) ∷ deed 3 (write 0 (pos 7)) ∷ deed 9 (read 0 (pos 7)) ∷ deed 9 (write 0 (pos 14)) ∷ deed 12 (read 0 (pos 14))
-    ∷ deed 12 (print (pos 14)) ∷ deed 5 end ∷ [])
-calling_traced = record {
-  items = _;
-  outcome = Finished;
-  trace = record {
-    most_turns = 4;
-    gives =
-        next (next
-        (next (next
-        (next
-        (next (next (next (given (pos 0) (next (next (next (next (next
-        (next (given (pos 1) (next (next (next
-        (next (next (next
-        (next (next (next (given (pos 2) (next (next (next (next (next
-        (next (given (pos 3) (next (next (next
-        (next (next (next
-        (next (next (next (given (pos 6) (next (next (next (next (next
-        (next (given (pos 7) (next (next (next
-        (next (next (next
-        (next
-        (next (given (pos 14) (next (next (next
-        (next (next (refl, inl refl))))))))))))))))))))))))))))))))))))))))))))))))))))))))))))))));
-  };
-  same = refl;
-}
+pub not_twice : (p : Source) (z : Walk) (l : ℕ) (what : What) (rest : List Item) → MayStand p (after_op p (plans setting) z (blocked what)) (makes l (blocked what)) rest → ⊥
+not_twice p z l what rest h =
+    let bad : true ≡ false = h.not_yet in
+    cc
 
-pub calls_run : IsRun calls calls_entries
-calls_run = record {
-  events = calls_events;
-  told = refl;
-  run = record {
-    traced = threads_traced calls calls_events (calling_traced, tt) refl refl;
-    allowed =
-        begins refl refl (does refl refl (does refl tt (does refl refl (does refl tt (does refl refl (does refl tt (does refl refl (does refl tt
-        (does refl refl (does refl tt (does refl refl (does refl tt (does refl refl (does refl tt (does refl tt tt)))))))))))))));
-  };
-}
+pub not_before : (k n m : ℕ) → Follows [] k (Some (n, suc m)) → ⊥
+not_before k n m h = omega arith
 
--- A loop spawns until there are eight threads, and the next `spawn` traps
-
--- 1  fn w() {
--- 2  }
--- 3  fn main() {
--- 4    let i = 0;
--- 5    while (i < 9) {
--- 6      let t = spawn w();
--- 7      i = i + 1;
--- 8    }
--- 9  }
-abbrev pub spawns : Source
-spawns = record {
-  words = [];
-  mutexes = [];
-  semas = [];
-  funcs = record { name = codes "w"; line = 1; params = []; body = tree.end } ∷ record {
-    name = codes "main";
-    line = 3;
-    params = [];
-    body = simple 4 (let_ (codes "i") (Right.value (num (pos 0))))
-        (while_ 5 (bin o.Lt (var (codes "i")) (num (pos 9)))
-        (simple 6 (let_ (codes "t") (Right.spawn (codes "w") []))
-        (simple 7 (set (codes "i") (Right.value (bin o.Add (var (codes "i")) (num (pos 1))))) tree.end))
-        tree.end);
-  } ∷ [];
-}
-
-pub spawns_lawful : KeepsRules spawns
-spawns_lawful = tested spawns refl
-
-abbrev pub spawns_events : List Event
-spawns_events =
-    event 1 3 begin ∷ event 1 6 (spawn 2 0 []) ∷ event 2 1 begin ∷ event 1 6 (spawn 3 0 []) ∷ event 2 1 end ∷ event 3 1 begin
-    ∷ event 1 6 (spawn 4 0 []) ∷ event 3 1 end ∷ event 4 1 begin ∷ event 1 6 (spawn 5 0 []) ∷ event 4 1 end ∷ event 5 1 begin
-    ∷ event 1 6 (spawn 6 0 []) ∷ event 5 1 end ∷ event 6 1 begin ∷ event 1 6 (spawn 7 0 []) ∷ event 6 1 end ∷ event 7 1 begin
-    ∷ event 1 6 (spawn 8 0 []) ∷ event 7 1 end ∷ event 8 1 begin ∷ event 1 6 (trap threads) ∷ event 8 1 end ∷ event 1 3 end ∷ []
-
-abbrev pub spawns_entries : List Entry
-spawns_entries =
-    e.Begin 1 3 ∷ e.Spawn 1 6 2 0 [] ∷ e.Begin 2 1 ∷ e.Spawn 1 6 3 0 [] ∷ e.End 2 1 ∷ e.Begin 3 1 ∷ e.Spawn 1 6 4 0 [] ∷ e.End 3 1 ∷ e.Begin 4 1
-    ∷ e.Spawn 1 6 5 0 [] ∷ e.End 4 1 ∷ e.Begin 5 1 ∷ e.Spawn 1 6 6 0 [] ∷ e.End 5 1 ∷ e.Begin 6 1 ∷ e.Spawn 1 6 7 0 [] ∷ e.End 6 1 ∷ e.Begin 7 1
-    ∷ e.Spawn 1 6 8 0 [] ∷ e.End 7 1 ∷ e.Begin 8 1 ∷ e.Trap 1 6 5 ∷ e.End 8 1 ∷ e.End 1 3 ∷ []
-
-w_traced : IsTraced spawns 0 [] (deed 1 begin ∷ deed 1 end ∷ [])
-w_traced = record {
-  items = _;
-  outcome = Finished;
-  trace = record {
-    most_turns = 0;
-    gives =
-        next (next
-        (next (next (refl, inl refl))));
-  };
-  same = refl;
-}
-
-spawning_traced : IsTraced spawns 1 [] (deed 3 begin ∷ deed 6 (spawn 2 0 []) ∷ deed 6 (spawn 3 0 []) ∷ deed 6 (spawn 4 0 []) ∷ deed 6 (spawn 5 0 [])
-    ∷ deed 6 (spawn 6 0 []) ∷ deed 6 (spawn 7 0 []) ∷ deed 6 (spawn 8 0 []) ∷ deed 6 (trap threads) ∷ deed 3 end ∷ [])
-spawning_traced = record {
-  items = _;
-  outcome = Finished;
-  trace = record {
-    most_turns = 8;
-    gives =
-        next (next
-        (next (next
-        (next
-        (next (inr (given 2 (next (next (next (next (next
-        (next (inr (given 3 (next (next (next (next (next
-        (next (inr (given 4 (next (next (next (next (next
-        (next (inr (given 5 (next (next (next (next (next
-        (next (inr (given 6 (next (next (next (next (next
-        (next (inr (given 7 (next (next (next (next (next
-        (next (inr (given 8 (next (next (next (next (next
-        (next (inl (next (next (refl, inl refl)))))))))))))))))))))))))))))))))))))))))))))))))))))))))))))))));
-  };
-  same = refl;
-}
-
-pub spawns_run : IsRun spawns spawns_entries
-spawns_run = record {
-  events = spawns_events;
-  told = refl;
-  run = record {
-    traced = threads_traced spawns spawns_events (spawning_traced, (w_traced, (w_traced, (w_traced, (w_traced, (w_traced, (w_traced, (w_traced, tt)))))))) refl refl;
-    allowed =
-        begins refl refl (does refl (refl, omega arith) (begins refl refl (does refl (refl, omega arith) (does refl tt (begins refl refl
-        (does refl (refl, omega arith) (does refl tt (begins refl refl (does refl (refl, omega arith) (does refl tt (begins refl refl
-        (does refl (refl, omega arith) (does refl tt (begins refl refl (does refl (refl, omega arith) (does refl tt (begins refl refl
-        (does refl (refl, omega arith) (does refl tt (begins refl refl (does refl (omega arith) (does refl tt (does refl tt tt)))))))))))))))))))))));
-  };
-}
-
--- A semaphore at its greatest value traps
-
--- 1  sema s = 2147483647;
--- 2  fn main() {
--- 3    up s;
--- 4  }
-abbrev pub full : Source
-full = record {
-  words = [];
-  mutexes = [];
-  semas = record { name = codes "s"; first = 2147483647 } ∷ [];
-  funcs = record { name = codes "main"; line = 2; params = []; body = simple 3 (tree.up (codes "s")) tree.end } ∷ [];
-}
-
-pub full_lawful : KeepsRules full
-full_lawful = tested full refl
-
-abbrev pub full_events : List Event
-full_events =
-    event 1 2 begin ∷ event 1 3 (trap (overflow 0)) ∷ event 1 2 end ∷ []
-
-abbrev pub full_entries : List Entry
-full_entries =
-    e.Begin 1 2 ∷ e.Trap 1 3 7 ∷ e.End 1 2 ∷ []
-
-raising_traced : IsTraced full 0 [] (deed 2 begin ∷ deed 3 (trap (overflow 0)) ∷ deed 2 end ∷ [])
-raising_traced = record {
-  items = _;
-  outcome = Finished;
-  trace = record {
-    most_turns = 0;
-    gives =
-        next (next
-        (next (inl (next (next (refl, inl refl))))));
-  };
-  same = refl;
-}
-
-pub full_run : IsRun full full_entries
-full_run = record {
-  events = full_events;
-  told = refl;
-  run = record {
-    traced = threads_traced full full_events (raising_traced, tt) refl refl;
-    allowed =
-        begins refl refl (does refl refl (does refl tt tt));
-  };
-}
-
--- A thread waits for its own mutex: its trace breaks off
-
--- 1  mutex m;
--- 2  fn main() {
--- 3    lock m;
--- 4    lock m;
--- 5  }
-abbrev pub locks : Source
-locks = record {
-  words = [];
-  mutexes = codes "m" ∷ [];
-  semas = [];
-  funcs = record { name = codes "main"; line = 2; params = []; body = simple 3 (tree.lock (codes "m")) (simple 4 (tree.lock (codes "m")) tree.end) } ∷ [];
-}
-
-pub locks_lawful : KeepsRules locks
-locks_lawful = tested locks refl
-
-abbrev pub locks_events : List Event
-locks_events =
-    event 1 2 begin ∷ event 1 3 (lock 0) ∷ []
-
-abbrev pub locks_entries : List Entry
-locks_entries =
-    e.Begin 1 2 ∷ e.Lock 1 3 0 ∷ []
-
-locking_traced : IsTraced locks 0 [] (deed 2 begin ∷ deed 3 (lock 0) ∷ [])
-locking_traced = record {
-  items = _;
-  outcome = Open;
-  trace = record {
-    most_turns = 0;
-    gives =
-        next (next
-        (next (next (next
-        (next (inl (refl, refl)))))));
-  };
-  same = refl;
-}
-
-pub locks_run : IsRun locks locks_entries
-locks_run = record {
-  events = locks_events;
-  told = refl;
-  run = record {
-    traced = threads_traced locks locks_events (locking_traced, tt) refl refl;
-    allowed =
-        begins refl refl (does refl refl tt);
-  };
-}
+pub not_unposted : (k n m : ℕ) → Posted [] k (Some (n, suc m)) → ⊥
+not_unposted k n m h = omega arith

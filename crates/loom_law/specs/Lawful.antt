@@ -1,5 +1,6 @@
--- Lawful journals: those of a program that runs without commands.
-use Rattle.std.specs.Prelude.{ℕ, suc, map, take, length, ◌≡◌, ◌==◌, Bool, true, false, ◌||◌, List, [], ◌∷◌, ◌++◌, Option, Some, None, if◌then◌else◌}
+-- Lawful journals of a program with commands.
+use Rattle.std.specs.Prelude.{ℕ, suc, map, take, length, ◌<◌, ◌≤◌, ◌≡◌, ◌⊎◌, ◌==◌, Bool, true, false, not, ◌&&◌, List, [], ◌∷◌, ◌++◌, Option, Some, None, if◌then◌else◌}
+use Rattle.std.specs.List.{AllByRecursion, list_any, count_by}
 use Rattle.loom_tree.specs.Tree.{Source}
 use Rattle.loom_trace.specs.declared.entry.Entry.{Entry}
 use Rattle.loom_trace.specs.declared.entry.Entry.TheVariants as e
@@ -7,167 +8,365 @@ use Rattle.loom_trace.specs.declared.entry.Ending.{Ending}
 use Rattle.loom_trace.specs.declared.entry.Ending.TheVariants as k
 use Rattle.loom_trace.specs.declared.entry.What.{What}
 use Rattle.loom_trace.specs.declared.entry.What.TheVariants as w
-use Rattle.loom_lang.specs.Trace.{Act, lock, down, join}
-use Rattle.loom_law.specs.Event.{Event, entry_by, entry_of, is_target, targets}
-use Rattle.loom_law.specs.Replay.{Spawned, Store, start, thread_at, replay, IsDisabled}
-use Rattle.loom_law.specs.Run.{AreRun}
-use Rattle.loom_law.specs.Part.{IsPart}
+use Rattle.loom_lang.specs.Places.{Place, nowhere, line_of_place}
+use Rattle.loom_event.specs.Event.{Event, entry_of, targets}
+use Rattle.loom_event.specs.Replay.{Spawned, Store, start, thread_at, replay, IsDisabled, AllEnded, thread_limit}
+use Rattle.loom_event.specs.Run.{AreRun}
+use Rattle.loom_event.specs.Entries.{thread_of, thread_entries, last_of_thread, is_stopped, is_over, is_at_limit}
+use Rattle.loom_law.specs.Filter.{Plan, numbers, is_alone, before_in, has}
+use Rattle.loom_law.specs.Walk.{Version, Plans, Step, place_number, unborn}
+use Rattle.loom_law.specs.Part.{Own, led, IsPart, Point, IsPlaceOf, ComesTo, HasMoved, KeepsAway, IsInside}
+use Rattle.loom_law.specs.Watch.{nothing_seen, seen_from, where_all_made, IsClear}
+use Rattle.loom_law.specs.Paths.{IsUnsafe}
+use Rattle.loom_command.specs.Script.{Trigger, at, stall}
+use Rattle.loom_law.specs.Control.{Judgement, refused, means, Action, install, remove, Command, command_at, plans_of, have_one_name, Holder, Control, control, taken, entries_of, listed, since_asked, is_post, is_past}
 
--- Threads and their last entries
+-- what a run is judged by
+pub record Setting : Type 0 where
+  pub program : Source
+  pub commands : List Command
+  pub limit : ℕ
+  pub stop : Entry → Bool
 
--- the thread that made an entry
-abbrev pub thread_of : Entry → Option ℕ
-thread_of (e.Begin t l) = Some t
-thread_of (e.End t l) = Some t
-thread_of (e.Trap t l r) = Some t
-thread_of (e.Read t l x v) = Some t
-thread_of (e.Write t l x v) = Some t
-thread_of (e.Lock t l m) = Some t
-thread_of (e.Unlock t l m) = Some t
-thread_of (e.Down t l s) = Some t
-thread_of (e.Up t l s) = Some t
-thread_of (e.Spawn t l c f vs) = Some t
-thread_of (e.Join t l c) = Some t
-thread_of (e.Print t l v) = Some t
-thread_of (e.Tick t l p) = Some t
-thread_of (e.Blocked t l x) = Some t
-thread_of (e.At t l k ns) = Some t
-thread_of (e.Past t l k ns) = Some t
-thread_of (e.Back t l) = Some t
-thread_of (e.Enter t l k c) = Some t
-thread_of (e.Leave t l k c) = Some t
-thread_of (e.Post t l k n) = Some t
-thread_of (e.Wait t l k n) = Some t
-thread_of (e.Cross t l p v n) = Some t
--- control entries
-thread_of _ = None
+-- The end of a journal: its entries, the events that they tell, and what they say of commands.
+pub record Front : Type 0 where
+  pub entries : List Entry
+  pub store : Store
+  pub control : Control
 
-abbrev pub is_some_thread : Option ℕ → Bool
-is_some_thread None = false
-is_some_thread (Some t) = true
+abbrev pub front_of : Setting → List Entry → List Event → Front
+front_of s es xs = record { entries = es; store = replay (start s.program) xs; control = control s.commands es }
 
-abbrev pub is_thread : ℕ → Option ℕ → Bool
-is_thread t None = false
-is_thread t (Some u) = u == t
+abbrev pub plans : Setting → Plans
+plans s = plans_of s.commands
 
--- how many thread entries there are
-abbrev pub thread_entries : List Entry → ℕ
-thread_entries [] = 0
-thread_entries (x ∷ xs) = if is_some_thread (thread_of x) then suc (thread_entries xs) else thread_entries xs
+-- Threads
 
--- the last thread entry, and the last one of a thread; `so_far` is the one that stands before the list
-abbrev pub last_thread_entry : Option Entry → List Entry → Option Entry
-last_thread_entry so_far [] = so_far
-last_thread_entry so_far (x ∷ xs) = last_thread_entry (if is_some_thread (thread_of x) then Some x else so_far) xs
+abbrev pub own : Setting → List Entry → ℕ → Spawned → Own
+own s es t x = record { thread = t; func = x.func; args = x.args; versions = taken s.commands t es; entries = entries_of t es }
 
-abbrev pub last_of_thread : ℕ → Option Entry → List Entry → Option Entry
-last_of_thread t so_far [] = so_far
-last_of_thread t so_far (x ∷ xs) = last_of_thread t (if is_thread t (thread_of x) then Some x else so_far) xs
+abbrev pub HasPart : Setting → List Entry → ℕ → Option Spawned → Type 0
+HasPart s es t None = entries_of t es ≡ []
+HasPart s es t (Some x) = IsPart s.program (plans s) (own s es t x)
 
--- Parts of threads
+abbrev pub is_running : Spawned → Bool
+is_running x = x.begun && not x.ended
 
--- whether the thread made the entry, and not because it was blocked
-abbrev pub is_part_of : ℕ → Entry → Bool
-is_part_of t (e.Blocked u l x) = false
-is_part_of t x = is_thread t (thread_of x)
+-- where a thread stands: at place 0 before its begin and behind its end
+abbrev pub StandsAs : Setting → List Entry → ℕ → Spawned → Bool → Place → Type 0
+StandsAs s es t x false y = y ≡ nowhere
+StandsAs s es t x true y = ComesTo s.program (plans s) (own s es t x) y
 
-abbrev pub part_of : ℕ → List Entry → List Entry
-part_of t [] = []
-part_of t (x ∷ xs) = if is_part_of t x then x ∷ part_of t xs else part_of t xs
+abbrev pub StandsIf : Setting → List Entry → ℕ → Option Spawned → Place → Type 0
+StandsIf s es t None y = y ≡ nowhere
+StandsIf s es t (Some x) y = StandsAs s es t x (is_running x) y
 
--- These are the entries of a trace of the function with which the thread was spawned, with a tick at each thousandth place.
-abbrev pub HasPart : Source → ℕ → Option Spawned → List Entry → Type 0
-HasPart p t None es = es ≡ []
-HasPart p t (Some x) es = IsPart p t x.func x.args es
+abbrev pub StandsAt : Setting → Front → ℕ → Place → Type 0
+StandsAt s f t y = StandsIf s f.entries t (thread_at f.store t) y
 
--- Blocked threads
-
--- what stands in the journal where a request is granted
-abbrev pub granted : What → Option Act
-granted (w.Lock m) = Some (lock m)
-granted (w.Down s) = Some (down s)
-granted (w.Join c) = Some (join c)
--- no filter is installed
-granted (w.Enter k c) = None
-granted (w.Wait k n) = None
-
--- The thread's next request on that line is this one: its entries so far, and then the entry of the act that it asks for, are those of a
--- trace, with its ticks.
-abbrev pub AsksFor : Source → List Entry → ℕ → ℕ → Option Spawned → Option Act → Type 0
-AsksFor p front t l None a = ⊥
-AsksFor p front t l (Some x) None = ⊥
-AsksFor p front t l (Some x) (Some a) = IsPart p t x.func x.args (part_of t front ++ entry_by t l a ∷ [])
-
-abbrev pub IsBlockedEntry : Option Entry → Type 0
-IsBlockedEntry (Some (e.Blocked t l x)) = Unit {0}
-IsBlockedEntry _ = ⊥
-
--- behind the entries of `front` thread t may make `Blocked`: it asks for that, which is disabled, and its last entry isn't `Blocked`
-pub record MayBlock (p : Source) (front : List Entry) (xs : List Event) (t l : ℕ) (what : What) : Type 0 where
-  pub asks : AsksFor p front t l (thread_at (replay (start p) xs) t) (granted what)
-  pub disabled : IsDisabled (replay (start p) xs) what
-  pub not_yet : IsBlockedEntry (last_of_thread t None front) → ⊥
-
--- The thread is blocked: its last entry is `Blocked`, and what it asks for is still disabled.
-abbrev pub IsBlockedAt : Store → Option Entry → Type 0
-IsBlockedAt s (Some (e.Blocked t l x)) = IsDisabled s x
-IsBlockedAt s _ = ⊥
-
--- The end of a run
-
--- The program is stalled: some thread lives, and each thread that lives is blocked.
-pub record IsStalled (s : Store) (front : List Entry) : Type 0 where
-  pub live : ℕ
+pub record Lives (s : Store) (t : ℕ) : Type 0 where
   pub state : Spawned
-  pub lives : (thread_at s live ≡ Some state) × (state.ended ≡ false)
-  pub blocked : (t : ℕ) (x : Spawned) → thread_at s t ≡ Some x → x.ended ≡ false → IsBlockedAt s (last_of_thread t None front)
+  pub is : thread_at s t ≡ Some state
+  pub not_ended : state.ended ≡ false
 
--- each thread that was spawned has ended
-abbrev pub AllEnded : Store → Type 0
-AllEnded s = (t : ℕ) (x : Spawned) → thread_at s t ≡ Some x → x.ended ≡ true
+-- Disabled requests, and threads that can't go on
 
--- the stop test answers yes for the last thread entry
-abbrev pub stops_at : (Entry → Bool) → Option Entry → Bool
-stops_at stop None = false
-stops_at stop (Some x) = stop x
+-- the posts that a wait needs
+abbrev pub Lacks : Front → ℕ → Option (ℕ × ℕ) → Type 0
+Lacks f k None = ⊥
+Lacks f k (Some a) = count_by (is_post k a.0) f.entries < a.1
 
-abbrev pub is_stopped : (Entry → Bool) → List Entry → Bool
-is_stopped stop front = stops_at stop (last_thread_entry None front)
+pub record IsHeld (f : Front) (k c t : ℕ) : Type 0 where
+  pub by : ℕ
+  pub other : (by == t) ≡ false
+  pub holds : list_any (λ (h : Holder). (h.filter == k) && ((h.clause == c) && (h.thread == by))) f.control.holders ≡ true
 
-abbrev pub is_at_limit : ℕ → List Entry → Bool
-is_at_limit limit front = thread_entries front == limit
+abbrev pub IsDisabledFor : Setting → Front → ℕ → What → Type 0
+IsDisabledFor s f t (w.Enter k c) = IsHeld f k c t
+IsDisabledFor s f t (w.Wait k n) = Lacks f k (before_in n (Plan.rulings (plans s k)))
+IsDisabledFor s f t what = IsDisabled f.store what
 
--- no thread entry follows: the run is stopped, or has as many thread entries as it may
-abbrev pub is_over : ℕ → (Entry → Bool) → List Entry → Bool
-is_over limit stop front = is_stopped stop front || is_at_limit limit front
+-- Another thread holds a unilateral clause.
+pub record IsHeldOff (s : Setting) (f : Front) (t : ℕ) : Type 0 where
+  pub filter : ℕ
+  pub clause : ℕ
+  pub alone : is_alone (plans s filter) clause ≡ true
+  pub held : IsHeld f filter clause t
 
--- The kind of the end behind the entries of `front`, tested in this order: stopped, limit, done, stuck.
-abbrev pub Ends : ℕ → (Entry → Bool) → Store → List Entry → Ending → Type 0
-Ends limit stop s front k.Stopped = is_stopped stop front ≡ true
-Ends limit stop s front k.Limit = (is_stopped stop front ≡ false) × (is_at_limit limit front ≡ true)
-Ends limit stop s front k.Done = (is_over limit stop front ≡ false) × AllEnded s
-Ends limit stop s front k.Stuck = (is_over limit stop front ≡ false) × IsStalled s front
+-- its last entry is `Blocked`, for what is still disabled, and it owes no `Cross`
+abbrev pub IsBlockedBy : Setting → Front → ℕ → Option Entry → Type 0
+IsBlockedBy s f t (Some (e.Blocked u l what)) = IsDisabledFor s f t what × (listed t f.entries ≡ [])
+IsBlockedBy s f t _ = ⊥
 
--- What stands at the end of `front`, with `rest` behind it. The events so far are `xs`.
-abbrev pub Stands : Source → ℕ → (Entry → Bool) → List Entry → List Event → Entry → List Entry → Type 0
-Stands p limit stop front xs (e.Finish kind) rest = (rest ≡ []) × Ends limit stop (replay (start p) xs) front kind
-Stands p limit stop front xs (e.Blocked t l what) rest = (is_over limit stop front ≡ false) × MayBlock p front xs t l what
-Stands p limit stop front xs (e.Tick t l k) rest = is_over limit stop front ≡ false
-Stands p limit stop front xs x rest = (is_over limit stop front ≡ false) × (is_target x ≡ true)
+abbrev pub IsBlocked : Setting → Front → ℕ → Type 0
+IsBlocked s f t = IsBlockedBy s f t (last_of_thread t None f.entries)
 
--- The journal is finished: its last entry is `Finish`.
-pub record IsFinished (es : List Entry) (kind : Ending) : Type 0 where
-  pub front : List Entry
-  pub is : es ≡ front ++ e.Finish kind ∷ []
+pub record IsStalled (s : Setting) (f : Front) : Type 0 where
+  pub live : ℕ
+  pub lives : Lives f.store live
+  pub stuck : (t : ℕ) → Lives f.store t → IsBlocked s f t ⊎ IsHeldOff s f t
 
--- A journal is lawful for a program, a limit of thread entries and a stop test.
-pub record IsLawful (p : Source) (limit : ℕ) (stop : Entry → Bool) (es : List Entry) : Type 0 where
+-- Commands
+
+abbrev pub slot_limit : ℕ
+slot_limit = 16
+
+-- why a command is refused, with the clause: the name first, then the number of filters, then the filter
+abbrev pub judged : Judgement → Option (ℕ × ℕ)
+judged (refused n c) = Some (n, c)
+judged (means f) = None
+
+abbrev pub refusal_of : Action → Bool → ℕ → Option (ℕ × ℕ)
+refusal_of (install j) taken n = if taken then Some (11, 0) else (if n == slot_limit then Some (14, 0) else judged j)
+refusal_of remove taken n = if taken then None else Some (12, 0)
+
+abbrev pub is_taken : Setting → Control → ℕ → Bool
+is_taken s c k = list_any (λ j. have_one_name s.commands j k) c.version.active
+
+abbrev pub refusal_in : Setting → Control → ℕ → Option Command → Option (ℕ × ℕ)
+refusal_in s c k None = None
+refusal_in s c k (Some x) = refusal_of x.action (is_taken s c k) (length c.version.active)
+
+abbrev pub refusal : Setting → Control → ℕ → Option (ℕ × ℕ)
+refusal s c k = refusal_in s c k (command_at s.commands k)
+
+-- the places that are flagged for a command: for an install all but the unsafe ones, for a removal all
+abbrev pub IsFlaggedBy : Source → Option Command → Place → Type 0
+IsFlaggedBy p None y = ⊥
+IsFlaggedBy p (Some x) y = by_action x.action
+  where
+    by_action : Action → Type 0
+    by_action (install (means f)) = (y ≡ nowhere) ⊎ (IsUnsafe p f y → ⊥)
+    by_action (install (refused n c)) = ⊥
+    by_action remove = Unit {0}
+
+abbrev pub IsFlagged : Setting → ℕ → Place → Type 0
+IsFlagged s k y = IsFlaggedBy s.program (command_at s.commands k) y
+
+abbrev pub IsTriggered : Setting → Front → Trigger → Type 0
+IsTriggered s f (at n) = n ≤ thread_entries f.entries
+IsTriggered s f stall = IsStalled s f
+
+abbrev pub over : Setting → Front → Bool
+over s f = is_over s.limit s.stop f.entries
+
+-- The next command is due: all earlier ones are answered, and its trigger holds. Once the end is chosen none is.
+pub record IsDue (s : Setting) (f : Front) : Type 0 where
+  pub command : Command
+  pub is : command_at s.commands f.control.next ≡ Some command
+  pub answered : f.control.asked ≡ None
+  pub not_closing : f.control.closing ≡ false
+  pub runs : over s f ≡ false
+  pub triggered : IsTriggered s f command.trigger
+
+-- The answers
+
+-- the thread stands at this place, which is flagged, and at each point at which it may stand there the filter sees nothing of it
+abbrev pub SeesNothing : Setting → Own → Plan → Place → Type 0
+SeesNothing s x g y = (h : Point s.program (plans s) x) → IsPlaceOf s.program (plans s) x h y
+    → IsClear (where_all_made g (led s.program (plans s) x h.steps).owed (seen_from s.program (plans s) g (unborn x.versions) nothing_seen h.steps))
+
+abbrev pub IsOutsideAs : Setting → Own → Bool → Plan → Place → Type 0
+IsOutsideAs s x false g y = Unit {0}
+IsOutsideAs s x true g y = SeesNothing s x g y
+
+abbrev pub IsOutside : Setting → List Entry → ℕ → Option Spawned → Plan → Place → Type 0
+IsOutside s es t None g y = Unit {0}
+IsOutside s es t (Some x) g y = IsOutsideAs s (own s es t x) (is_running x) g y
+
+-- the row lists for each thread a flagged place at which it stands
+pub record Lists (s : Setting) (f : Front) (k : ℕ) (row : List ℕ) : Type 0 where
+  pub count : length row ≡ thread_limit
+  pub place : ℕ → Place
+  pub are : row ≡ map (λ t. place_number s.program (place t)) (numbers 1 row)
+  pub stands : (t : ℕ) → StandsAt s f t (place t)
+  pub flagged : (t : ℕ) → IsFlagged s k (place t)
+
+pub record MayInstall (s : Setting) (f : Front) (k v : ℕ) (row : List ℕ) : Type 0 where
+  pub command : Command
+  pub is : command_at s.commands k ≡ Some command
+  pub plan : Plan
+  pub installs : command.action ≡ install (means plan)
+  pub asked : f.control.asked ≡ Some k
+  pub not_refused : refusal s f.control k ≡ None
+  pub version : v ≡ suc (Version.number f.control.version)
+  pub lists : Lists s f k row
+  pub outside : (t : ℕ) → IsOutside s f.entries t (thread_at f.store t) plan (lists.place t)
+
+pub record MayRemove (s : Setting) (f : Front) (k v : ℕ) (row : List ℕ) : Type 0 where
+  pub command : Command
+  pub is : command_at s.commands k ≡ Some command
+  pub removes : command.action ≡ remove
+  pub asked : f.control.asked ≡ Some k
+  pub not_refused : refusal s f.control k ≡ None
+  pub version : v ≡ suc (Version.number f.control.version)
+  pub lists : Lists s f k row
+
+-- Each live thread stands at a place that is flagged, or is blocked or held off; thread t is the lowest one at a place that isn't flagged.
+pub record MayStall (s : Setting) (f : Front) (k t l : ℕ) : Type 0 where
+  pub asked : f.control.asked ≡ Some k
+  pub not_refused : refusal s f.control k ≡ None
+  pub place : ℕ → Place
+  pub stands : (u : ℕ) → Lives f.store u → StandsAt s f u (place u)
+  pub waits : (u : ℕ) → Lives f.store u → IsFlagged s k (place u) ⊎ (IsBlocked s f u ⊎ IsHeldOff s f u)
+  pub lives : Lives f.store t
+  pub not_flagged : IsFlagged s k (place t) → ⊥
+  pub lowest : (u : ℕ) → Lives f.store u → u < t → IsFlagged s k (place u)
+  pub line : l ≡ line_of_place s.program (place t)
+
+-- The end
+
+-- tested in this order: stopped, limit, done, stuck
+abbrev pub Ends : Setting → Front → Ending → Type 0
+Ends s f k.Stopped = is_stopped s.stop f.entries ≡ true
+Ends s f k.Limit = (is_stopped s.stop f.entries ≡ false) × (is_at_limit s.limit f.entries ≡ true)
+Ends s f k.Done = (over s f ≡ false) × (AllEnded f.store × (IsDue s f → ⊥))
+Ends s f k.Stuck = (over s f ≡ false) × (IsStalled s f × (IsDue s f → ⊥))
+
+abbrev pub EndsSo : Setting → Front → Type 0
+EndsSo s f = (kind : Ending) × Ends s f kind
+
+-- Threads
+
+-- No thread entry stands behind the end, nor where a command is due, nor where the command that was asked is refused.
+pub record IsOpen (s : Setting) (f : Front) : Type 0 where
+  pub runs : over s f ≡ false
+  pub not_closing : f.control.closing ≡ false
+  pub not_due : IsDue s f → ⊥
+  pub not_refused : (k : ℕ) → f.control.asked ≡ Some k → refusal s f.control k ≡ None
+
+abbrev pub is_cross : Entry → Bool
+is_cross (e.Cross t l x v n) = true
+is_cross _ = false
+
+abbrev pub is_begin : Entry → Bool
+is_begin (e.Begin t l) = true
+is_begin _ = false
+
+abbrev pub owes_cross : Entry → List ℕ → Bool
+owes_cross (e.Begin t l) places = false
+owes_cross x [] = false
+owes_cross x (y ∷ ys) = true
+
+-- Between a command that is asked and its answer the thread keeps away from flagged places: it passed none of them since its last entry, and isn't
+-- blocked at one.
+pub record KeptAway (s : Setting) (x : Own) (k : ℕ) : Type 0 where
+  pub steps : List Step
+  pub moved : HasMoved s.program (plans s) x steps
+  pub away : KeepsAway (IsFlagged s k) (led s.program (plans s) x steps)
+
+abbrev pub Parks : Setting → List Entry → ℕ → ℕ → Option Spawned → Type 0
+Parks s es k t None = ⊥
+Parks s es k t (Some x) = KeptAway s (own s es t x) k
+
+abbrev pub is_spawn_of : ℕ → Entry → Bool
+is_spawn_of t (e.Spawn u l c g vs) = c == t
+is_spawn_of t _ = false
+
+abbrev pub has_any : List Entry → Bool
+has_any [] = false
+has_any (x ∷ xs) = true
+
+-- From its first entry there on; a thread that is spawned there makes no `Begin`.
+abbrev pub IsParked : Setting → Front → ℕ → Entry → Option ℕ → Type 0
+IsParked s f t x None = Unit {0}
+IsParked s f t x (Some k) =
+    (has_any (entries_of t (since_asked f.entries)) ≡ true → Parks s (f.entries ++ x ∷ []) k t (thread_at f.store t))
+    × (is_begin x ≡ true → list_any (is_spawn_of t) (since_asked f.entries) ≡ false)
+
+-- Behind the entries of the front the thread may make this one.
+pub record MayMove (s : Setting) (f : Front) (t : ℕ) (x : Entry) : Type 0 where
+  pub goes_on : IsOpen s f
+  pub not_held_off : IsHeldOff s f t → ⊥
+  pub crosses : is_cross x ≡ owes_cross x (listed t f.entries)
+  pub parked : IsParked s f t x f.control.asked
+
+-- events of an order: each begins behind as many completions of the one before it as are asked for
+abbrev pub Follows : List Entry → ℕ → Option (ℕ × ℕ) → Type 0
+Follows es k None = Unit {0}
+Follows es k (Some a) = a.1 ≤ count_by (is_past k a.0) es
+
+abbrev pub Posted : List Entry → ℕ → Option (ℕ × ℕ) → Type 0
+Posted es k None = ⊥
+Posted es k (Some a) = a.1 ≤ count_by (is_post k a.0) es
+
+abbrev pub is_held_by : Control → ℕ → ℕ → ℕ → Bool
+is_held_by c k n t = list_any (λ (h : Holder). (h.filter == k) && ((h.clause == n) && (h.thread == t))) c.holders
+
+abbrev pub is_installed : Control → ℕ → Bool
+is_installed c k = has c.version.active k
+
+-- What else an entry of a thread needs: of versions, of who holds what, of posts, and of the meaning of orders.
+abbrev pub Keeps : Setting → Front → Entry → Type 0
+Keeps s f (e.Cross t l x v n) = (v ≡ Version.number f.control.version) × AllByRecursion (λ y. y ≡ x) (listed t f.entries)
+Keeps s f (e.Blocked t l what) = IsDisabledFor s f t what
+Keeps s f (e.Enter t l k c) =
+    (is_installed f.control k ≡ true) × (list_any (λ (h : Holder). (h.filter == k) && (h.clause == c)) f.control.holders ≡ false)
+Keeps s f (e.Leave t l k c) = is_held_by f.control k c t ≡ true
+Keeps s f (e.Wait t l k n) = (is_installed f.control k ≡ true) × Posted f.entries k (before_in n (Plan.rulings (plans s k)))
+Keeps s f (e.Post t l k n) = is_installed f.control k ≡ true
+Keeps s f (e.At t l k ns) = (is_installed f.control k ≡ true) × AllByRecursion (λ n. Follows f.entries k (before_in n (Plan.rulings (plans s k)))) ns
+Keeps s f (e.Past t l k ns) = is_installed f.control k ≡ true
+Keeps s f (e.End t l) = list_any (λ (h : Holder). h.thread == t) f.control.holders ≡ false
+Keeps s f _ = Unit {0}
+
+-- What stands at the end of the front, with `rest` behind it.
+abbrev pub Stands : Setting → Front → Entry → List Entry → Type 0
+Stands s f (e.Asked k) rest = IsDue s f × (k ≡ f.control.next)
+Stands s f (e.Refused k n c) rest = (f.control.asked ≡ Some k) × (refusal s f.control k ≡ Some (n, c))
+Stands s f (e.Installed k v row) rest = (over s f ≡ false) × MayInstall s f k v row
+Stands s f (e.Removed k v row) rest = (over s f ≡ false) × MayRemove s f k v row
+Stands s f (e.Stalled k t l) rest = (over s f ≡ false) × MayStall s f k t l
+Stands s f (e.Cut k) rest = (over s f ≡ true) × (f.control.asked ≡ Some k)
+Stands s f (e.Unreached k) rest = (f.control.asked ≡ None) × ((k ≡ f.control.next) × ((k ≤ length s.commands) × EndsSo s f))
+Stands s f (e.Finish kind) rest = (rest ≡ []) × ((f.control.asked ≡ None) × ((length s.commands < f.control.next) × Ends s f kind))
+Stands s f (e.Begin t l) rest = MayMove s f t (e.Begin t l) × Keeps s f (e.Begin t l)
+Stands s f (e.End t l) rest = MayMove s f t (e.End t l) × Keeps s f (e.End t l)
+Stands s f (e.Trap t l r) rest = MayMove s f t (e.Trap t l r)
+Stands s f (e.Read t l x v) rest = MayMove s f t (e.Read t l x v)
+Stands s f (e.Write t l x v) rest = MayMove s f t (e.Write t l x v)
+Stands s f (e.Lock t l m) rest = MayMove s f t (e.Lock t l m)
+Stands s f (e.Unlock t l m) rest = MayMove s f t (e.Unlock t l m)
+Stands s f (e.Down t l x) rest = MayMove s f t (e.Down t l x)
+Stands s f (e.Up t l x) rest = MayMove s f t (e.Up t l x)
+Stands s f (e.Spawn t l c g vs) rest = MayMove s f t (e.Spawn t l c g vs)
+Stands s f (e.Join t l c) rest = MayMove s f t (e.Join t l c)
+Stands s f (e.Print t l v) rest = MayMove s f t (e.Print t l v)
+Stands s f (e.Tick t l y) rest = MayMove s f t (e.Tick t l y)
+Stands s f (e.Blocked t l y) rest = MayMove s f t (e.Blocked t l y) × Keeps s f (e.Blocked t l y)
+Stands s f (e.At t l k ns) rest = MayMove s f t (e.At t l k ns) × Keeps s f (e.At t l k ns)
+Stands s f (e.Past t l k ns) rest = MayMove s f t (e.Past t l k ns) × Keeps s f (e.Past t l k ns)
+Stands s f (e.Back t l) rest = MayMove s f t (e.Back t l)
+Stands s f (e.Enter t l k c) rest = MayMove s f t (e.Enter t l k c) × Keeps s f (e.Enter t l k c)
+Stands s f (e.Leave t l k c) rest = MayMove s f t (e.Leave t l k c) × Keeps s f (e.Leave t l k c)
+Stands s f (e.Post t l k n) rest = MayMove s f t (e.Post t l k n) × Keeps s f (e.Post t l k n)
+Stands s f (e.Wait t l k n) rest = MayMove s f t (e.Wait t l k n) × Keeps s f (e.Wait t l k n)
+Stands s f (e.Cross t l y v n) rest = MayMove s f t (e.Cross t l y v n) × Keeps s f (e.Cross t l y v n)
+
+-- Filters are obeyed
+
+abbrev pub IsInsideIf : Setting → List Entry → ℕ → Option Spawned → ℕ → ℕ → Type 0
+IsInsideIf s es t None k c = ⊥
+IsInsideIf s es t (Some x) k c = IsInside s.program (plans s) (own s es t x) k c
+
+abbrev pub InsideAt : Setting → Front → ℕ → ℕ → ℕ → Type 0
+InsideAt s f t k c = IsInsideIf s f.entries t (thread_at f.store t) k c
+
+-- At the end of the front at most one thread is inside the regions of a clause, and where it is `r <> *` no other thread's entry stands there.
+pub record IsObeyed (s : Setting) (f : Front) (x : Entry) : Type 0 where
+  pub one : (k c t u : ℕ) → is_installed f.control k ≡ true → InsideAt s f t k c → InsideAt s f u k c → t ≡ u
+  pub alone : (k c t u : ℕ) → is_installed f.control k ≡ true → is_alone (plans s k) c ≡ true → InsideAt s f t k c → thread_of x ≡ Some u → t ≡ u
+
+-- Lawful journals
+
+-- The journal is lawful for a program, a list of commands, a limit of thread entries and a stop test.
+pub record IsLawful (s : Setting) (es : List Entry) : Type 0 where
   -- its target entries are a run of the program
   pub events : List Event
-  pub told : map entry_of events ≡ targets es
-  pub run : AreRun p events
-  -- each thread's entries are those of a trace
-  pub parts : (t : ℕ) → HasPart p t (thread_at (replay (start p) events) t) (part_of t es)
+  pub tells : map entry_of events ≡ targets es
+  pub run : AreRun s.program events
+  -- each thread has its full part
+  pub parts : (t : ℕ) → HasPart s es t (thread_at (replay (start s.program) events) t)
   -- each entry stands rightly behind those before it
   pub stands : (front : List Entry) (x : Entry) (rest : List Entry) → es ≡ front ++ x ∷ rest
-      → Stands p limit stop front (take (length (targets front)) events) x rest
+      → Stands s (front_of s front (take (length (targets front)) events)) x rest

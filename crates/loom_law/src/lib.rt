@@ -1,4 +1,7 @@
-//! What a run of a program is, and when a journal is lawful.
+//! What filters, versions and commands mean, and when a journal is lawful.
 //!
-//! The definitions stand in `specs/`.
+//! The definitions stand in `specs/`, their laws in [`laws`].
 #![tactic(auto)]
+
+pub mod laws;
+pub mod requests;

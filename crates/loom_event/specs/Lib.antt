@@ -1,0 +1,5 @@
+pub mod Event
+pub mod Entries
+pub mod Replay
+pub mod Run
+pub mod Answer

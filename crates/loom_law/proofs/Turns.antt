@@ -1,0 +1,894 @@
+-- A lawful journal with one more entry is lawful.
+use Rattle.std.proofs.Common.{ℕ, zero, suc, ◌<◌, ◌≤◌, ◌≡◌, ◌==◌, ◌⊎◌, inl, inr, Bool, true, false, ◌&&◌, List, [], ◌∷◌, ◌++◌, ℤ, length, map, take, drop, ◌+◌, Option, Some, None, slice_get, refl, sym, ap, subst, ◌∙◌, if◌then◌else◌, arith}
+use Rattle.std.specs.Prelude.{codes}
+use Rattle.std.specs.List.{list_any}
+use Rattle.loom_tree.specs.Tree.{Source, Function}
+use Rattle.loom_trace.specs.declared.entry.Entry.{Entry}
+use Rattle.loom_trace.specs.declared.entry.Entry.TheVariants as e
+use Rattle.loom_trace.specs.declared.entry.Ending.{Ending}
+use Rattle.loom_lang.specs.Numbers.{function_number}
+use Rattle.loom_lang.specs.Trace.{Act, begin, end, trap, read, write, lock, unlock, down, up, spawn, join, print, Item, made, begins, done, edge, enter, out, Outcome, Open, thread, IsTrace}
+use Rattle.loom_lang.specs.Acts.{Deed, acts, IsAlike}
+use Rattle.loom_lang.proofs.Broken.{broken_trace}
+use Rattle.loom_lang.proofs.NextAct.{one_next_act}
+use Rattle.loom_event.specs.Event.{Event, entry_by, entry_of, is_target, targets, deeds}
+use Rattle.loom_event.specs.Entries.{thread_of, is_thread}
+use Rattle.loom_event.specs.Replay.{Spawned, Store, new_thread, main_thread, start, thread_at, IsAllowedAct, IsAllowed, with_thread, after_act, replay, AreAllowed, thread_limit}
+use Rattle.loom_event.specs.Replay as law
+use Rattle.loom_event.specs.Run.{IsTraced, IsThreadTraced, AreRun}
+use Rattle.loom_law.specs.Walk.{Version, Plans, Op, wait, enters, at, past, post, leave, back, tick, cross, blocked, Step, goes, makes, items, told, entry_of_op, Walk, unborn, holds, without_first, taking, entered_journal, crossing, filter_of, after, walked, Owes, first_number, MayCross, MayStand, AreWoven}
+use Rattle.loom_law.specs.Part.{Own, led, IsPart, HasMoved}
+use Rattle.loom_law.specs.Control.{Command, Holder, Control, control, first_control, controlled, takes, taken, entries_of, listed}
+use Rattle.loom_law.specs.Lawful.{Setting, Front, front_of, plans, own, HasPart, owes_cross, KeptAway, Parks, IsParked, MayMove, is_held_by, is_installed, Stands, IsLawful}
+use Rattle.loom_law.specs.Laws.{IsUnfinished, with_newest, own_with, Needs, MayTurn, HasEmptyEnds, HasBeginning, HasEventTurns, HasOperationTurns, HasControlTurns}
+use Rattle.loom_law.proofs.OnePart.{same_op, act_is_no_op, told_append, append_none, same_front, never_empty, same_act}
+use Rattle.loom_law.proofs.Newest.{taking_coming, crossing_coming}
+use Rattle.loom_law.proofs.Ending.{or_rest, and_true, end_holds}
+use Rattle.loom_law.proofs.Named.{owed_installed}
+use Rattle.loom_law.proofs.Held.{or_left, or_right}
+use Rattle.loom_law.proofs.Balance.{IsSound, first_sound, sound_along}
+use Rattle.loom_law.proofs.Obeyed.{are_said, balance}
+use Rattle.loom_law.proofs.Leaving.{right_leaves}
+use Rattle.loom_law.proofs.Earlier.{append_assoc, targets_append, length_append, entries_append, taken_append, deeds_append, IsOf, act_keeps, replay_append, same_number, by_test, if_false, if_true, entry_thread, items_append, items_ahead, woven_front, first_begins, fewer, to_take, takes_is, is_taking, takings, takings_taken, none_left, an_own}
+
+-- Lists
+
+take_front : {A : Type 0} (n : ℕ) (xs ys : List A) → n ≤ length xs → take n (xs ++ ys) ≡ take n xs
+take_front zero xs ys h = refl
+take_front (suc n) [] ys h = let no : ⊥ = omega arith in absurd no
+take_front (suc n) (x ∷ xs) ys h = ap (◌∷◌ x) (take_front n xs ys (omega arith))
+
+take_whole : {A : Type 0} (n : ℕ) (xs ys : List A) → n ≡ length xs → take n (xs ++ ys) ≡ xs
+take_whole zero [] ys h = refl
+take_whole zero (x ∷ xs) ys h = let no : ⊥ = omega arith in absurd no
+take_whole (suc n) [] ys h = let no : ⊥ = omega arith in absurd no
+take_whole (suc n) (x ∷ xs) ys h = ap (◌∷◌ x) (take_whole n xs ys (omega arith))
+
+map_length : {A B : Type 0} (f : A → B) (xs : List A) → length (map f xs) ≡ length xs
+map_length f [] = refl
+map_length f (x ∷ xs) = ap suc (map_length f xs)
+
+map_append : {A B : Type 0} (f : A → B) (xs ys : List A) → map f (xs ++ ys) ≡ map f xs ++ map f ys
+map_append f [] ys = refl
+map_append f (x ∷ xs) ys = ap (◌∷◌ (f x)) (map_append f xs ys)
+
+-- an entry of a longer journal is the last one, or stands in the journal before it
+record IsLast (es : List Entry) (x : Entry) (front : List Entry) (y : Entry) (rest : List Entry) : Type 0 where
+  front_is : es ≡ front
+  entry_is : x ≡ y
+  rest_is : rest ≡ []
+
+record IsEarlier (es : List Entry) (x : Entry) (front : List Entry) (y : Entry) (rest : List Entry) : Type 0 where
+  more : List Entry
+  rest_is : rest ≡ more ++ x ∷ []
+  whole : es ≡ front ++ y ∷ more
+
+last_or_earlier : (es : List Entry) (x : Entry) (front : List Entry) (y : Entry) (rest : List Entry) → es ++ x ∷ [] ≡ front ++ y ∷ rest
+    → IsLast es x front y rest ⊎ IsEarlier es x front y rest
+last_or_earlier [] x [] y rest h = inl (record { front_is = refl; entry_is = cc; rest_is = cc })
+last_or_earlier [] x (u ∷ front) y rest h = let no : [] ≡ front ++ y ∷ rest = cc in absurd (none front no)
+  where
+    none : (us : List Entry) → [] ≡ us ++ y ∷ rest → ⊥
+    none [] g = cc
+    none (v ∷ us) g = cc
+last_or_earlier (z ∷ es) x [] y rest h =
+    let first : z ≡ y = cc in
+    let others : rest ≡ es ++ x ∷ [] = cc in
+    inr (record { more = es; rest_is = others; whole = ap (λ u. u ∷ es) first })
+last_or_earlier (z ∷ es) x (u ∷ front) y rest h =
+    let first : z ≡ u = cc in
+    let others : es ++ x ∷ [] ≡ front ++ y ∷ rest = cc in
+    further (last_or_earlier es x front y rest others) first
+  where
+    further : IsLast es x front y rest ⊎ IsEarlier es x front y rest → z ≡ u → IsLast (z ∷ es) x (u ∷ front) y rest ⊎ IsEarlier (z ∷ es) x (u ∷ front) y rest
+    further (inl g) f = inl (record { front_is = ap (λ v. v ∷ es) f ∙ ap (◌∷◌ u) g.front_is; entry_is = g.entry_is; rest_is = g.rest_is })
+    further (inr g) f = inr (record { more = g.more; rest_is = g.rest_is; whole = ap (λ v. v ∷ es) f ∙ ap (◌∷◌ u) g.whole })
+
+-- What stands in a journal stands so with more behind it
+
+more_behind : (s : Setting) (f : Front) (x : Entry) (rest more : List Entry) → ((k : Ending) → x ≡ e.Finish k → rest ≡ [] → ⊥) → Stands s f x rest → Stands s f x (rest ++ more)
+more_behind s f (e.Finish k) rest more none h = absurd (none k refl h.0)
+more_behind s f _ rest more none h = h
+
+pub longer : (s : Setting) (es : List Entry) (h : IsLawful s es) (x : Entry) (xs ys : List Event) → xs ≡ h.events ++ ys → IsUnfinished es → map entry_of ys ≡ targets (x ∷ [])
+    → AreRun s.program xs → ((u : ℕ) → HasPart s (es ++ x ∷ []) u (thread_at (replay (start s.program) xs) u)) → Stands s (front_of s es h.events) x []
+    → (h' : IsLawful s (es ++ x ∷ [])) × (h'.events ≡ xs)
+longer s es h x xs ys is open_ tells run parts last = (
+  record {
+    events = xs;
+    tells = ap (map entry_of) is ∙ (map_append entry_of h.events ys ∙ (ap (λ zs. zs ++ map entry_of ys) h.tells ∙ (ap (λ zs. targets es ++ zs) tells ∙ sym (targets_append es (x ∷ [])))));
+    run = run;
+    parts = parts;
+    stands = λ front y rest whole. stood front y rest (last_or_earlier es x front y rest whole);
+  },
+  refl,
+)
+  where
+    many : length (targets es) ≡ length h.events
+    many = sym (ap length h.tells) ∙ map_length entry_of h.events
+
+    stood : (front : List Entry) (y : Entry) (rest : List Entry) → IsLast es x front y rest ⊎ IsEarlier es x front y rest
+        → Stands s (front_of s front (take (length (targets front)) xs)) y rest
+    stood front y rest (inl g) =
+        let all : take (length (targets es)) xs ≡ h.events = ap (take (length (targets es))) is ∙ take_whole (length (targets es)) h.events ys many in
+        let here : Stands s (front_of s es (take (length (targets es)) xs)) x [] = subst (λ zs. Stands s (front_of s es zs) x []) (sym all) last in
+        let there : Stands s (front_of s front (take (length (targets front)) xs)) x [] =
+        subst (λ fs. Stands s (front_of s fs (take (length (targets fs)) xs)) x []) g.front_is here in
+        subst (Stands s (front_of s front (take (length (targets front)) xs)) y) (sym g.rest_is)
+        (subst (λ u. Stands s (front_of s front (take (length (targets front)) xs)) u []) g.entry_is there)
+    stood front y rest (inr g) =
+        let n : ℕ = length (targets front) in
+        let count : targets es ≡ targets front ++ targets (y ∷ g.more) = ap targets g.whole ∙ targets_append front (y ∷ g.more) in
+        let few : n ≤ length (targets es) = subst (λ zs. n ≤ length zs) (sym count) (length_append (targets front) (targets (y ∷ g.more))) in
+        let same : take n xs ≡ take n h.events = ap (take n) is ∙ take_front n h.events ys (subst (λ m. n ≤ m) many few) in
+        let before : Stands s (front_of s front (take n h.events)) y g.more = h.stands front y g.more g.whole in
+        let no : (k : Ending) → y ≡ e.Finish k → g.more ≡ [] → ⊥ = λ k a b. open_ k (record {
+          front = front;
+          is = g.whole ∙ (ap (λ us. front ++ y ∷ us) b ∙ ap (λ u. front ++ u ∷ []) a);
+        }) in
+        subst (Stands s (front_of s front (take n xs)) y) (sym g.rest_is)
+        (subst (λ zs. Stands s (front_of s front zs) y (g.more ++ x ∷ [])) (sym same)
+        (more_behind s (front_of s front (take n h.events)) y g.more (x ∷ []) no before))
+
+-- A thread that did nothing
+
+no_items : (p : Source) (g : Option Function) (f : ℕ) (vs : List ℤ) → thread p g f vs 0 [] Open
+no_items p None f vs = (refl, refl)
+no_items p (Some g) f vs = inl (refl, refl)
+
+empty_trace : (p : Source) (f : ℕ) (vs : List ℤ) → IsTrace p f vs [] Open
+empty_trace p f vs = record { most_turns = 0; gives = no_items p (slice_get p.funcs f) f vs }
+
+empty_part : (p : Source) (plans : Plans) (t f : ℕ) (args : List ℤ) (vs : List Version) (es : List Entry) → es ≡ [] → vs ≡ [] → IsPart p plans (an_own t f args vs es)
+empty_part p plans t f args vs es none new = record {
+  steps = [];
+  ahead = [];
+  outcome = Open;
+  trace = empty_trace p f args;
+  woven = tt;
+  tells = sym none;
+  taken = new;
+}
+
+-- Parts with one more entry
+
+not_mine : (t : ℕ) (x : Entry) (es : List Entry) → is_thread t (thread_of x) ≡ false → entries_of t (es ++ x ∷ []) ≡ entries_of t es
+not_mine t x es h =
+    entries_append t es (x ∷ []) ∙ (ap (λ zs. entries_of t es ++ zs) (if_false (is_thread t (thread_of x)) (x ∷ []) [] h) ∙ append_none (entries_of t es))
+
+and_false : (a b : Bool) → b ≡ false → (a && b) ≡ false
+and_false true b h = h
+and_false false b h = refl
+
+not_taken : (cs : List Command) (t : ℕ) (x : Entry) (es : List Entry) → is_thread t (thread_of x) ≡ false → taken cs t (es ++ x ∷ []) ≡ taken cs t es
+not_taken cs t x es h =
+    let v : Version = Control.version (controlled cs first_control es) in
+    let no : takes t x ≡ false = takes_is t x ∙ and_false (is_taking x) (is_thread t (thread_of x)) h in
+    taken_append cs t first_control es (x ∷ [])
+    ∙ (ap (λ zs. taken cs t es ++ zs) (if_false (takes t x) (v ∷ []) [] no) ∙ append_none (taken cs t es))
+
+others_part : (s : Setting) (es : List Entry) (x : Entry) (t : ℕ) (o o' : Option Spawned) → IsOf o o' → is_thread t (thread_of x) ≡ false → HasPart s es t o
+    → HasPart s (es ++ x ∷ []) t o'
+others_part s es x t None None is other h = not_mine t x es other ∙ h
+others_part s es x t None (Some z) is other h =
+    let none : entries_of t (es ++ x ∷ []) ≡ [] = not_mine t x es other ∙ h in
+    empty_part s.program (plans s) t z.func z.args (taken s.commands t (es ++ x ∷ [])) (entries_of t (es ++ x ∷ [])) none
+    (none_left (taken s.commands t (es ++ x ∷ [])) (sym (ap takings none) ∙ takings_taken s.commands t first_control (es ++ x ∷ [])))
+others_part s es x t (Some y) None is other h = absurd is
+others_part s es x t (Some y) (Some z) is other h =
+    let p : Source = s.program in
+    let one : IsPart p (plans s) (an_own t z.func y.args (taken s.commands t es) (entries_of t es)) =
+    subst (λ f. IsPart p (plans s) (an_own t f y.args (taken s.commands t es) (entries_of t es))) is.0 h in
+    let two : IsPart p (plans s) (an_own t z.func z.args (taken s.commands t es) (entries_of t es)) =
+    subst (λ vs. IsPart p (plans s) (an_own t z.func vs (taken s.commands t es) (entries_of t es))) is.1 one in
+    let three : IsPart p (plans s) (an_own t z.func z.args (taken s.commands t (es ++ x ∷ [])) (entries_of t es)) =
+    subst (λ vs. IsPart p (plans s) (an_own t z.func z.args vs (entries_of t es))) (sym (not_taken s.commands t x es other)) two in
+    subst (λ zs. IsPart p (plans s) (an_own t z.func z.args (taken s.commands t (es ++ x ∷ [])) zs)) (sym (not_mine t x es other)) three
+
+pub mine : (t : ℕ) (x : Entry) (es : List Entry) → is_thread t (thread_of x) ≡ true → entries_of t (es ++ x ∷ []) ≡ entries_of t es ++ x ∷ []
+mine t x es h = entries_append t es (x ∷ []) ∙ ap (λ zs. entries_of t es ++ zs) (if_true (is_thread t (thread_of x)) (x ∷ []) [] h)
+
+one_taken : (t : ℕ) (v : Version) (vs : List Version) (x : Entry) → is_thread t (thread_of x) ≡ true → vs ++ (if takes t x then v ∷ [] else []) ≡ with_newest x v vs
+one_taken t v vs (e.Begin u l) h = ap (λ zs. vs ++ zs) (if_true (u == t) (v ∷ []) [] h)
+one_taken t v vs (e.Cross u l x n m) h = ap (λ zs. vs ++ zs) (if_true (u == t) (v ∷ []) [] h)
+one_taken t v vs _ h = append_none vs
+
+newest_taken : (cs : List Command) (t : ℕ) (x : Entry) (es : List Entry) → is_thread t (thread_of x) ≡ true
+    → taken cs t (es ++ x ∷ []) ≡ with_newest x (Control.version (control cs es)) (taken cs t es)
+newest_taken cs t x es h = taken_append cs t first_control es (x ∷ []) ∙ one_taken t (Control.version (control cs es)) (taken cs t es) x h
+
+own_part : (s : Setting) (es : List Entry) (x : Entry) (t : ℕ) (y : Spawned) (o' : Option Spawned) → IsOf (Some y) o' → is_thread t (thread_of x) ≡ true
+    → IsPart s.program (plans s) (own_with s es t y x) → HasPart s (es ++ x ∷ []) t o'
+own_part s es x t y None is self h = absurd is
+own_part s es x t y (Some z) is self h =
+    let p : Source = s.program in
+    let vs : List Version = with_newest x (Control.version (control s.commands es)) (taken s.commands t es) in
+    let us : List Entry = entries_of t es ++ x ∷ [] in
+    let one : IsPart p (plans s) (an_own t z.func y.args vs us) = subst (λ f. IsPart p (plans s) (an_own t f y.args vs us)) is.0 h in
+    let two : IsPart p (plans s) (an_own t z.func z.args vs us) = subst (λ ws. IsPart p (plans s) (an_own t z.func ws vs us)) is.1 one in
+    let three : IsPart p (plans s) (an_own t z.func z.args (taken s.commands t (es ++ x ∷ [])) us) =
+    subst (λ ws. IsPart p (plans s) (an_own t z.func z.args ws us)) (sym (newest_taken s.commands t x es self)) two in
+    subst (λ zs. IsPart p (plans s) (an_own t z.func z.args (taken s.commands t (es ++ x ∷ [])) zs)) (sym (mine t x es self)) three
+
+-- Control entries
+
+of_itself : (o : Option Spawned) → IsOf o o
+of_itself None = tt
+of_itself (Some x) = (refl, refl)
+
+no_target : (x : Entry) → thread_of x ≡ None → is_target x ≡ false
+no_target (e.Begin t l) h = cc
+no_target (e.End t l) h = cc
+no_target (e.Trap t l r) h = cc
+no_target (e.Read t l y v) h = cc
+no_target (e.Write t l y v) h = cc
+no_target (e.Lock t l m) h = cc
+no_target (e.Unlock t l m) h = cc
+no_target (e.Down t l y) h = cc
+no_target (e.Up t l y) h = cc
+no_target (e.Spawn t l c f vs) h = cc
+no_target (e.Join t l c) h = cc
+no_target (e.Print t l v) h = cc
+no_target _ h = refl
+
+pub control_turns : HasControlTurns
+control_turns s es h open_ x none stands =
+    longer s es h x h.events [] (sym (append_none h.events)) open_ (sym (if_false (is_target x) (x ∷ []) [] (no_target x none))) h.run
+    (λ t. others_part s es x t (thread_at (replay (start s.program) h.events) t) (thread_at (replay (start s.program) h.events) t)
+    (of_itself (thread_at (replay (start s.program) h.events) t)) (ap (is_thread t) none) (h.parts t))
+    stands
+
+-- A journal with no entry
+
+no_deeds : (p : Source) (t : ℕ) (o : Option Spawned) → IsThreadTraced p [] t o
+no_deeds p t None = refl
+no_deeds p t (Some x) = record { items = []; outcome = Open; trace = empty_trace p x.func x.args; same = refl }
+
+no_part : (s : Setting) (t : ℕ) (o : Option Spawned) → HasPart s [] t o
+no_part s t None = refl
+no_part s t (Some x) = empty_part s.program (plans s) t x.func x.args [] [] refl refl
+
+no_entry : (front : List Entry) (x : Entry) (rest : List Entry) → [] ≡ front ++ x ∷ rest → ⊥
+no_entry [] x rest h = cc
+no_entry (y ∷ front) x rest h = cc
+
+pub beginning : HasBeginning
+beginning s = (
+  record {
+    events = [];
+    tells = refl;
+    run = record { traced = λ t. no_deeds s.program t (thread_at (start s.program) t); allowed = tt };
+    parts = λ t. no_part s t (thread_at (start s.program) t);
+    stands = λ front x rest is. absurd (no_entry front x rest is);
+  },
+  refl,
+)
+
+-- Parts behind an entry of a thread
+
+pub eq_same : (n : ℕ) → (n == n) ≡ true
+eq_same n = grind arith
+
+turn_parts : (s : Setting) (es : List Entry) (st : Store) (x : Entry) (t : ℕ) (z : Spawned) → ((u : ℕ) → HasPart s es u (thread_at st u)) → thread_of x ≡ Some t
+    → thread_at st t ≡ Some z → IsPart s.program (plans s) (own_with s es t z x) → (st' : Store) → ((u : ℕ) → IsOf (thread_at st u) (thread_at st' u)) → (u : ℕ)
+    → HasPart s (es ++ x ∷ []) u (thread_at st' u)
+turn_parts s es st x t z parts of there part st' keeps u =
+    by_test (t == u) (HasPart s (es ++ x ∷ []) u (thread_at st' u))
+    (λ b. subst (λ v. HasPart s (es ++ x ∷ []) v (thread_at st' v)) (same_number t u b)
+    (own_part s es x t z (thread_at st' t) (subst (λ o. IsOf o (thread_at st' t)) there (keeps t)) (ap (is_thread t) of ∙ eq_same t) part))
+    (λ b. others_part s es x u (thread_at st u) (thread_at st' u) (keeps u) (ap (is_thread u) of ∙ b) (parts u))
+
+-- The acts of a thread's part are what it did
+
+abbrev entry_of_deed : ℕ → Deed → Entry
+entry_of_deed t d = entry_by t d.line d.act
+
+pub op_no_target : (t l : ℕ) (o : Op) → is_target (entry_of_op t l o) ≡ false
+op_no_target t l (wait k n) = refl
+op_no_target t l (enters k c) = refl
+op_no_target t l (at k ns) = refl
+op_no_target t l (past k ns) = refl
+op_no_target t l (post k n) = refl
+op_no_target t l (leave k c) = refl
+op_no_target t l back = refl
+op_no_target t l (tick x) = refl
+op_no_target t l (cross x v n) = refl
+op_no_target t l (blocked what) = refl
+
+pub op_thread : (t l : ℕ) (o : Op) → thread_of (entry_of_op t l o) ≡ Some t
+op_thread t l (wait k n) = refl
+op_thread t l (enters k c) = refl
+op_thread t l (at k ns) = refl
+op_thread t l (past k ns) = refl
+op_thread t l (post k n) = refl
+op_thread t l (leave k c) = refl
+op_thread t l back = refl
+op_thread t l (tick x) = refl
+op_thread t l (cross x v n) = refl
+op_thread t l (blocked what) = refl
+
+pub act_target : (t l : ℕ) (a : Act) → is_target (entry_by t l a) ≡ true
+act_target t l begin = refl
+act_target t l end = refl
+act_target t l (trap c) = refl
+act_target t l (read x v) = refl
+act_target t l (write x v) = refl
+act_target t l (lock m) = refl
+act_target t l (unlock m) = refl
+act_target t l (down m) = refl
+act_target t l (up m) = refl
+act_target t l (spawn c f vs) = refl
+act_target t l (join c) = refl
+act_target t l (print v) = refl
+
+told_targets : (t : ℕ) (ss : List Step) → targets (told t ss) ≡ map (entry_of_deed t) (acts (items ss))
+told_targets t [] = refl
+told_targets t (makes l o ∷ ss) =
+    if_false (is_target (entry_of_op t l o)) (entry_of_op t l o ∷ targets (told t ss)) (targets (told t ss)) (op_no_target t l o) ∙ told_targets t ss
+told_targets t (goes (made l a) ∷ ss) =
+    if_true (is_target (entry_by t l a)) (entry_by t l a ∷ targets (told t ss)) (targets (told t ss)) (act_target t l a) ∙ ap (◌∷◌ (entry_by t l a)) (told_targets t ss)
+told_targets t (goes (begins l env) ∷ ss) = told_targets t ss
+told_targets t (goes (done l) ∷ ss) = told_targets t ss
+told_targets t (goes (edge l) ∷ ss) = told_targets t ss
+told_targets t (goes (enter f env) ∷ ss) = told_targets t ss
+told_targets t (goes (out f) ∷ ss) = told_targets t ss
+
+deeds_told : (t : ℕ) (xs : List Event) → entries_of t (map entry_of xs) ≡ map (entry_of_deed t) (deeds t xs)
+deeds_told t [] = refl
+deeds_told t (x ∷ xs) =
+    let d : Deed = record { line = x.line; act = x.act } in
+    let E : List Entry = entries_of t (map entry_of xs) in
+    let here : is_thread t (thread_of (entry_of x)) ≡ (x.thread == t) = ap (is_thread t) (entry_thread x.thread x.line x.act) in
+    by_test (x.thread == t) (entries_of t (entry_of x ∷ map entry_of xs) ≡ map (entry_of_deed t) (deeds t (x ∷ xs)))
+    (λ b.
+    if_true (is_thread t (thread_of (entry_of x))) (entry_of x ∷ E) E (here ∙ b)
+    ∙ (ap (λ u. entry_by u x.line x.act ∷ E) (same_number x.thread t b)
+    ∙ (ap (◌∷◌ (entry_by t x.line x.act)) (deeds_told t xs) ∙ sym (ap (map (entry_of_deed t)) (if_true (x.thread == t) (d ∷ deeds t xs) (deeds t xs) b)))))
+    (λ b.
+    if_false (is_thread t (thread_of (entry_of x))) (entry_of x ∷ E) E (here ∙ b)
+    ∙ (deeds_told t xs ∙ sym (ap (map (entry_of_deed t)) (if_false (x.thread == t) (d ∷ deeds t xs) (deeds t xs) b))))
+
+both_ways : (t : ℕ) (x : Entry) (th tg : Bool) (es ts : List Entry) → is_thread t (thread_of x) ≡ th → is_target x ≡ tg → targets es ≡ entries_of t ts
+    → targets (if th then x ∷ es else es) ≡ entries_of t (if tg then x ∷ ts else ts)
+both_ways t x true true es ts a b h =
+    if_true (is_target x) (x ∷ targets es) (targets es) b ∙ (ap (◌∷◌ x) h ∙ sym (if_true (is_thread t (thread_of x)) (x ∷ entries_of t ts) (entries_of t ts) a))
+both_ways t x true false es ts a b h = if_false (is_target x) (x ∷ targets es) (targets es) b ∙ h
+both_ways t x false true es ts a b h = h ∙ sym (if_false (is_thread t (thread_of x)) (x ∷ entries_of t ts) (entries_of t ts) a)
+both_ways t x false false es ts a b h = h
+
+targets_of : (t : ℕ) (es : List Entry) → targets (entries_of t es) ≡ entries_of t (targets es)
+targets_of t [] = refl
+targets_of t (x ∷ es) = both_ways t x (is_thread t (thread_of x)) (is_target x) (entries_of t es) (targets es) refl refl (targets_of t es)
+
+same_deed : (t : ℕ) (d g : Deed) → IsAlike d g → entry_of_deed t d ≡ entry_of_deed t g → d ≡ g
+same_deed t d g h is =
+    let act : d.act ≡ g.act = same_act t d.line g.line d.act g.act h.act is in
+    ap (λ l. record { line = l; act = d.act }) h.line ∙ ap (λ a. record { line = g.line; act = a }) act
+
+-- two traces of a thread whose acts are told the same have the same acts
+same_deeds : (p : Source) (f : ℕ) (vs : List ℤ) (is js : List Item) (r s : Outcome) → IsTrace p f vs is r → IsTrace p f vs js s → (t : ℕ) (front ds gs : List Deed)
+    → acts is ≡ front ++ ds → acts js ≡ front ++ gs → map (entry_of_deed t) ds ≡ map (entry_of_deed t) gs → ds ≡ gs
+same_deeds p f vs is js r s a b t front [] [] h k e = refl
+same_deeds p f vs is js r s a b t front [] (g ∷ gs) h k e = cc
+same_deeds p f vs is js r s a b t front (d ∷ ds) [] h k e = cc
+same_deeds p f vs is js r s a b t front (d ∷ ds) (g ∷ gs) h k e =
+    let first : entry_of_deed t d ≡ entry_of_deed t g = cc in
+    let others : map (entry_of_deed t) ds ≡ map (entry_of_deed t) gs = cc in
+    let same : d ≡ g = same_deed t d g (one_next_act p f vs is js r s a b front ds gs d g h k) first in
+    let k' : acts js ≡ front ++ d ∷ gs = k ∙ ap (λ u. front ++ u ∷ gs) (sym same) in
+    let ih : ds ≡ gs =
+    same_deeds p f vs is js r s a b t (front ++ d ∷ []) ds gs (h ∙ sym (append_assoc front (d ∷ []) ds)) (k' ∙ sym (append_assoc front (d ∷ []) gs)) others in
+    ap (λ u. u ∷ ds) same ∙ ap (◌∷◌ g) ih
+
+acts_append : (is js : List Item) → acts (is ++ js) ≡ acts is ++ acts js
+acts_append [] js = refl
+acts_append (made l a ∷ is) js = ap (◌∷◌ (record { line = l; act = a })) (acts_append is js)
+acts_append (begins l env ∷ is) js = acts_append is js
+acts_append (done l ∷ is) js = acts_append is js
+acts_append (edge l ∷ is) js = acts_append is js
+acts_append (enter f env ∷ is) js = acts_append is js
+acts_append (out f ∷ is) js = acts_append is js
+
+-- Runs with one more event
+
+own_traced : (s : Setting) (es : List Entry) (h : IsLawful s es) (y : Event) (z : Spawned) → thread_at (replay (start s.program) h.events) y.thread ≡ Some z
+    → (part : IsPart s.program (plans s) (own_with s es y.thread z (entry_of y))) (before : List Step) → part.steps ≡ before ++ goes (made y.line y.act) ∷ []
+    → IsTraced s.program z.func z.args (deeds y.thread h.events ++ record { line = y.line; act = y.act } ∷ [])
+own_traced s es h y z there part before is =
+    let p : Source = s.program in
+    let t : ℕ = y.thread in
+    let d : Deed = record { line = y.line; act = y.act } in
+    let last : List Step = goes (made y.line y.act) ∷ [] in
+    let old : IsTraced p z.func z.args (deeds t h.events) = subst (IsThreadTraced p h.events t) there (h.run.traced t) in
+    let tells : told t before ++ entry_of y ∷ [] ≡ entries_of t es ++ entry_of y ∷ [] = sym (told_append t before last) ∙ (ap (told t) (sym is) ∙ part.tells) in
+    let front : told t before ≡ entries_of t es = same_front (told t before) (entries_of t es) (entry_of y) (entry_of y) tells in
+    let entries : map (entry_of_deed t) (deeds t h.events) ≡ map (entry_of_deed t) (acts (items before)) =
+    sym (deeds_told t h.events) ∙ (ap (entries_of t) h.tells ∙ (sym (targets_of t es) ∙ (ap targets (sym front) ∙ told_targets t before))) in
+    let whole : IsTrace p z.func z.args (items (before ++ last)) Open =
+    broken_trace p z.func z.args (items (before ++ last)) part.ahead part.outcome (subst (λ ss. IsTrace p z.func z.args (items ss ++ part.ahead) part.outcome) is part.trace) in
+    let cut : IsTrace p z.func z.args (items before) Open =
+    broken_trace p z.func z.args (items before) (made y.line y.act ∷ []) Open (subst (λ us. IsTrace p z.func z.args us Open) (items_append before last) whole) in
+    let same : deeds t h.events ≡ acts (items before) =
+    same_deeds p z.func z.args old.items (items before) old.outcome Open old.trace cut t [] (deeds t h.events) (acts (items before)) old.same refl entries in
+    record {
+      items = items (before ++ last);
+      outcome = Open;
+      trace = whole;
+      same = ap acts (items_append before last) ∙ (acts_append (items before) (made y.line y.act ∷ []) ∙ ap (λ ds. ds ++ d ∷ []) (sym same));
+    }
+
+allowed_append : (s : Store) (xs : List Event) (y : Event) → AreAllowed s xs → IsAllowed (replay s xs) y → AreAllowed s (xs ++ y ∷ [])
+allowed_append s [] y h g = (g, tt)
+allowed_append s (x ∷ xs) y h g = (h.0, allowed_append (law.after s x) xs y h.1 g)
+
+same_traced : (p : Source) (xs : List Event) (t : ℕ) (ds : List Deed) (z : Spawned) (o : Option Spawned) → IsOf (Some z) o → deeds t xs ≡ ds → IsTraced p z.func z.args ds
+    → IsThreadTraced p xs t o
+same_traced p xs t ds z None is same h = absurd is
+same_traced p xs t ds z (Some y) is same h =
+    let one : IsTraced p y.func z.args ds = subst (λ f. IsTraced p f z.args ds) is.0 h in
+    let two : IsTraced p y.func y.args ds = subst (λ vs. IsTraced p y.func vs ds) is.1 one in
+    subst (IsTraced p y.func y.args) (sym same) two
+
+others_traced : (p : Source) (xs ys : List Event) (t : ℕ) (o o' : Option Spawned) → IsOf o o' → deeds t ys ≡ deeds t xs → IsThreadTraced p xs t o → IsThreadTraced p ys t o'
+others_traced p xs ys t None None is same h = same ∙ h
+others_traced p xs ys t None (Some y) is same h = record { items = []; outcome = Open; trace = empty_trace p y.func y.args; same = sym (same ∙ h) }
+others_traced p xs ys t (Some x) o' is same h = same_traced p ys t (deeds t xs) x o' is same h
+
+deeds_last : (t : ℕ) (xs : List Event) (y : Event) → (y.thread == t) ≡ true → deeds t (xs ++ y ∷ []) ≡ deeds t xs ++ record { line = y.line; act = y.act } ∷ []
+deeds_last t xs y h = deeds_append t xs (y ∷ []) ∙ ap (λ ds. deeds t xs ++ ds) (if_true (y.thread == t) (record { line = y.line; act = y.act } ∷ []) [] h)
+
+deeds_others : (t : ℕ) (xs : List Event) (y : Event) → (y.thread == t) ≡ false → deeds t (xs ++ y ∷ []) ≡ deeds t xs
+deeds_others t xs y h =
+    deeds_append t xs (y ∷ [])
+    ∙ (ap (λ ds. deeds t xs ++ ds) (if_false (y.thread == t) (record { line = y.line; act = y.act } ∷ []) [] h) ∙ append_none (deeds t xs))
+
+keeps_threads : (p : Source) (xs : List Event) (y : Event) (u : ℕ) → IsOf (thread_at (replay (start p) xs) u) (thread_at (replay (start p) (xs ++ y ∷ [])) u)
+keeps_threads p xs y u =
+    subst (λ st. IsOf (thread_at (replay (start p) xs) u) (thread_at st u)) (sym (replay_append (start p) xs (y ∷ []))) (act_keeps (replay (start p) xs) y.thread y.act u)
+
+longer_run : (p : Source) (xs : List Event) (y : Event) (z : Spawned) → AreRun p xs → thread_at (replay (start p) xs) y.thread ≡ Some z → IsAllowed (replay (start p) xs) y
+    → IsTraced p z.func z.args (deeds y.thread xs ++ record { line = y.line; act = y.act } ∷ []) → AreRun p (xs ++ y ∷ [])
+longer_run p xs y z run there ok traced = record {
+  traced = λ u. by_test (y.thread == u) (IsThreadTraced p (xs ++ y ∷ []) u (thread_at (replay (start p) (xs ++ y ∷ [])) u))
+      (λ b.
+      subst (λ v. IsThreadTraced p (xs ++ y ∷ []) v (thread_at (replay (start p) (xs ++ y ∷ [])) v)) (same_number y.thread u b)
+      (same_traced p (xs ++ y ∷ []) y.thread (deeds y.thread xs ++ record { line = y.line; act = y.act } ∷ []) z (thread_at (replay (start p) (xs ++ y ∷ [])) y.thread)
+      (subst (λ o. IsOf o (thread_at (replay (start p) (xs ++ y ∷ [])) y.thread)) there (keeps_threads p xs y y.thread))
+      (deeds_last y.thread xs y (eq_same y.thread)) traced))
+      (λ b.
+      others_traced p xs (xs ++ y ∷ []) u (thread_at (replay (start p) xs) u) (thread_at (replay (start p) (xs ++ y ∷ [])) u) (keeps_threads p xs y u)
+      (deeds_others u xs y b) (run.traced u));
+  allowed = allowed_append (start p) xs y run.allowed ok;
+}
+
+-- The versions that are still to come
+
+drop_none : (n : ℕ) (vs : List Version) → vs ≡ [] → drop n vs ≡ []
+drop_none zero vs is = is
+drop_none (suc n) vs is = ap (drop (suc n)) is
+
+drop_first : (n : ℕ) (vs ws : List Version) → ws ≡ without_first vs → drop n ws ≡ drop (suc n) vs
+drop_first n [] ws is = drop_none n ws is
+drop_first n (v ∷ vs) ws is = ap (drop n) is
+
+drop_whole : {A : Type 0} (n : ℕ) (xs ys : List A) → n ≡ length xs → drop n (xs ++ ys) ≡ ys
+drop_whole zero [] ys h = refl
+drop_whole zero (x ∷ xs) ys h = let bad : ⊥ = omega arith in absurd bad
+drop_whole (suc n) [] ys h = let bad : ⊥ = omega arith in absurd bad
+drop_whole (suc n) (x ∷ xs) ys h = drop_whole n xs ys (omega arith)
+
+pub walked_coming : (p : Source) (plans : Plans) (t : ℕ) (z : Walk) (ss : List Step) → Walk.coming (walked p plans z ss) ≡ drop (takings (told t ss)) z.coming
+walked_coming p plans t z [] = refl
+walked_coming p plans t z (goes (made l begin) ∷ ss) =
+    walked_coming p plans t (taking (entered_journal z) z.coming) ss
+    ∙ drop_first (takings (told t ss)) z.coming (Walk.coming (taking (entered_journal z) z.coming)) (taking_coming (entered_journal z) z.coming refl)
+walked_coming p plans t z (makes l (cross x v n) ∷ ss) =
+    walked_coming p plans t (crossing p plans z z.coming) ss
+    ∙ drop_first (takings (told t ss)) z.coming (Walk.coming (crossing p plans z z.coming)) (crossing_coming p plans z z.coming refl)
+walked_coming p plans t z (goes (made l end) ∷ ss) = walked_coming p plans t (after p plans z (goes (made l end))) ss
+walked_coming p plans t z (goes (made l (trap c)) ∷ ss) = walked_coming p plans t (after p plans z (goes (made l (trap c)))) ss
+walked_coming p plans t z (goes (made l (read x v)) ∷ ss) = walked_coming p plans t (after p plans z (goes (made l (read x v)))) ss
+walked_coming p plans t z (goes (made l (write x v)) ∷ ss) = walked_coming p plans t (after p plans z (goes (made l (write x v)))) ss
+walked_coming p plans t z (goes (made l (lock x)) ∷ ss) = walked_coming p plans t (after p plans z (goes (made l (lock x)))) ss
+walked_coming p plans t z (goes (made l (unlock x)) ∷ ss) = walked_coming p plans t (after p plans z (goes (made l (unlock x)))) ss
+walked_coming p plans t z (goes (made l (down x)) ∷ ss) = walked_coming p plans t (after p plans z (goes (made l (down x)))) ss
+walked_coming p plans t z (goes (made l (up x)) ∷ ss) = walked_coming p plans t (after p plans z (goes (made l (up x)))) ss
+walked_coming p plans t z (goes (made l (spawn c f ws)) ∷ ss) = walked_coming p plans t (after p plans z (goes (made l (spawn c f ws)))) ss
+walked_coming p plans t z (goes (made l (join c)) ∷ ss) = walked_coming p plans t (after p plans z (goes (made l (join c)))) ss
+walked_coming p plans t z (goes (made l (print v)) ∷ ss) = walked_coming p plans t (after p plans z (goes (made l (print v)))) ss
+walked_coming p plans t z (goes (begins l env) ∷ ss) = walked_coming p plans t (after p plans z (goes (begins l env))) ss
+walked_coming p plans t z (goes (done l) ∷ ss) = walked_coming p plans t (after p plans z (goes (done l))) ss
+walked_coming p plans t z (goes (edge l) ∷ ss) = walked_coming p plans t (after p plans z (goes (edge l))) ss
+walked_coming p plans t z (goes (enter f env) ∷ ss) = walked_coming p plans t (after p plans z (goes (enter f env))) ss
+walked_coming p plans t z (goes (out f) ∷ ss) = walked_coming p plans t (after p plans z (goes (out f))) ss
+walked_coming p plans t z (makes l (wait k n) ∷ ss) = walked_coming p plans t (after p plans z (makes l (wait k n))) ss
+walked_coming p plans t z (makes l (enters k c) ∷ ss) = walked_coming p plans t (after p plans z (makes l (enters k c))) ss
+walked_coming p plans t z (makes l (at k ns) ∷ ss) = walked_coming p plans t (after p plans z (makes l (at k ns))) ss
+walked_coming p plans t z (makes l (past k ns) ∷ ss) = walked_coming p plans t (after p plans z (makes l (past k ns))) ss
+walked_coming p plans t z (makes l (post k n) ∷ ss) = walked_coming p plans t (after p plans z (makes l (post k n))) ss
+walked_coming p plans t z (makes l (leave k c) ∷ ss) = walked_coming p plans t (after p plans z (makes l (leave k c))) ss
+walked_coming p plans t z (makes l back ∷ ss) = walked_coming p plans t (after p plans z (makes l back)) ss
+walked_coming p plans t z (makes l (tick x) ∷ ss) = walked_coming p plans t (after p plans z (makes l (tick x))) ss
+walked_coming p plans t z (makes l (blocked what) ∷ ss) = walked_coming p plans t (after p plans z (makes l (blocked what))) ss
+
+-- A thread that ends holds nothing, so the journal says that nobody with its number holds anything
+
+pub drop_all : {A : Type 0} (n : ℕ) (xs : List A) → n ≡ length xs → drop n xs ≡ []
+drop_all zero [] h = refl
+drop_all zero (x ∷ xs) h = let bad : ⊥ = omega arith in absurd bad
+drop_all (suc n) [] h = let bad : ⊥ = omega arith in absurd bad
+drop_all (suc n) (x ∷ xs) h = drop_all n xs (omega arith)
+
+holder_found : (hs : List Holder) (t : ℕ) → list_any (λ (h : Holder). h.thread == t) hs ≡ true
+    → (k : ℕ) × ((c : ℕ) × (list_any (λ (h : Holder). (h.filter == k) && ((h.clause == c) && (h.thread == t))) hs ≡ true))
+holder_found [] t h = cc
+holder_found (g ∷ hs) t h =
+    by_test (g.thread == t) ((k : ℕ) × ((c : ℕ) × (list_any (λ (h : Holder). (h.filter == k) && ((h.clause == c) && (h.thread == t))) (g ∷ hs) ≡ true)))
+    (λ b. (
+      g.filter,
+      (
+        g.clause,
+        or_left ((g.filter == g.filter) && ((g.clause == g.clause) && (g.thread == t))) _
+            (and_true (g.filter == g.filter) ((g.clause == g.clause) && (g.thread == t)) (eq_same g.filter)
+            (and_true (g.clause == g.clause) (g.thread == t) (eq_same g.clause) b)),
+      ),
+    ))
+    (λ b.
+    let ih = holder_found hs t (or_rest (g.thread == t) (list_any (λ (h : Holder). h.thread == t) hs) b h) in
+    (ih.0, (ih.1.0, or_right ((g.filter == ih.0) && ((g.clause == ih.1.0) && (g.thread == t))) _ ih.1.1)))
+
+end_free : (s : Setting) (es : List Entry) (h : IsLawful s es) (t l : ℕ) (z : Spawned) (part : IsPart s.program (plans s) (own_with s es t z (e.End t l))) (before : List Step)
+    → part.steps ≡ before ++ goes (made l end) ∷ [] → list_any (λ (g : Holder). g.thread == t) (Control.holders (control s.commands es)) ≡ false
+end_free s es h t l z part before is =
+    let p : Source = s.program in
+    let vs : List Version = taken s.commands t es in
+    let last : List Step = goes (made l end) ∷ [] in
+    let trace : IsTrace p z.func z.args (items (before ++ last) ++ part.ahead) part.outcome =
+    subst (λ ss. IsTrace p z.func z.args (items ss ++ part.ahead) part.outcome) is part.trace in
+    let woven : AreWoven p (plans s) (unborn vs) (before ++ last) part.ahead = subst (λ ss. AreWoven p (plans s) (unborn vs) ss part.ahead) is part.woven in
+    let none : Walk.held (walked p (plans s) (unborn vs) before) ≡ [] = end_holds p (plans s) z.func z.args vs before l part.ahead part.outcome trace woven in
+    let tells : told t before ++ e.End t l ∷ [] ≡ entries_of t es ++ e.End t l ∷ [] = sym (told_append t before last) ∙ (ap (told t) (sym is) ∙ part.tells) in
+    let same : told t before ≡ entries_of t es = same_front (told t before) (entries_of t es) (e.End t l) (e.End t l) tells in
+    let front : IsPart p (plans s) (own s es t z) = record {
+      steps = before;
+      ahead = made l end ∷ part.ahead;
+      outcome = part.outcome;
+      trace = subst (λ us. IsTrace p z.func z.args us part.outcome) (items_ahead before last part.ahead) trace;
+      woven = woven_front p (plans s) (unborn vs) before last part.ahead woven;
+      tells = same;
+      taken = walked_coming p (plans s) t (unborn vs) before
+          ∙ drop_all (takings (told t before)) vs (ap takings same ∙ takings_taken s.commands t first_control es);
+    } in
+    let h' : IsLawful s (es ++ []) = subst (IsLawful s) (sym (append_none es)) h in
+    let sound : IsSound (control s.commands es) = sound_along s.commands first_control es (are_said s es [] h') first_sound in
+    by_test (list_any (λ (g : Holder). g.thread == t) (Control.holders (control s.commands es)))
+    (list_any (λ (g : Holder). g.thread == t) (Control.holders (control s.commands es)) ≡ false)
+    (λ b.
+    let found = holder_found (Control.holders (control s.commands es)) t b in
+    let balanced : holds (Walk.held (walked p (plans s) (unborn vs) before)) found.0 found.1.0 ≡ is_held_by (control s.commands es) found.0 found.1.0 t =
+    balance s es [] h' t z front found.0 found.1.0 (sound.installed found.0 found.1.0 t found.1.1) in
+    let bad : false ≡ true = ap (λ hs. holds hs found.0 found.1.0) (sym none) ∙ (balanced ∙ found.1.1) in
+    cc)
+    (λ b. b)
+
+pub act_free : (s : Setting) (es : List Entry) (h : IsLawful s es) (t l : ℕ) (a : Act) (z : Spawned) (part : IsPart s.program (plans s) (own_with s es t z (entry_by t l a)))
+    (before : List Step) → part.steps ≡ before ++ goes (made l a) ∷ [] → a ≡ end
+    → list_any (λ (g : Holder). g.thread == t) (Control.holders (control s.commands es)) ≡ false
+act_free s es h t l begin z part before is e = cc
+act_free s es h t l end z part before is e = end_free s es h t l z part before is
+act_free s es h t l (trap c) z part before is e = cc
+act_free s es h t l (read x v) z part before is e = cc
+act_free s es h t l (write x v) z part before is e = cc
+act_free s es h t l (lock m) z part before is e = cc
+act_free s es h t l (unlock m) z part before is e = cc
+act_free s es h t l (down m) z part before is e = cc
+act_free s es h t l (up m) z part before is e = cc
+act_free s es h t l (spawn c f vs) z part before is e = cc
+act_free s es h t l (join c) z part before is e = cc
+act_free s es h t l (print v) z part before is e = cc
+
+pub event_stands : (s : Setting) (f : Front) (t l : ℕ) (a : Act) → MayMove s f t (entry_by t l a)
+    → (a ≡ end → list_any (λ (g : Holder). g.thread == t) f.control.holders ≡ false) → Stands s f (entry_by t l a) []
+event_stands s f t l begin m free = (m, tt)
+event_stands s f t l end m free = (m, free refl)
+event_stands s f t l (trap c) m free = m
+event_stands s f t l (read x v) m free = m
+event_stands s f t l (write x v) m free = m
+event_stands s f t l (lock x) m free = m
+event_stands s f t l (unlock x) m free = m
+event_stands s f t l (down x) m free = m
+event_stands s f t l (up x) m free = m
+event_stands s f t l (spawn c g vs) m free = m
+event_stands s f t l (join c) m free = m
+event_stands s f t l (print v) m free = m
+
+-- What a turn shows is what stands
+
+pub own_same : (s : Setting) (es : List Entry) (x : Entry) (t : ℕ) (z : Spawned) → is_thread t (thread_of x) ≡ true → own_with s es t z x ≡ own s (es ++ x ∷ []) t z
+own_same s es x t z self =
+    ap (λ vs. an_own t z.func z.args vs (entries_of t es ++ x ∷ [])) (sym (newest_taken s.commands t x es self))
+    ∙ ap (λ us. an_own t z.func z.args (taken s.commands t (es ++ x ∷ [])) us) (sym (mine t x es self))
+
+pub moved : (p : Source) (plans : Plans) (x : Own) (h : IsPart p plans x) (before : List Step) (step : Step) (y : Entry) → h.steps ≡ before ++ step ∷ []
+    → told x.thread (step ∷ []) ≡ y ∷ [] → HasMoved p plans x before
+moved p plans x h before step y is tells = record {
+  last = step;
+  ahead = h.ahead;
+  outcome = h.outcome;
+  trace = subst (λ ss. IsTrace p x.func x.args (items ss ++ h.ahead) h.outcome) is h.trace;
+  woven = subst (λ ss. AreWoven p plans (unborn x.versions) ss h.ahead) is h.woven;
+  entry = y;
+  is = tells;
+  tells = ap (told x.thread) (sym is) ∙ h.tells;
+}
+
+turn_parked : (s : Setting) (es : List Entry) (xs : List Event) (t : ℕ) (x : Entry) (step : Step) (m : MayTurn s es xs t x step) → is_thread t (thread_of x) ≡ true
+    → told t (step ∷ []) ≡ x ∷ [] → (o : Option ℕ) → Control.asked (control s.commands es) ≡ o → IsParked s (front_of s es xs) t x o
+turn_parked s es xs t x step m self tells None is = tt
+turn_parked s es xs t x step m self tells (Some k) is = (
+  (λ some.
+      let away : KeptAway s (own_with s es t m.state x) k = record {
+        steps = m.before;
+        moved = moved s.program (plans s) (own_with s es t m.state x) m.part m.before step x m.last tells;
+        away = m.away k is some;
+      } in
+      subst (Parks s (es ++ x ∷ []) k t) (sym m.there) (subst (λ w. KeptAway s w k) (own_same s es x t m.state self) away)),
+  (λ b. m.no_begin k is b),
+)
+
+turn_moves : (s : Setting) (es : List Entry) (xs : List Event) (t : ℕ) (x : Entry) (step : Step) → MayTurn s es xs t x step → thread_of x ≡ Some t → told t (step ∷ []) ≡ x ∷ []
+    → MayMove s (front_of s es xs) t x
+turn_moves s es xs t x step m of tells = record {
+  goes_on = m.goes_on;
+  not_held_off = m.not_held_off;
+  crosses = m.crosses;
+  parked = turn_parked s es xs t x step m (ap (is_thread t) of ∙ eq_same t) tells (Control.asked (control s.commands es)) refl;
+}
+
+pub event_turns : HasEventTurns
+event_turns s es h open_ y m ok =
+    let p : Source = s.program in
+    let x : Entry = entry_of y in
+    let of : thread_of x ≡ Some y.thread = entry_thread y.thread y.line y.act in
+    longer s es h x (h.events ++ y ∷ []) (y ∷ []) refl open_ (sym (if_true (is_target x) (x ∷ []) [] (act_target y.thread y.line y.act)))
+    (longer_run p h.events y m.state h.run m.there ok (own_traced s es h y m.state m.there m.part m.before m.last))
+    (turn_parts s es (replay (start p) h.events) x y.thread m.state h.parts of m.there m.part (replay (start p) (h.events ++ y ∷ [])) (keeps_threads p h.events y))
+    (event_stands s (front_of s es h.events) y.thread y.line y.act (turn_moves s es h.events y.thread x (goes (made y.line y.act)) m of refl)
+    (act_free s es h y.thread y.line y.act m.state m.part m.before m.last))
+
+-- Before an operation
+
+-- these steps stand before the operation
+pub record BeforeOp (t : ℕ) (ss : List Step) (es : List Entry) (l : ℕ) (o : Op) : Type 0 where
+  pub before : List Step
+  pub behind : List Step
+  pub whole : ss ≡ before ++ makes l o ∷ behind
+  pub same : told t before ≡ es
+
+op_here : (t m : ℕ) (q : Op) (l : ℕ) (o : Op) (ss : List Step) → entry_of_op t m q ∷ told t ss ≡ entry_of_op t l o ∷ [] → BeforeOp t (makes m q ∷ ss) [] l o
+op_here t m q l o ss h =
+    let first : entry_of_op t m q ≡ entry_of_op t l o = cc in
+    let both = same_op t m l q o first in
+    record { before = []; behind = ss; whole = ap (λ n. makes n q ∷ ss) both.0 ∙ ap (λ r. makes l r ∷ ss) both.1; same = refl }
+
+with_mark : (t : ℕ) (s : Step) (ss : List Step) (es : List Entry) (l : ℕ) (o : Op) → ((us : List Step) → told t (s ∷ us) ≡ told t us) → BeforeOp t ss es l o → BeforeOp t (s ∷ ss) es l o
+with_mark t s ss es l o skips h = record { before = s ∷ h.before; behind = h.behind; whole = ap (◌∷◌ s) h.whole; same = skips h.before ∙ h.same }
+
+with_told : (t : ℕ) (s : Step) (ss : List Step) (x y : Entry) (es fs : List Entry) (l : ℕ) (o : Op) → ((us : List Step) → told t (s ∷ us) ≡ x ∷ told t us)
+    → x ∷ told t ss ≡ (y ∷ es) ++ fs → (told t ss ≡ es ++ fs → BeforeOp t ss es l o) → BeforeOp t (s ∷ ss) (y ∷ es) l o
+with_told t s ss x y es fs l o tells h go =
+    let first : x ≡ y = cc in
+    let others : told t ss ≡ es ++ fs = cc in
+    let c : BeforeOp t ss es l o = go others in
+    record { before = s ∷ c.before; behind = c.behind; whole = ap (◌∷◌ s) c.whole; same = tells c.before ∙ (ap (λ z. z ∷ told t c.before) first ∙ ap (◌∷◌ y) c.same) }
+
+pub before_op : (t : ℕ) (ss : List Step) (es : List Entry) (l : ℕ) (o : Op) → told t ss ≡ es ++ entry_of_op t l o ∷ [] → BeforeOp t ss es l o
+before_op t [] es l o h = absurd (never_empty es (entry_of_op t l o) h)
+before_op t (makes m q ∷ ss) [] l o h = op_here t m q l o ss h
+before_op t (goes (made m a) ∷ ss) [] l o h = let first : entry_by t m a ≡ entry_of_op t l o = cc in absurd (act_is_no_op t m l a o first)
+before_op t (makes m q ∷ ss) (y ∷ es) l o h =
+    with_told t (makes m q) ss (entry_of_op t m q) y es (entry_of_op t l o ∷ []) l o (λ us. refl) h (λ g. before_op t ss es l o g)
+before_op t (goes (made m a) ∷ ss) (y ∷ es) l o h =
+    with_told t (goes (made m a)) ss (entry_by t m a) y es (entry_of_op t l o ∷ []) l o (λ us. refl) h (λ g. before_op t ss es l o g)
+before_op t (goes (begins m env) ∷ ss) es l o h = with_mark t (goes (begins m env)) ss es l o (λ us. refl) (before_op t ss es l o h)
+before_op t (goes (done m) ∷ ss) es l o h = with_mark t (goes (done m)) ss es l o (λ us. refl) (before_op t ss es l o h)
+before_op t (goes (edge m) ∷ ss) es l o h = with_mark t (goes (edge m)) ss es l o (λ us. refl) (before_op t ss es l o h)
+before_op t (goes (enter f env) ∷ ss) es l o h = with_mark t (goes (enter f env)) ss es l o (λ us. refl) (before_op t ss es l o h)
+before_op t (goes (out f) ∷ ss) es l o h = with_mark t (goes (out f)) ss es l o (λ us. refl) (before_op t ss es l o h)
+
+stands_there : (p : Source) (plans : Plans) (z : Walk) (before : List Step) (s : Step) (behind : List Step) (ahead : List Item) → AreWoven p plans z (before ++ s ∷ behind) ahead
+    → MayStand p (walked p plans z before) s (items behind ++ ahead)
+stands_there p plans z [] s behind ahead h = h.0
+stands_there p plans z (u ∷ before) s behind ahead h = stands_there p plans (after p plans z u) before s behind ahead h.1
+
+-- a part with an operation behind it, which takes no version
+record FrontPart (p : Source) (plans : Plans) (x : Own) (l : ℕ) (o : Op) : Type 0 where
+  part : IsPart p plans x
+  rest : List Item
+  stands : MayStand p (led p plans x part.steps) (makes l o) rest
+
+front_part : (p : Source) (plans : Plans) (t f : ℕ) (args : List ℤ) (vs : List Version) (es : List Entry) (l : ℕ) (o : Op) → takings es ≡ length vs
+    → IsPart p plans (an_own t f args vs (es ++ entry_of_op t l o ∷ [])) → FrontPart p plans (an_own t f args vs es) l o
+front_part p plans t f args vs es l o n h =
+    let c : BeforeOp t h.steps es l o = before_op t h.steps es l o h.tells in
+    let woven : AreWoven p plans (unborn vs) (c.before ++ makes l o ∷ c.behind) h.ahead = subst (λ ss. AreWoven p plans (unborn vs) ss h.ahead) c.whole h.woven in
+    let front : AreWoven p plans (unborn vs) c.before (items c.behind ++ h.ahead) = woven_front p plans (unborn vs) c.before (makes l o ∷ c.behind) h.ahead woven in
+    let more : AreWoven p plans (to_take (unborn []) (vs ++ [])) c.before (items c.behind ++ h.ahead) =
+    subst (λ ws. AreWoven p plans (to_take (unborn []) ws) c.before (items c.behind ++ h.ahead)) (sym (append_none vs)) front in
+    let both = fewer p plans t (unborn []) vs [] c.before (items c.behind ++ h.ahead) more (ap takings c.same ∙ n) in
+    let trace : IsTrace p f args (items (c.before ++ makes l o ∷ c.behind) ++ h.ahead) h.outcome =
+    subst (λ ss. IsTrace p f args (items ss ++ h.ahead) h.outcome) c.whole h.trace in
+    record {
+      part = record {
+        steps = c.before;
+        ahead = items c.behind ++ h.ahead;
+        outcome = h.outcome;
+        trace = subst (λ z. IsTrace p f args z h.outcome) (items_ahead c.before (makes l o ∷ c.behind) h.ahead) trace;
+        woven = front;
+        tells = c.same;
+        taken = both.1;
+      };
+      rest = items c.behind ++ h.ahead;
+      stands = stands_there p plans (unborn vs) c.before (makes l o) c.behind h.ahead woven;
+    }
+
+-- a thread that makes an operation has begun
+has_begun : (p : Source) (plans : Plans) (t f : ℕ) (args : List ℤ) (vs : List Version) (es : List Entry) (l : ℕ) (o : Op)
+    → IsPart p plans (an_own t f args vs (es ++ entry_of_op t l o ∷ [])) → (y : Entry) × ((ys : List Entry) × (es ≡ y ∷ ys))
+has_begun p plans t f args vs (y ∷ es) l o h = (y, (es, refl))
+has_begun p plans t f args vs [] l o h =
+    let b = first_begins p plans t f args vs h.steps h.ahead h.outcome (entry_of_op t l o) [] h.trace h.woven h.tells in
+    let bad : true ≡ false = sym (ap is_target b.1.1) ∙ op_no_target t l o in
+    cc
+
+-- Threads are few
+
+slice_small : {A : Type 0} (xs : List A) (i : ℕ) (x : A) → slice_get xs i ≡ Some x → i < length xs
+slice_small [] i x h = cc
+slice_small (y ∷ xs) zero x h = omega arith
+slice_small (y ∷ xs) (suc i) x h = let ih : i < length xs = slice_small xs i x h in omega arith
+
+changed_length : (s : Store) (f : Spawned → Spawned) (xs : List Spawned) (n : ℕ) → length (Store.spawned (with_thread (record s { spawned = xs }) (suc n) f)) ≡ length xs
+changed_length s f [] n = refl
+changed_length s f (x ∷ xs) zero = refl
+changed_length s f (x ∷ xs) (suc n) = ap suc (changed_length s f xs n)
+
+with_thread_length : (s : Store) (u : ℕ) (f : Spawned → Spawned) → length (Store.spawned (with_thread s u f)) ≡ length s.spawned
+with_thread_length s zero f = refl
+with_thread_length s (suc n) f = changed_length s f s.spawned n
+
+last_length : {A : Type 0} (xs : List A) (x : A) → length (xs ++ x ∷ []) ≡ suc (length xs)
+last_length [] x = refl
+last_length (y ∷ xs) x = ap suc (last_length xs x)
+
+few_behind : (s : Store) (u : ℕ) (a : Act) → IsAllowedAct s u a → length s.spawned ≤ thread_limit → length (Store.spawned (after_act s u a)) ≤ thread_limit
+few_behind s u begin h n = subst (λ m. m ≤ thread_limit) (sym (with_thread_length s u (λ x. record x { begun = true }))) n
+few_behind s u end h n = subst (λ m. m ≤ thread_limit) (sym (with_thread_length s u (λ x. record x { ended = true }))) n
+few_behind s u (trap c) h n = n
+few_behind s u (read x v) h n = n
+few_behind s u (write x v) h n = n
+few_behind s u (lock m) h n = n
+few_behind s u (unlock m) h n = n
+few_behind s u (down m) h n = n
+few_behind s u (up m) h n = n
+few_behind s u (spawn c f vs) h n =
+    let is : c ≡ length s.spawned + 1 = h.1.0 in
+    let most : c ≤ thread_limit = h.1.1 in
+    let few : suc (length s.spawned) ≤ thread_limit = omega arith in
+    subst (λ m. m ≤ thread_limit) (sym (last_length s.spawned (new_thread f vs))) few
+few_behind s u (join c) h n = n
+few_behind s u (print v) h n = n
+
+few_along : (s : Store) (xs : List Event) → AreAllowed s xs → length s.spawned ≤ thread_limit → length (Store.spawned (replay s xs)) ≤ thread_limit
+few_along s [] h n = n
+few_along s (x ∷ xs) h n = few_along (law.after s x) xs h.1 (few_behind s x.thread x.act h.0 n)
+
+few_first : (o : Option ℕ) → length (main_thread o) ≤ thread_limit
+few_first None = omega arith
+few_first (Some f) = omega arith
+
+thread_small : (p : Source) (xs : List Event) (i : ℕ) (z : Spawned) → AreAllowed (start p) xs → thread_at (replay (start p) xs) (suc i) ≡ Some z → i < thread_limit
+thread_small p xs i z ok there =
+    let few : length (Store.spawned (replay (start p) xs)) ≤ thread_limit = few_along (start p) xs ok (few_first (function_number p (codes "main"))) in
+    let small : i < length (Store.spawned (replay (start p) xs)) = slice_small (Store.spawned (replay (start p) xs)) i z there in
+    omega arith
+
+-- Operations
+
+op_owes : (t l : ℕ) (o : Op) (ys : List ℕ) → owes_cross (entry_of_op t l o) ys ≡ false → ys ≡ []
+op_owes t l o [] h = refl
+op_owes t l (wait k n) (y ∷ ys) h = cc
+op_owes t l (enters k c) (y ∷ ys) h = cc
+op_owes t l (at k ns) (y ∷ ys) h = cc
+op_owes t l (past k ns) (y ∷ ys) h = cc
+op_owes t l (post k n) (y ∷ ys) h = cc
+op_owes t l (leave k c) (y ∷ ys) h = cc
+op_owes t l back (y ∷ ys) h = cc
+op_owes t l (tick x) (y ∷ ys) h = cc
+op_owes t l (cross x v n) (y ∷ ys) h = cc
+op_owes t l (blocked what) (y ∷ ys) h = cc
+
+-- the thread's part with the operation, where it takes no version
+abbrev MakesOp : Setting → List Entry → ℕ → Spawned → ℕ → Op → Type 0
+MakesOp s es t z l o = IsPart s.program (plans s) (an_own t z.func z.args (taken s.commands t es) (entries_of t es ++ entry_of_op t l o ∷ []))
+
+abbrev IsOwed : ℕ → Op → Type 0
+IsOwed l o = (p : Source) (z : Walk) (rest : List Item) → MayStand p z (makes l o) rest → Owes z.owed l o
+
+op_installed : (s : Setting) (es : List Entry) (h : IsLawful s es) (i l : ℕ) (o : Op) (z : Spawned) (k : ℕ) → thread_at (replay (start s.program) h.events) (suc i) ≡ Some z
+    → MakesOp s es (suc i) z l o → owes_cross (entry_of_op (suc i) l o) (listed (suc i) es) ≡ false → filter_of o ≡ Some k → IsOwed l o
+    → is_installed (control s.commands es) k ≡ true
+op_installed s es h i l o z k there part none f owed =
+    let t : ℕ = suc i in
+    let n : takings (entries_of t es) ≡ length (taken s.commands t es) = takings_taken s.commands t first_control es in
+    let b : FrontPart s.program (plans s) (own s es t z) l o = front_part s.program (plans s) t z.func z.args (taken s.commands t es) (entries_of t es) l o n part in
+    let begun = has_begun s.program (plans s) t z.func z.args (taken s.commands t es) (entries_of t es) l o part in
+    owed_installed s es [] (subst (IsLawful s) (sym (append_none es)) h) i (thread_small s.program h.events i z h.run.allowed there) z b.part begun.0 begun.1.0 begun.1.1
+    (op_owes t l o (listed t es) none) l o k (owed s.program (led s.program (plans s) (own s es t z) b.part.steps) b.rest b.stands) f
+
+leave_held : (s : Setting) (es : List Entry) (h : IsLawful s es) (i l k c : ℕ) (z : Spawned) → thread_at (replay (start s.program) h.events) (suc i) ≡ Some z
+    → MakesOp s es (suc i) z l (leave k c) → owes_cross (e.Leave (suc i) l k c) (listed (suc i) es) ≡ false → is_held_by (control s.commands es) k c (suc i) ≡ true
+leave_held s es h i l k c z there part none =
+    let t : ℕ = suc i in
+    let n : takings (entries_of t es) ≡ length (taken s.commands t es) = takings_taken s.commands t first_control es in
+    let b : FrontPart s.program (plans s) (own s es t z) l (leave k c) =
+    front_part s.program (plans s) t z.func z.args (taken s.commands t es) (entries_of t es) l (leave k c) n part in
+    let begun = has_begun s.program (plans s) t z.func z.args (taken s.commands t es) (entries_of t es) l (leave k c) part in
+    right_leaves s es [] (subst (IsLawful s) (sym (append_none es)) h) i (thread_small s.program h.events i z h.run.allowed there) z b.part begun.0 begun.1.0 begun.1.1
+    (op_owes t l (leave k c) (listed t es) none) l k c b.stands
+
+-- The version of a `Cross`
+
+cross_version : (p : Source) (plans : Plans) (t f : ℕ) (args : List ℤ) (vs : List Version) (v : Version) (es : List Entry) (l x n m : ℕ) → takings es ≡ length vs
+    → IsPart p plans (an_own t f args (vs ++ v ∷ []) (es ++ e.Cross t l x n m ∷ [])) → n ≡ v.number
+cross_version p plans t f args vs v es l x n m few h =
+    let ws : List Version = vs ++ v ∷ [] in
+    let c : BeforeOp t h.steps es l (cross x n m) = before_op t h.steps es l (cross x n m) h.tells in
+    let woven : AreWoven p plans (unborn ws) (c.before ++ makes l (cross x n m) ∷ c.behind) h.ahead = subst (λ ss. AreWoven p plans (unborn ws) ss h.ahead) c.whole h.woven in
+    let stands : MayCross p (walked p plans (unborn ws) c.before) (items c.behind ++ h.ahead) l x n m =
+    stands_there p plans (unborn ws) c.before (makes l (cross x n m)) c.behind h.ahead woven in
+    let coming : Walk.coming (walked p plans (unborn ws) c.before) ≡ v ∷ [] =
+    walked_coming p plans t (unborn ws) c.before ∙ drop_whole (takings (told t c.before)) vs (v ∷ []) (ap takings c.same ∙ few) in
+    let same : Some v.number ≡ Some n = ap first_number (sym coming) ∙ stands.version in
+    cc
+
+op_stands : (s : Setting) (es : List Entry) (h : IsLawful s es) (i l : ℕ) (o : Op) (z : Spawned) → thread_at (replay (start s.program) h.events) (suc i) ≡ Some z
+    → IsPart s.program (plans s) (own_with s es (suc i) z (entry_of_op (suc i) l o)) → MayMove s (front_of s es h.events) (suc i) (entry_of_op (suc i) l o)
+    → Needs s (front_of s es h.events) (entry_of_op (suc i) l o) → Stands s (front_of s es h.events) (entry_of_op (suc i) l o) []
+op_stands s es h i l (wait k n) z there part m needs = (m, (op_installed s es h i l (wait k n) z k there part (sym m.crosses) refl (λ p w rest g. g), needs))
+op_stands s es h i l (enters k c) z there part m needs = (m, (op_installed s es h i l (enters k c) z k there part (sym m.crosses) refl (λ p w rest g. g), needs))
+op_stands s es h i l (at k ns) z there part m needs = (m, (op_installed s es h i l (at k ns) z k there part (sym m.crosses) refl (λ p w rest g. g), needs))
+op_stands s es h i l (past k ns) z there part m needs = (m, op_installed s es h i l (past k ns) z k there part (sym m.crosses) refl (λ p w rest g. g))
+op_stands s es h i l (post k n) z there part m needs = (m, op_installed s es h i l (post k n) z k there part (sym m.crosses) refl (λ p w rest g. g))
+op_stands s es h i l (leave k c) z there part m needs = (m, leave_held s es h i l k c z there part (sym m.crosses))
+op_stands s es h i l back z there part m needs = m
+op_stands s es h i l (tick x) z there part m needs = m
+op_stands s es h i l (cross x v n) z there part m needs = (
+  m,
+  (
+    cross_version s.program (plans s) (suc i) z.func z.args (taken s.commands (suc i) es) (Control.version (control s.commands es)) (entries_of (suc i) es) l x v n
+        (takings_taken s.commands (suc i) first_control es) part,
+    needs,
+  ),
+)
+op_stands s es h i l (blocked what) z there part m needs = (m, needs)
+
+pub some_thread : (s : Setting) (es : List Entry) (h : IsLawful s es) (t l : ℕ) (o : Op) (z : Spawned) → thread_at (replay (start s.program) h.events) t ≡ Some z
+    → IsPart s.program (plans s) (own_with s es t z (entry_of_op t l o)) → MayMove s (front_of s es h.events) t (entry_of_op t l o)
+    → Needs s (front_of s es h.events) (entry_of_op t l o) → Stands s (front_of s es h.events) (entry_of_op t l o) []
+some_thread s es h zero l o z there part moves needs = cc
+some_thread s es h (suc i) l o z there part moves needs = op_stands s es h i l o z there part moves needs
+
+pub operation_turns : HasOperationTurns
+operation_turns s es h open_ t l o m =
+    let st : Store = replay (start s.program) h.events in
+    let x : Entry = entry_of_op t l o in
+    let of : thread_of x ≡ Some t = op_thread t l o in
+    longer s es h x h.events [] (sym (append_none h.events)) open_ (sym (if_false (is_target x) (x ∷ []) [] (op_no_target t l o))) h.run
+    (turn_parts s es st x t m.state h.parts of m.there m.part st (λ u. of_itself (thread_at st u)))
+    (some_thread s es h t l o m.state m.there m.part (turn_moves s es h.events t x (makes l o) m of refl) m.needs)
+
+pub empty_ends : HasEmptyEnds
+empty_ends p plans x h before l is =
+    end_holds p plans x.func x.args x.versions before l h.ahead h.outcome (subst (λ ss. IsTrace p x.func x.args (items ss ++ h.ahead) h.outcome) is h.trace)
+    (subst (λ ss. AreWoven p plans (unborn x.versions) ss h.ahead) is h.woven)

@@ -1,0 +1,5 @@
+use Rattle.loom_law.proofs.Named.{owed_active}
+use Rattle.loom_law.proofs.laws.owed_active.Goals as goal
+
+pub returns : goal.returns
+returns c = owed_active

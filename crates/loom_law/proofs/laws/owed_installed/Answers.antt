@@ -1,0 +1,5 @@
+use Rattle.loom_law.proofs.Named.{owed_installed}
+use Rattle.loom_law.proofs.laws.owed_installed.Goals as goal
+
+pub returns : goal.returns
+returns c = owed_installed

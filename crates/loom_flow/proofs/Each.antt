@@ -2,7 +2,7 @@
 use Rattle.std.proofs.Common.{ℕ, suc, zero, ◌+◌, ◌-◌, ◌≡◌, ◌≤◌, ◌<◌, List, [], ◌∷◌, ◌++◌, Option, Some, sym, ap, subst, ◌∙◌, slice_get, length, arith}
 use Rattle.loom_flow.specs.declared.code.Step.{Step}
 use Rattle.loom_flow.specs.declared.code.Instr.{Instr}
-use Rattle.loom_flow.specs.Lowered.{instr, instrs}
+use Rattle.loom_flow.specs.FlatCode.{instr, instrs}
 use Rattle.loom_flow.proofs.Lying.{Lies}
 
 abbrev pub AllOf : {A : Type 0} → (A → Type 0) → List A → Type 0

@@ -6,9 +6,11 @@ use Rattle.loom_lang.specs.Rules.{lets, locals_of}
 use Rattle.loom_lang.specs.Trace as trace
 use Rattle.loom_lang.specs.Trace.{Item, Outcome, Lists, Thread, Locals, Calls, made, enter, out, broken, emit, any, choice, trapped, body, bound, framed, calls_to, frame_limit, ended, IsTrace}
 use Rattle.loom_flow.specs.declared.code.Step.TheVariants as s
+use Rattle.loom_flow.specs.declared.code.Control.TheVariants.{Out}
 use Rattle.loom_flow.specs.declared.code.Entrance.{Entrance}
-use Rattle.loom_flow.specs.Flat.{Flat, Frame, State, filled, frame_locals, named, names, returned, entered}
-use Rattle.loom_flow.specs.Lowered.{instr, size, place_count, body_code, body_sites}
+use Rattle.loom_flow.specs.Flat.{Flat}
+use Rattle.loom_flow.specs.State.{Frame, State, filled, frame_locals, named, names}
+use Rattle.loom_flow.specs.FlatCode.{instr, size, place_count, body_code, body_sites}
 use Rattle.loom_flow.proofs.Relations.{Within, Meets, meets_itself, meets_same, meets_on, meets_emit}
 use Rattle.loom_flow.proofs.Lying.{Lies}
 use Rattle.loom_flow.proofs.Straight.{meets_instr}
@@ -38,7 +40,7 @@ pub record IsPlaced (c : Flat) (g : Function) (e : Entrance) : Type 0 where
   pub params : e.params ≡ length g.params
   pub few : length (locals_of g) ≤ 32
   pub code : Lies c.code e.start (body_code c.program (locals_of g) e.start (suc e.place) g.body)
-  pub last : slice_get c.code (e.start + size c.program (locals_of g) g.body) ≡ Some (instr g.line (suc e.place + place_count g.body) s.Out)
+  pub last : slice_get c.code (e.start + size c.program (locals_of g) g.body) ≡ Some (instr g.line (suc e.place + place_count g.body) (s.Control Out))
   pub sites : Lies c.sites (suc e.place) (body_sites c.program (locals_of g) e.start g.body)
   pub known : IsKnownBody c.program (locals_of g) g.body
 
@@ -72,14 +74,14 @@ frame_meets b c t m runner same most n le calls f g e vs ws below more found pla
     let code : Lies c.code e.start (body_code t.program xs e.start (suc e.place) g.body) = subst (λ (p : Source). Lies c.code e.start (body_code p xs e.start (suc e.place) g.body)) (sym same) placed.code in
     let sites : Lies c.sites (suc e.place) (body_sites t.program xs e.start g.body) = subst (λ (p : Source). Lies c.sites (suc e.place) (body_sites p xs e.start g.body)) (sym same) placed.sites in
     let known : IsKnownBody t.program xs g.body = subst (λ (p : Source). IsKnownBody p xs g.body) (sym same) placed.known in
-    let last : slice_get c.code (e.start + size t.program xs g.body) ≡ Some (instr g.line (suc e.place + place_count g.body) s.Out) =
+    let last : slice_get c.code (e.start + size t.program xs g.body) ≡ Some (instr g.line (suc e.place + place_count g.body) (s.Control Out)) =
     ap (λ (p : Source). slice_get c.code (e.start + size p xs g.body)) same ∙ placed.last in
     subst (λ (env : Locals). Meets b (m n z) (body t calls most env g.body (λ v. emit (out f) (more v)) (λ env'. emit (out f) (more (pos 0))))) (frame_named c g e vs placed)
     (body_meets b c t m runner most n le calls xs z g.body (suc e.place) e.start (λ v. emit (out f) (more v)) (λ env. emit (out f) (more (pos 0)))
     meets (ap names found) (frame_length c g e vs placed) known code sites
     (λ j under v. meets_emit b (out f) _ _ (returns j under v))
     (λ j under us h. meets_on b _ (emit (out f) (returned c t (m j) ws (pos 0) below)) _
-    (meets_instr b c t (m j) (record z { at = e.start + size t.program xs g.body; locals = us }) (instr g.line (suc e.place + place_count g.body) s.Out) (runner.fetches j) last)
+    (meets_instr b c t (m j) (record z { at = e.start + size t.program xs g.body; locals = us }) (instr g.line (suc e.place + place_count g.body) (s.Control Out)) (runner.fetches j) last)
     (meets_emit b (out f) _ _ (returns j under (pos 0)))))
 
 -- Calls, with so many frames left

@@ -5,9 +5,14 @@ use Rattle.loom_lang.specs.Trace.{Item, Outcome, Open, Lists, Thread, made, brok
 use Rattle.loom_lang.specs.Values.{is_zero, divides, applied}
 use Rattle.loom_flow.specs.declared.code.Step.{Step}
 use Rattle.loom_flow.specs.declared.code.Step.TheVariants as s
+use Rattle.loom_flow.specs.declared.code.Compute.TheVariants.{Move, Negate, Invert, Apply, Discard}
+use Rattle.loom_flow.specs.declared.code.Ask.TheVariants.{Read, ReadCell, Write, WriteCell, Lock, Unlock, Down, Up, Join, Print, Spawn}
+use Rattle.loom_flow.specs.declared.code.Control.TheVariants.{Begin, Done, Edge, Jump, JumpIfZero, Call, Return, Out}
 use Rattle.loom_flow.specs.declared.code.Instr.{Instr}
 use Rattle.loom_flow.specs.declared.code.Entrance.{Entrance}
-use Rattle.loom_flow.specs.Flat.{Flat, State, Frame, operand, without, arguments, without_arguments, given, forward, jumped, returned, entered, performed, fetched, runs}
+use Rattle.loom_flow.specs.Flat.{Flat}
+use Rattle.loom_flow.specs.State.{State, Frame, operand, without, arguments, without_arguments, given, forward, jumped}
+use Rattle.loom_flow.specs.FlatTrace.{runs}
 use Rattle.loom_flow.proofs.Relations.{Within, breaks}
 use Rattle.loom_flow.proofs.Steps.{meets_fetched, performed_open}
 
@@ -76,48 +81,48 @@ entered_on c t z i f vs None = still broken
 entered_on c t z i f vs (Some e) = emit_any _ _
 
 performed_on : (c : Flat) (t : Thread) (z : State) (i : Instr) (x : Step) → Within (performed c t (ever c t) z i x) (any (λ n. performed c t (runs c t n) z i x))
-performed_on c t z i (s.Move a d) = λ es r h. h
-performed_on c t z i (s.Read w d) = reading_on _ _ _ _ (λ v es r h. h)
-performed_on c t z i (s.ReadCell a o d) =
+performed_on c t z i (s.Compute (Move a d)) = λ es r h. h
+performed_on c t z i (s.Ask (Read w d)) = reading_on _ _ _ _ (λ v es r h. h)
+performed_on c t z i (s.Ask (ReadCell a o d)) =
     let next : ℤ → State = λ v. forward (given (without z o) d v) in
     within_on t i.line a.first (Some a.count) (operand z o) (λ w. trace.reading i.line w (λ v. ever c t (next v))) (λ w n. trace.reading i.line w (λ v. runs c t n (next v)))
     (λ w. reading_on i.line w (λ v. ever c t (next v)) (λ v n. runs c t n (next v)) (λ v es r h. h))
-performed_on c t z i (s.Negate a d) = λ es r h. h
-performed_on c t z i (s.Invert a d) = λ es r h. h
-performed_on c t z i (s.Apply o x y d) =
+performed_on c t z i (s.Compute (Negate a d)) = λ es r h. h
+performed_on c t z i (s.Compute (Invert a d)) = λ es r h. h
+performed_on c t z i (s.Compute (Apply o x y d)) =
     let z' : State = forward (given (without (without z y) x) d (applied o (operand (without z y) x) (operand z y))) in
     choice_on (divides o && is_zero (operand z y)) (trapped t i.line trace.division) (ever c t z') (λ n. trapped t i.line trace.division) (λ n. runs c t n z')
     (still (trapped t i.line trace.division)) (λ es r h. h)
-performed_on c t z i (s.Write w a) = emit_any _ _
-performed_on c t z i (s.WriteCell a o y) =
+performed_on c t z i (s.Ask (Write w a)) = emit_any _ _
+performed_on c t z i (s.Ask (WriteCell a o y)) =
     let next : State = forward (without (without z y) o) in
     let write : ℕ → Item = λ w. made i.line (trace.write w (operand z y)) in
     within_on t i.line a.first (Some a.count) (operand (without z y) o) (λ w. emit (write w) (ever c t next)) (λ w n. emit (write w) (runs c t n next))
     (λ w. emit_any (write w) (λ n. runs c t n next))
-performed_on c t z i (s.Lock x) = emit_any _ _
-performed_on c t z i (s.Unlock x) = either_on _ _ _ _ (still (trapped t i.line (trace.not_held x))) (emit_any _ _)
-performed_on c t z i (s.Down x) = emit_any _ _
-performed_on c t z i (s.Up x) = either_on _ _ _ _ (still (trapped t i.line (trace.overflow x))) (emit_any _ _)
-performed_on c t z i (s.Join a) = joined_on t i.line (operand z a) (ever c t (forward (without z a))) (λ n. runs c t n (forward (without z a))) (λ es r h. h)
-performed_on c t z i (s.Print a) = emit_any _ _
-performed_on c t z i (s.Spawn g k d) = either_on _ _ _ _ (still (trapped t i.line trace.threads)) (any_on _ _ (λ v. emit_any _ _))
-performed_on c t z i (s.Call g k) =
+performed_on c t z i (s.Ask (Lock x)) = emit_any _ _
+performed_on c t z i (s.Ask (Unlock x)) = either_on _ _ _ _ (still (trapped t i.line (trace.not_held x))) (emit_any _ _)
+performed_on c t z i (s.Ask (Down x)) = emit_any _ _
+performed_on c t z i (s.Ask (Up x)) = either_on _ _ _ _ (still (trapped t i.line (trace.overflow x))) (emit_any _ _)
+performed_on c t z i (s.Ask (Join a)) = joined_on t i.line (operand z a) (ever c t (forward (without z a))) (λ n. runs c t n (forward (without z a))) (λ es r h. h)
+performed_on c t z i (s.Ask (Print a)) = emit_any _ _
+performed_on c t z i (s.Ask (Spawn g k d)) = either_on _ _ _ _ (still (trapped t i.line trace.threads)) (any_on _ _ (λ v. emit_any _ _))
+performed_on c t z i (s.Control (Call g k)) =
     let y : State = without_arguments z k in
     let e : Option Entrance = slice_get c.entrances g in
     choice_on (nat_lt (suc (length z.below)) frame_limit) (entered c (ever c t) y i g (arguments z k) e) (trapped t i.line trace.frames)
     (λ n. entered c (runs c t n) y i g (arguments z k) e) (λ n. trapped t i.line trace.frames)
     (entered_on c t y i g (arguments z k) e) (still (trapped t i.line trace.frames))
-performed_on c t z i s.Discard = λ es r h. h
-performed_on c t z i (s.Return a) = emit_on _ _ _ (emit_on _ _ _ (returned_on c t (without z a).values (operand z a) z.below))
-performed_on c t z i s.Begin = emit_any _ _
-performed_on c t z i s.Done = emit_any _ _
-performed_on c t z i (s.Edge at) = emit_any _ _
-performed_on c t z i (s.Jump at) = λ es r h. h
-performed_on c t z i (s.JumpIfZero a at) =
+performed_on c t z i (s.Compute Discard) = λ es r h. h
+performed_on c t z i (s.Control (Return a)) = emit_on _ _ _ (emit_on _ _ _ (returned_on c t (without z a).values (operand z a) z.below))
+performed_on c t z i (s.Control Begin) = emit_any _ _
+performed_on c t z i (s.Control Done) = emit_any _ _
+performed_on c t z i (s.Control (Edge at)) = emit_any _ _
+performed_on c t z i (s.Control (Jump at)) = λ es r h. h
+performed_on c t z i (s.Control (JumpIfZero a at)) =
     let x : State = jumped (without z a) at in
     let y : State = forward (without z a) in
     choice_on (is_zero (operand z a)) (ever c t x) (ever c t y) (λ n. runs c t n x) (λ n. runs c t n y) (λ es r h. h) (λ es r h. h)
-performed_on c t z i s.Out = emit_on _ _ _ (returned_on c t z.values (pos 0) z.below)
+performed_on c t z i (s.Control Out) = emit_on _ _ _ (returned_on c t z.values (pos 0) z.below)
 
 fetched_on : (c : Flat) (t : Thread) (z : State) (i : Option Instr) → Within (fetched c t (ever c t) z i) (any (λ n. fetched c t (runs c t n) z i))
 fetched_on c t z None = still broken

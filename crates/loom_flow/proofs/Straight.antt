@@ -3,8 +3,9 @@ use Rattle.std.proofs.Common.{ℕ, suc, ◌+◌, ◌≡◌, List, [], ◌∷◌,
 use Rattle.loom_lang.specs.Trace.{Lists, Thread}
 use Rattle.loom_flow.specs.declared.code.Step.{Step}
 use Rattle.loom_flow.specs.declared.code.Instr.{Instr}
-use Rattle.loom_flow.specs.Flat.{Flat, State, performed, fetched}
-use Rattle.loom_flow.specs.Lowered.{instr, instrs}
+use Rattle.loom_flow.specs.Flat.{Flat}
+use Rattle.loom_flow.specs.State.{State}
+use Rattle.loom_flow.specs.FlatCode.{instr, instrs}
 use Rattle.loom_flow.proofs.Relations.{Meets, meets_itself, meets_on, meets_same}
 use Rattle.loom_flow.proofs.Steps.{is_straight, meets_performed}
 use Rattle.loom_flow.proofs.Lying.{Lies}

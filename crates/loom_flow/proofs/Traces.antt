@@ -5,9 +5,11 @@ use Rattle.loom_lang.specs.Rules.{KeepsRules}
 use Rattle.loom_lang.specs.Trace as trace
 use Rattle.loom_lang.specs.Trace.{Item, Outcome, Lists, Thread, made, enter, broken, emit, any, calls_to, frame_limit, ended, IsTrace}
 use Rattle.loom_flow.specs.declared.code.Entrance.{Entrance}
-use Rattle.loom_flow.specs.Flat.{Flat, State, frame_locals, runs, started, IsFlatTrace}
+use Rattle.loom_flow.specs.Flat.{Flat}
+use Rattle.loom_flow.specs.State.{State, frame_locals}
+use Rattle.loom_flow.specs.FlatTrace.{runs, started, IsFlatTrace}
 use Rattle.loom_flow.specs.Flat as flat
-use Rattle.loom_flow.specs.Lowered.{lowered}
+use Rattle.loom_flow.specs.FlatCode.{lowered}
 use Rattle.loom_flow.specs.Laws.{HasTraces}
 use Rattle.loom_flow.proofs.Relations.{Within, meets_emit, meets_same, meets_on}
 use Rattle.loom_flow.proofs.Running.{ever}

@@ -31,17 +31,25 @@ pub struct Array {
     pub count: u16,
 }
 
-/// What an instruction does.
+/// What an instruction does by itself, in its own frame.
 #[derive(Clone, Copy, Debug, Drop, PartialEq, Eq)]
-pub enum Step {
+pub enum Compute {
     Move(Operand, Target),
-    /// A word or the one cell of its number is read.
-    Read(u16, Target),
-    ReadCell(Array, Operand, Target),
     Negate(Operand, Target),
     Invert(Operand, Target),
-    /// The left operand, then the right one.
+    /// The left operand, then the right one. A division by 0 traps.
     Apply(Op, Operand, Operand, Target),
+    /// The value on top is dropped.
+    Discard,
+}
+
+/// What an instruction asks for. The answer is an entry of the journal.
+#[derive(Clone, Copy, Debug, Drop, PartialEq, Eq)]
+pub enum Ask {
+    /// A word or the one cell of its number is read.
+    Read(u16, Target),
+    /// The operand is the index. One outside the array traps.
+    ReadCell(Array, Operand, Target),
     Write(u16, Operand),
     /// The index, then the value.
     WriteCell(Array, Operand, Operand),
@@ -53,12 +61,11 @@ pub enum Step {
     Print(Operand),
     /// A thread of the function of this number, with as many arguments as are said, the last on top of the values.
     Spawn(u8, u8, Target),
-    /// The same of a call, whose result is left on top of the values.
-    Call(u8, u8),
-    /// The value on top is dropped.
-    Discard,
-    /// The frame ends with the operand, and the statement is complete.
-    Return(Operand),
+}
+
+/// Where an instruction leads, and the edges of statements and of frames.
+#[derive(Clone, Copy, Debug, Drop, PartialEq, Eq)]
+pub enum Control {
     /// The statement begins.
     Begin,
     /// It is complete.
@@ -67,8 +74,20 @@ pub enum Step {
     Edge(u32),
     Jump(u32),
     JumpIfZero(Operand, u32),
-    /// The frame ends behind its last statement.
+    /// A call of the function of this number, with as many arguments as are said, the last on top of the values. The result is left there.
+    Call(u8, u8),
+    /// The statement is complete, and the frame is to end with the operand.
+    Return(Operand),
+    /// The frame is to end behind its last statement.
     Out,
+}
+
+/// What an instruction does.
+#[derive(Clone, Copy, Debug, Drop, PartialEq, Eq)]
+pub enum Step {
+    Compute(Compute),
+    Ask(Ask),
+    Control(Control),
 }
 
 /// An instruction, with the line and the place at which a thread stands while it asks for what the instruction does.

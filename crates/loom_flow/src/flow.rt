@@ -4,7 +4,7 @@ ghost use Rattle.std.specs.Arc.{arc_value};
 ghost use Rattle.loom_tree.specs.Tree.{Function};
 ghost use Rattle.loom_lang.specs.Places.{places, place_at, line_of_place};
 ghost use Rattle.loom_flow.specs.Code.{IsLowered};
-ghost use Rattle.loom_flow.specs.Lowered.{calls_body};
+ghost use Rattle.loom_flow.specs.FlatCode.{calls_body};
 ghost use Rattle.loom_flow.specs.Depth.{depth_before};
 
 use crate::code::{Entrance, Instr, Site};

@@ -3,11 +3,11 @@ ghost use Rattle.std.specs.Prelude.{◌≡◌, ◌<◌, ◌≤◌, ◌+◌, ◌�
 ghost use Rattle.loom_tree.specs.Tree.{body_of, function_of, functions_of};
 ghost use Rattle.loom_lang.specs.Rules.{KeepsRules, FunctionKeepsRules, locals_of};
 ghost use Rattle.loom_flow.specs.Laws.{HasTraces, HasPlaces, HasInstructionPlaces, HasCalls};
-ghost use Rattle.loom_flow.specs.Lowered.{place_count, functions_code, functions_sites, entrances, calls_body, set_of, lowered};
+ghost use Rattle.loom_flow.specs.FlatCode.{place_count, functions_code, functions_sites, entrances, calls_body, set_of, lowered};
 
 use crate::block::body;
 use crate::calls::with_body;
-use crate::code::{Entrance, Instr, Site, Step};
+use crate::code::{Control, Entrance, Instr, Site, Step};
 use crate::expression::push;
 use crate::flow::Flow;
 use crate::numbers::Scope;
@@ -48,7 +48,7 @@ fn put_function(
     put_site(sites, f.line, 0)?;
     body(code, sites, scope, &f.body)?;
     let out = spot_of(sites, f.line);
-    push(code, out, Step::Out)?;
+    push(code, out, Step::Control(Control::Out))?;
     put_site(sites, f.line, 0)?;
     Ok(())
 }

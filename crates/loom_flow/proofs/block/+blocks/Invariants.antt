@@ -2,8 +2,8 @@ use Rattle.std.proofs.Common.{◌≡◌, ◌≤◌, ◌+◌, ◌*◌, ◌++◌, 
 use Rattle.loom_tree.specs.declared.statement.Kind.{size-Kind}
 use Rattle.loom_tree.specs.declared.statement.Stmts.{size-Stmts}
 use Rattle.loom_tree.specs.Tree.{body_of}
-use Rattle.loom_flow.specs.Counted.{takes_body}
-use Rattle.loom_flow.specs.Lowered.{place_count, body_code, body_sites}
+use Rattle.loom_flow.specs.Arguments.{takes_body}
+use Rattle.loom_flow.specs.FlatCode.{place_count, body_code, body_sites}
 use Rattle.loom_flow.proofs.block.+blocks.Given as goal
 
 abbrev pub decreases-body : goal.decreases-body

@@ -1,7 +1,7 @@
 use Rattle.std.proofs.Common.{◌≡◌, ◌++◌, length, map, drop}
 use Rattle.loom_tree.specs.Tree.{Function, functions_of}
 use Rattle.loom_lang.specs.Rules.{FunctionsKeepRules}
-use Rattle.loom_flow.specs.Lowered.{functions_code, functions_sites, entrances, calls_body, set_of, lowered}
+use Rattle.loom_flow.specs.FlatCode.{functions_code, functions_sites, entrances, calls_body, set_of, lowered}
 use Rattle.loom_flow.proofs.lower.put_all.Given as goal
 
 abbrev pub invariant-put : goal.invariant-put

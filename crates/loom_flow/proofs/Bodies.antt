@@ -66,7 +66,7 @@ if_splits p names l e a b rest = record {
       let bs : List Instr = body_code p names second (suc place + place_count a) b in
       let many = if_count l e a b end in
       let places : suc place + place_count a + place_count b ≡ place + place_count (if_ l e a b end) = omega arith in
-      ap (λ z. test ++ (cs ++ instr l place (s.Control (Jump done)) ∷ (bs ++ instr l place s.Control Done ∷ z))) (moved_code p names rest (suc done) (at + size p names (if_ l e a b end)) _ _ (omega arith) places)
+      ap (λ z. test ++ (cs ++ instr l place (s.Control (Jump done)) ∷ (bs ++ instr l place (s.Control Done) ∷ z))) (moved_code p names rest (suc done) (at + size p names (if_ l e a b end)) _ _ (omega arith) places)
       ∙ choice_split test cs bs (body_code p names (at + size p names (if_ l e a b end)) (place + place_count (if_ l e a b end)) rest) (instr l place (s.Control (Jump done))) (instr l place (s.Control Done));
   sites = λ at.
       let first : ℕ = at + (2 + length (operand_steps p names e)) in
@@ -89,7 +89,7 @@ while_splits p names l e a rest = record {
       let cs : List Instr = body_code p names first (suc (suc place)) a in
       let many = while_count l e a end in
       let places : suc (suc place) + place_count a ≡ place + place_count (while_ l e a end) = omega arith in
-      ap (λ z. test ++ (cs ++ instr l (suc place) (s.Control (Edge head)) ∷ instr l place s.Control Done ∷ z)) (moved_code p names rest (suc done) (at + size p names (while_ l e a end)) _ _ (omega arith) places)
+      ap (λ z. test ++ (cs ++ instr l (suc place) (s.Control (Edge head)) ∷ instr l place (s.Control Done) ∷ z)) (moved_code p names rest (suc done) (at + size p names (while_ l e a end)) _ _ (omega arith) places)
       ∙ loop_split test cs (body_code p names (at + size p names (while_ l e a end)) (place + place_count (while_ l e a end)) rest) (instr l (suc place) (s.Control (Edge head))) (instr l place (s.Control Done));
   sites = λ at.
       let first : ℕ = at + (2 + length (operand_steps p names e)) in

@@ -153,19 +153,19 @@ body_keeps c m n xs law room at k (if_ l e x y rest) known small lies h =
     let code_rest : List Instr = body_code p xs (suc last) (suc k + place_count x + place_count y) rest in
     let known_x : (takes_body p x ≡ true) × ((takes_body p y && takes_body p rest) ≡ true) = both _ _ known in
     let known_y : (takes_body p y ≡ true) × (takes_body p rest ≡ true) = both _ _ known_x.1 in
-    let lies_head : Lies c.code at (instrs l k head) = lies_first c.code at (instrs l k head) (code_x ++ instr l k (s.Control (Jump last)) ∷ (code_y ++ instr l k s.Control Done ∷ code_rest)) lies in
-    let lies_from_x : Lies c.code first (code_x ++ instr l k (s.Control (Jump last)) ∷ (code_y ++ instr l k s.Control Done ∷ code_rest)) =
-    subst (λ i. Lies c.code i (code_x ++ instr l k (s.Control (Jump last)) ∷ (code_y ++ instr l k s.Control Done ∷ code_rest))) (ap (λ i. at + i) (condition_length l k before (s.Control Begin) jump))
-    (lies_second c.code at (instrs l k head) (code_x ++ instr l k (s.Control (Jump last)) ∷ (code_y ++ instr l k s.Control Done ∷ code_rest)) lies) in
-    let lies_x : Lies c.code first code_x = lies_first c.code first code_x (instr l k (s.Control (Jump last)) ∷ (code_y ++ instr l k s.Control Done ∷ code_rest)) lies_from_x in
-    let lies_jump : Lies c.code (first + size p xs x) (instr l k (s.Control (Jump last)) ∷ (code_y ++ instr l k s.Control Done ∷ code_rest)) =
-    subst (λ i. Lies c.code i (instr l k (s.Control (Jump last)) ∷ (code_y ++ instr l k s.Control Done ∷ code_rest))) (ap (λ i. first + i) (code_length p xs x first (suc k)))
-    (lies_second c.code first code_x (instr l k (s.Control (Jump last)) ∷ (code_y ++ instr l k s.Control Done ∷ code_rest)) lies_from_x) in
-    let lies_from_y : Lies c.code second (code_y ++ instr l k s.Control Done ∷ code_rest) = subst (λ i. Lies c.code i (code_y ++ instr l k s.Control Done ∷ code_rest)) (omega arith) lies_jump.1 in
-    let lies_y : Lies c.code second code_y = lies_first c.code second code_y (instr l k s.Control Done ∷ code_rest) lies_from_y in
-    let lies_done : Lies c.code last (instr l k s.Control Done ∷ code_rest) =
-    subst (λ i. Lies c.code i (instr l k s.Control Done ∷ code_rest)) (ap (λ i. second + i) (code_length p xs y second (suc k + place_count x)))
-    (lies_second c.code second code_y (instr l k s.Control Done ∷ code_rest) lies_from_y) in
+    let lies_head : Lies c.code at (instrs l k head) = lies_first c.code at (instrs l k head) (code_x ++ instr l k (s.Control (Jump last)) ∷ (code_y ++ instr l k (s.Control Done) ∷ code_rest)) lies in
+    let lies_from_x : Lies c.code first (code_x ++ instr l k (s.Control (Jump last)) ∷ (code_y ++ instr l k (s.Control Done) ∷ code_rest)) =
+    subst (λ i. Lies c.code i (code_x ++ instr l k (s.Control (Jump last)) ∷ (code_y ++ instr l k (s.Control Done) ∷ code_rest))) (ap (λ i. at + i) (condition_length l k before (s.Control Begin) jump))
+    (lies_second c.code at (instrs l k head) (code_x ++ instr l k (s.Control (Jump last)) ∷ (code_y ++ instr l k (s.Control Done) ∷ code_rest)) lies) in
+    let lies_x : Lies c.code first code_x = lies_first c.code first code_x (instr l k (s.Control (Jump last)) ∷ (code_y ++ instr l k (s.Control Done) ∷ code_rest)) lies_from_x in
+    let lies_jump : Lies c.code (first + size p xs x) (instr l k (s.Control (Jump last)) ∷ (code_y ++ instr l k (s.Control Done) ∷ code_rest)) =
+    subst (λ i. Lies c.code i (instr l k (s.Control (Jump last)) ∷ (code_y ++ instr l k (s.Control Done) ∷ code_rest))) (ap (λ i. first + i) (code_length p xs x first (suc k)))
+    (lies_second c.code first code_x (instr l k (s.Control (Jump last)) ∷ (code_y ++ instr l k (s.Control Done) ∷ code_rest)) lies_from_x) in
+    let lies_from_y : Lies c.code second (code_y ++ instr l k (s.Control Done) ∷ code_rest) = subst (λ i. Lies c.code i (code_y ++ instr l k (s.Control Done) ∷ code_rest)) (omega arith) lies_jump.1 in
+    let lies_y : Lies c.code second code_y = lies_first c.code second code_y (instr l k (s.Control Done) ∷ code_rest) lies_from_y in
+    let lies_done : Lies c.code last (instr l k (s.Control Done) ∷ code_rest) =
+    subst (λ i. Lies c.code i (instr l k (s.Control Done) ∷ code_rest)) (ap (λ i. second + i) (code_length p xs y second (suc k + place_count x)))
+    (lies_second c.code second code_y (instr l k (s.Control Done) ∷ code_rest) lies_from_y) in
     let small_e : nodes e ≤ m = omega (arith, small.0, room) in
     let in_x : Each (Keeps c m) first code_x × (depth_before c (first + size p xs x) ≡ Some 0) =
     body_keeps c m n xs law room first (suc k) x known_x.0 small.1 lies_x (condition_depth c l k at m second xs e small_e h lies_head) in
@@ -178,7 +178,7 @@ body_keeps c m n xs law room at k (if_ l e x y rest) known small lies h =
           (each_append (Keeps c m) first (first + size p xs x) code_x _ (ap (λ i. first + i) (code_length p xs x first (suc k)))
           in_x.0 (
             (0, in_x.1, omega arith, (refl, in_y.1)),
-            subst (λ i. Each (Keeps c m) i (code_y ++ instr l k s.Control Done ∷ code_rest)) (omega arith)
+            subst (λ i. Each (Keeps c m) i (code_y ++ instr l k (s.Control Done) ∷ code_rest)) (omega arith)
                 (each_append (Keeps c m) second last code_y _ (ap (λ i. second + i) (code_length p xs y second (suc k + place_count x)))
                 in_y.0
                 ((0, in_y.1, omega arith, (omega arith, depth_next c last (instr l k (s.Control Done)) 0 lies_done.0 in_y.1 (omega arith))), in_rest.0)),
@@ -198,15 +198,15 @@ body_keeps c m n xs law room at k (while_ l e x rest) known small lies h =
     let code_x : List Instr = body_code p xs first (suc (suc k)) x in
     let code_rest : List Instr = body_code p xs (suc last) (suc (suc k) + place_count x) rest in
     let known_x : (takes_body p x ≡ true) × (takes_body p rest ≡ true) = both _ _ known in
-    let lies_begin : Lies c.code at (instrs l k begin) = lies_first c.code at (instrs l k begin) (code_x ++ instr l (suc k) (s.Control (Edge head)) ∷ instr l k s.Control Done ∷ code_rest) lies in
-    let lies_from_x : Lies c.code first (code_x ++ instr l (suc k) (s.Control (Edge head)) ∷ instr l k s.Control Done ∷ code_rest) =
-    subst (λ i. Lies c.code i (code_x ++ instr l (suc k) (s.Control (Edge head)) ∷ instr l k s.Control Done ∷ code_rest)) (ap (λ i. at + i) (condition_length l k before (s.Control Begin) jump) ∙ same)
-    (lies_second c.code at (instrs l k begin) (code_x ++ instr l (suc k) (s.Control (Edge head)) ∷ instr l k s.Control Done ∷ code_rest) lies) in
-    let lies_x : Lies c.code first code_x = lies_first c.code first code_x (instr l (suc k) (s.Control (Edge head)) ∷ instr l k s.Control Done ∷ code_rest) lies_from_x in
-    let lies_edge : Lies c.code (first + size p xs x) (instr l (suc k) (s.Control (Edge head)) ∷ instr l k s.Control Done ∷ code_rest) =
-    subst (λ i. Lies c.code i (instr l (suc k) (s.Control (Edge head)) ∷ instr l k s.Control Done ∷ code_rest)) (ap (λ i. first + i) (code_length p xs x first (suc (suc k))))
-    (lies_second c.code first code_x (instr l (suc k) (s.Control (Edge head)) ∷ instr l k s.Control Done ∷ code_rest) lies_from_x) in
-    let lies_done : Lies c.code last (instr l k s.Control Done ∷ code_rest) = subst (λ i. Lies c.code i (instr l k s.Control Done ∷ code_rest)) (omega arith) lies_edge.1 in
+    let lies_begin : Lies c.code at (instrs l k begin) = lies_first c.code at (instrs l k begin) (code_x ++ instr l (suc k) (s.Control (Edge head)) ∷ instr l k (s.Control Done) ∷ code_rest) lies in
+    let lies_from_x : Lies c.code first (code_x ++ instr l (suc k) (s.Control (Edge head)) ∷ instr l k (s.Control Done) ∷ code_rest) =
+    subst (λ i. Lies c.code i (code_x ++ instr l (suc k) (s.Control (Edge head)) ∷ instr l k (s.Control Done) ∷ code_rest)) (ap (λ i. at + i) (condition_length l k before (s.Control Begin) jump) ∙ same)
+    (lies_second c.code at (instrs l k begin) (code_x ++ instr l (suc k) (s.Control (Edge head)) ∷ instr l k (s.Control Done) ∷ code_rest) lies) in
+    let lies_x : Lies c.code first code_x = lies_first c.code first code_x (instr l (suc k) (s.Control (Edge head)) ∷ instr l k (s.Control Done) ∷ code_rest) lies_from_x in
+    let lies_edge : Lies c.code (first + size p xs x) (instr l (suc k) (s.Control (Edge head)) ∷ instr l k (s.Control Done) ∷ code_rest) =
+    subst (λ i. Lies c.code i (instr l (suc k) (s.Control (Edge head)) ∷ instr l k (s.Control Done) ∷ code_rest)) (ap (λ i. first + i) (code_length p xs x first (suc (suc k))))
+    (lies_second c.code first code_x (instr l (suc k) (s.Control (Edge head)) ∷ instr l k (s.Control Done) ∷ code_rest) lies_from_x) in
+    let lies_done : Lies c.code last (instr l k (s.Control Done) ∷ code_rest) = subst (λ i. Lies c.code i (instr l k (s.Control Done) ∷ code_rest)) (omega arith) lies_edge.1 in
     let small_e : nodes e ≤ m = omega (arith, small.0, room) in
     let at_head : depth_before c head ≡ Some 0 = depth_at c (suc at) head 0 (omega arith) (depth_next c at (instr l k (s.Control Begin)) 0 lies_begin.0 h (omega arith)) in
     let in_x : Each (Keeps c m) first code_x × (depth_before c (first + size p xs x) ≡ Some 0) =
@@ -220,7 +220,7 @@ body_keeps c m n xs law room at k (while_ l e x rest) known small lies h =
           (each_append (Keeps c m) first (first + size p xs x) code_x _ (ap (λ i. first + i) (code_length p xs x first (suc (suc k))))
           in_x.0 (
             (0, in_x.1, omega arith, (refl, at_head)),
-            subst (λ i. Each (Keeps c m) i (instr l k s.Control Done ∷ code_rest)) (let f : last ≡ suc (first + size p xs x) = omega arith in f)
+            subst (λ i. Each (Keeps c m) i (instr l k (s.Control Done) ∷ code_rest)) (let f : last ≡ suc (first + size p xs x) = omega arith in f)
                 ((0, at_last, omega arith, (omega arith, behind)), in_rest.0),
           )),
       depth_at c (suc last + size p xs rest) (at + size p xs (while_ l e x rest)) 0 (omega arith) in_rest.1,

@@ -17,7 +17,7 @@ use Rattle.loom_flow.specs.Flat.{Flat, resume}
 use Rattle.loom_flow.specs.State.{State, jumped, named, names}
 use Rattle.loom_flow.specs.FlatCode.{or_zero, array_named, operand_of, steps_to, operand_steps, argument_steps, call_steps, store_step, value_steps, set_steps, simple_steps, resume_of, instr, instrs}
 use Rattle.loom_flow.proofs.Relations.{Meets, meets_itself, meets_same, meets_on, meets_emit, meets_either}
-use Rattle.loom_flow.proofs.Steps.{meets_joined}
+use Rattle.loom_flow.proofs.Steps.{returned, performed, meets_joined}
 use Rattle.loom_flow.proofs.Lying.{Lies}
 use Rattle.loom_flow.proofs.Straight.{straight, skip, skip_append, skip_length, AllStraight, all_straight_append, Fetches, meets_instr}
 use Rattle.loom_flow.proofs.Expressions.{IsNumbered, IsArray, IsKnown, left, settled}
@@ -184,27 +184,27 @@ simple_meets b c t m n l k at xs z calls (return (Some e)) ret more fetches meet
     meets_return b c t (m n) l k at xs z e ret (fetches n) names_are h known lies (returns n (omega arith))
 simple_meets b c t m n l k at xs z calls (tree.lock x) ret more fetches meets names_are h known lies site returns ends =
     meets_begin b c t (m n) l k at xs z (s.Ask (Lock (or_zero (mutex_number t.program x))) ∷ s.Control Done ∷ []) _ (fetches n) names_are (refl, (refl, tt)) lies
-    (numbered_step b c t (m n) l k (suc at) xs z (mutex_number t.program x) known.0 s.Ask (Lock (λ i q. emit (made l (trace.lock i)) q)) (more (named xs z.locals))
+    (numbered_step b c t (m n) l k (suc at) xs z (mutex_number t.program x) known.0 (λ i. s.Ask (Lock i)) (λ i q. emit (made l (trace.lock i)) q) (more (named xs z.locals))
     (λ i next z'. refl) (λ i p r q. meets_emit b _ p r q) known.1 (ends n (omega arith) z.locals refl))
 simple_meets b c t m n l k at xs z calls (tree.unlock x) ret more fetches meets names_are h known lies site returns ends =
     meets_begin b c t (m n) l k at xs z (s.Ask (Unlock (or_zero (mutex_number t.program x))) ∷ s.Control Done ∷ []) _ (fetches n) names_are (refl, (refl, tt)) lies
-    (numbered_step b c t (m n) l k (suc at) xs z (mutex_number t.program x) known.0 s.Ask (Unlock (λ i q. either (trapped t l (trace.not_held i)) (emit (made l (trace.unlock i)) q))) (more (named xs z.locals))
+    (numbered_step b c t (m n) l k (suc at) xs z (mutex_number t.program x) known.0 (λ i. s.Ask (Unlock i)) (λ i q. either (trapped t l (trace.not_held i)) (emit (made l (trace.unlock i)) q)) (more (named xs z.locals))
     (λ i next z'. refl) (λ i p r q. meets_either b _ _ _ _ (meets_itself b (trapped t l (trace.not_held i))) (meets_emit b _ p r q)) known.1 (ends n (omega arith) z.locals refl))
 simple_meets b c t m n l k at xs z calls (tree.down x) ret more fetches meets names_are h known lies site returns ends =
     meets_begin b c t (m n) l k at xs z (s.Ask (Down (or_zero (sema_number t.program x))) ∷ s.Control Done ∷ []) _ (fetches n) names_are (refl, (refl, tt)) lies
-    (numbered_step b c t (m n) l k (suc at) xs z (sema_number t.program x) known.0 s.Ask (Down (λ i q. emit (made l (trace.down i)) q)) (more (named xs z.locals))
+    (numbered_step b c t (m n) l k (suc at) xs z (sema_number t.program x) known.0 (λ i. s.Ask (Down i)) (λ i q. emit (made l (trace.down i)) q) (more (named xs z.locals))
     (λ i next z'. refl) (λ i p r q. meets_emit b _ p r q) known.1 (ends n (omega arith) z.locals refl))
 simple_meets b c t m n l k at xs z calls (tree.up x) ret more fetches meets names_are h known lies site returns ends =
     meets_begin b c t (m n) l k at xs z (s.Ask (Up (or_zero (sema_number t.program x))) ∷ s.Control Done ∷ []) _ (fetches n) names_are (refl, (refl, tt)) lies
-    (numbered_step b c t (m n) l k (suc at) xs z (sema_number t.program x) known.0 s.Ask (Up (λ i q. either (trapped t l (trace.overflow i)) (emit (made l (trace.up i)) q))) (more (named xs z.locals))
+    (numbered_step b c t (m n) l k (suc at) xs z (sema_number t.program x) known.0 (λ i. s.Ask (Up i)) (λ i q. either (trapped t l (trace.overflow i)) (emit (made l (trace.up i)) q)) (more (named xs z.locals))
     (λ i next z'. refl) (λ i p r q. meets_either b _ _ _ _ (meets_itself b (trapped t l (trace.overflow i))) (meets_emit b _ p r q)) known.1 (ends n (omega arith) z.locals refl))
 simple_meets b c t m n l k at xs z calls (tree.join e) ret more fetches meets names_are h known lies site returns ends =
     meets_begin b c t (m n) l k at xs z (operand_steps t.program xs e ++ s.Ask (Join (operand_of xs e)) ∷ s.Control Done ∷ []) _ (fetches n) names_are
     (all_straight_append (operand_steps t.program xs e) _ (operand_straight t.program xs e) (refl, (refl, tt))) lies
-    (one_operand b c t (m n) l k (suc at) xs z e s.Ask (Join (joined t l)) (more (named xs z.locals)) (join_is c t l k z) (λ v p r q. meets_joined b t l v p r q) h known (ends n (omega arith) z.locals refl))
+    (one_operand b c t (m n) l k (suc at) xs z e (λ i. s.Ask (Join i)) (joined t l) (more (named xs z.locals)) (join_is c t l k z) (λ v p r q. meets_joined b t l v p r q) h known (ends n (omega arith) z.locals refl))
 simple_meets b c t m n l k at xs z calls (tree.print e) ret more fetches meets names_are h known lies site returns ends =
     meets_begin b c t (m n) l k at xs z (operand_steps t.program xs e ++ s.Ask (Print (operand_of xs e)) ∷ s.Control Done ∷ []) _ (fetches n) names_are
     (all_straight_append (operand_steps t.program xs e) _ (operand_straight t.program xs e) (refl, (refl, tt))) lies
-    (one_operand b c t (m n) l k (suc at) xs z e s.Ask (Print (λ v q. emit (made l (trace.print v)) q)) (more (named xs z.locals)) (print_is c t l k z) (λ v p r q. meets_emit b _ p r q) h known (ends n (omega arith) z.locals refl))
+    (one_operand b c t (m n) l k (suc at) xs z e (λ i. s.Ask (Print i)) (λ v q. emit (made l (trace.print v)) q) (more (named xs z.locals)) (print_is c t l k z) (λ v p r q. meets_emit b _ p r q) h known (ends n (omega arith) z.locals refl))
 simple_meets b c t m n l k at xs z calls tree.skip ret more fetches meets names_are h known lies site returns ends =
     meets_begin b c t (m n) l k at xs z (s.Control Done ∷ []) _ (fetches n) names_are (refl, tt) lies (meets_emit b (done l) _ _ (ends n (omega arith) z.locals refl))

@@ -1,5 +1,5 @@
 -- Each statement without a block gives in its code what it gives in the tree.
-use Rattle.std.proofs.Common.{◌≤◌, ℕ, suc, ◌≡◌, List, [], ◌∷◌, ◌++◌, Bool, ℤ, pos, Option, Some, refl, sym, ap, subst, ◌∙◌, slice_get, length, reverse, take}
+use Rattle.std.proofs.Common.{◌≤◌, ℕ, suc, ◌≡◌, List, [], ◌∷◌, ◌++◌, Bool, ℤ, pos, Option, Some, sym, ap, subst, ◌∙◌, slice_get, length, reverse, take}
 use mathlib.Core.Path.{fun_ext}
 use Rattle.loom_tree.specs.Tree.{Expression}
 use Rattle.loom_lang.specs.Numbers.{Cells, cells_named, function_number}
@@ -16,6 +16,7 @@ use Rattle.loom_flow.specs.Flat.{Flat}
 use Rattle.loom_flow.specs.State.{State, jumped, named, names}
 use Rattle.loom_flow.specs.FlatCode.{or_zero, array_of, array_named, operand_of, operand_steps, argument_steps, instr, instrs}
 use Rattle.loom_flow.proofs.Relations.{Meets, meets_itself, meets_same, meets_on, meets_emit, meets_any, meets_either}
+use Rattle.loom_flow.proofs.Steps.{returned, performed, write_cell_gives}
 use Rattle.loom_flow.proofs.Lying.{Lies}
 use Rattle.loom_flow.proofs.Straight.{straight, straight_append, skip, skip_append, Fetches, meets_instr, lies_front, lies_rest}
 use Rattle.loom_flow.proofs.Expressions.{IsArray, IsKnown, left, settled, settled_is, operand_are, steps_are}
@@ -72,15 +73,15 @@ write_cell_is c t l k x a b next z n v w h =
 
     by : (a' b' : Operand) → straight c t l k (s.Ask (WriteCell (array_of here) a' b') ∷ []) next (jumped (left b' w (left a' v z)) n)
         ≡ indexed t l here (settled a' z.locals v) (λ i. emit (made l (trace.write i (settled b' z.locals w))) (next (jumped z (suc n))))
-    by operand.Top operand.Top = refl
-    by operand.Top (operand.Local j) = refl
-    by operand.Top (operand.Number j) = refl
-    by (operand.Local i) operand.Top = refl
-    by (operand.Local i) (operand.Local j) = refl
-    by (operand.Local i) (operand.Number j) = refl
-    by (operand.Number i) operand.Top = refl
-    by (operand.Number i) (operand.Local j) = refl
-    by (operand.Number i) (operand.Number j) = refl
+    by operand.Top operand.Top = write_cell_gives c t next (jumped (left operand.Top w (left operand.Top v z)) n) (instr l k (s.Ask (WriteCell (array_of here) operand.Top operand.Top))) (array_of here) operand.Top operand.Top
+    by operand.Top (operand.Local j) = write_cell_gives c t next (jumped (left (operand.Local j) w (left operand.Top v z)) n) (instr l k (s.Ask (WriteCell (array_of here) operand.Top (operand.Local j)))) (array_of here) operand.Top (operand.Local j)
+    by operand.Top (operand.Number j) = write_cell_gives c t next (jumped (left (operand.Number j) w (left operand.Top v z)) n) (instr l k (s.Ask (WriteCell (array_of here) operand.Top (operand.Number j)))) (array_of here) operand.Top (operand.Number j)
+    by (operand.Local i) operand.Top = write_cell_gives c t next (jumped (left operand.Top w (left (operand.Local i) v z)) n) (instr l k (s.Ask (WriteCell (array_of here) (operand.Local i) operand.Top))) (array_of here) (operand.Local i) operand.Top
+    by (operand.Local i) (operand.Local j) = write_cell_gives c t next (jumped (left (operand.Local j) w (left (operand.Local i) v z)) n) (instr l k (s.Ask (WriteCell (array_of here) (operand.Local i) (operand.Local j)))) (array_of here) (operand.Local i) (operand.Local j)
+    by (operand.Local i) (operand.Number j) = write_cell_gives c t next (jumped (left (operand.Number j) w (left (operand.Local i) v z)) n) (instr l k (s.Ask (WriteCell (array_of here) (operand.Local i) (operand.Number j)))) (array_of here) (operand.Local i) (operand.Number j)
+    by (operand.Number i) operand.Top = write_cell_gives c t next (jumped (left operand.Top w (left (operand.Number i) v z)) n) (instr l k (s.Ask (WriteCell (array_of here) (operand.Number i) operand.Top))) (array_of here) (operand.Number i) operand.Top
+    by (operand.Number i) (operand.Local j) = write_cell_gives c t next (jumped (left (operand.Local j) w (left (operand.Number i) v z)) n) (instr l k (s.Ask (WriteCell (array_of here) (operand.Number i) (operand.Local j)))) (array_of here) (operand.Number i) (operand.Local j)
+    by (operand.Number i) (operand.Number j) = write_cell_gives c t next (jumped (left (operand.Number j) w (left (operand.Number i) v z)) n) (instr l k (s.Ask (WriteCell (array_of here) (operand.Number i) (operand.Number j)))) (array_of here) (operand.Number i) (operand.Number j)
 
 pub meets_cell : (b : Bool) (c : Flat) (t : Thread) (m : State → Lists) (l k at : ℕ) (x : List ℕ) (xs : List (List ℕ)) (z : State) (e f : Expression) (q : Lists)
     → length xs ≤ length z.locals → IsArray t.program x → IsKnown t.program xs e → IsKnown t.program xs f

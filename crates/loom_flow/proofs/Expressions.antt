@@ -16,8 +16,9 @@ use Rattle.loom_flow.specs.declared.code.Compute.TheVariants.{Negate, Invert, Ap
 use Rattle.loom_flow.specs.declared.code.Ask.TheVariants.{ReadCell}
 use Rattle.loom_flow.specs.Flat.{Flat}
 use Rattle.loom_flow.specs.State.{State, value_of, given, jumped, named}
-use Rattle.loom_flow.specs.FlatCode.{array_of, array_named, first_cell, local_operand, operand_of, unless_there, variable_step, steps_to, operand_steps}
+use Rattle.loom_flow.specs.FlatCode.{instr, array_of, array_named, first_cell, local_operand, operand_of, unless_there, variable_step, steps_to, operand_steps}
 use Rattle.loom_flow.proofs.Locals.{local_value, value_named}
+use Rattle.loom_flow.proofs.Steps.{apply_gives, read_cell_gives}
 use Rattle.loom_flow.proofs.Straight.{straight, straight_append, skip, skip_append}
 
 -- Each name has its number.
@@ -116,15 +117,15 @@ invert_is c t l k d (operand.Number m) next z n v = refl
 apply_is : (c : Flat) (t : Thread) (l k : ℕ) (d : Target) (o : Op) (a b : Operand) (next : State → Lists) (z : State) (n : ℕ) (v w : ℤ)
     → straight c t l k (s.Compute (Apply o a b d) ∷ []) next (jumped (left b w (left a v z)) n)
     ≡ operated t l o (settled a z.locals v) (settled b z.locals w) (λ u. next (jumped (given z d u) (suc n)))
-apply_is c t l k d o operand.Top operand.Top next z n v w = refl
-apply_is c t l k d o operand.Top (operand.Local j) next z n v w = refl
-apply_is c t l k d o operand.Top (operand.Number m) next z n v w = refl
-apply_is c t l k d o (operand.Local i) operand.Top next z n v w = refl
-apply_is c t l k d o (operand.Local i) (operand.Local j) next z n v w = refl
-apply_is c t l k d o (operand.Local i) (operand.Number m) next z n v w = refl
-apply_is c t l k d o (operand.Number i) operand.Top next z n v w = refl
-apply_is c t l k d o (operand.Number i) (operand.Local j) next z n v w = refl
-apply_is c t l k d o (operand.Number i) (operand.Number m) next z n v w = refl
+apply_is c t l k d o operand.Top operand.Top next z n v w = apply_gives c t next (jumped (left operand.Top w (left operand.Top v z)) n) (instr l k (s.Compute (Apply o operand.Top operand.Top d))) o operand.Top operand.Top d
+apply_is c t l k d o operand.Top (operand.Local j) next z n v w = apply_gives c t next (jumped (left (operand.Local j) w (left operand.Top v z)) n) (instr l k (s.Compute (Apply o operand.Top (operand.Local j) d))) o operand.Top (operand.Local j) d
+apply_is c t l k d o operand.Top (operand.Number m) next z n v w = apply_gives c t next (jumped (left (operand.Number m) w (left operand.Top v z)) n) (instr l k (s.Compute (Apply o operand.Top (operand.Number m) d))) o operand.Top (operand.Number m) d
+apply_is c t l k d o (operand.Local i) operand.Top next z n v w = apply_gives c t next (jumped (left operand.Top w (left (operand.Local i) v z)) n) (instr l k (s.Compute (Apply o (operand.Local i) operand.Top d))) o (operand.Local i) operand.Top d
+apply_is c t l k d o (operand.Local i) (operand.Local j) next z n v w = apply_gives c t next (jumped (left (operand.Local j) w (left (operand.Local i) v z)) n) (instr l k (s.Compute (Apply o (operand.Local i) (operand.Local j) d))) o (operand.Local i) (operand.Local j) d
+apply_is c t l k d o (operand.Local i) (operand.Number m) next z n v w = apply_gives c t next (jumped (left (operand.Number m) w (left (operand.Local i) v z)) n) (instr l k (s.Compute (Apply o (operand.Local i) (operand.Number m) d))) o (operand.Local i) (operand.Number m) d
+apply_is c t l k d o (operand.Number i) operand.Top next z n v w = apply_gives c t next (jumped (left operand.Top w (left (operand.Number i) v z)) n) (instr l k (s.Compute (Apply o (operand.Number i) operand.Top d))) o (operand.Number i) operand.Top d
+apply_is c t l k d o (operand.Number i) (operand.Local j) next z n v w = apply_gives c t next (jumped (left (operand.Local j) w (left (operand.Number i) v z)) n) (instr l k (s.Compute (Apply o (operand.Number i) (operand.Local j) d))) o (operand.Number i) (operand.Local j) d
+apply_is c t l k d o (operand.Number i) (operand.Number m) next z n v w = apply_gives c t next (jumped (left (operand.Number m) w (left (operand.Number i) v z)) n) (instr l k (s.Compute (Apply o (operand.Number i) (operand.Number m) d))) o (operand.Number i) (operand.Number m) d
 
 -- a cell is read where its array has a number
 read_cell_is : (c : Flat) (t : Thread) (l k : ℕ) (d : Target) (x : List ℕ) (a : Operand) (next : State → Lists) (z : State) (n : ℕ) (v : ℤ) → IsArray t.program x
@@ -140,9 +141,9 @@ read_cell_is c t l k d x a next z n v h =
 
     by : (b : Operand) → straight c t l k (s.Ask (ReadCell (array_of here) b d) ∷ []) next (jumped (left b v z) n)
         ≡ indexed t l here (settled b z.locals v) (λ w. reading l w (λ u. next (jumped (given z d u) (suc n))))
-    by operand.Top = refl
-    by (operand.Local j) = refl
-    by (operand.Number m) = refl
+    by operand.Top = read_cell_gives c t next (jumped (left operand.Top v z) n) (instr l k (s.Ask (ReadCell (array_of here) operand.Top d))) (array_of here) operand.Top d
+    by (operand.Local j) = read_cell_gives c t next (jumped (left (operand.Local j) v z) n) (instr l k (s.Ask (ReadCell (array_of here) (operand.Local j) d))) (array_of here) (operand.Local j) d
+    by (operand.Number m) = read_cell_gives c t next (jumped (left (operand.Number m) v z) n) (instr l k (s.Ask (ReadCell (array_of here) (operand.Number m) d))) (array_of here) (operand.Number m) d
 
 variable_is : (c : Flat) (t : Thread) (l k : ℕ) (d : Target) (x : List ℕ) (next : State → Lists) (z : State) (at : ℕ) (a : Option ℕ) → IsNumbered t.program x a
     → straight c t l k (variable_step t.program d x a ∷ []) next (jumped z at) ≡ variable t l (local_value z.locals a) x (λ v. next (jumped (given z d v) (suc at)))

@@ -154,7 +154,7 @@ body_leads Q c lo hi xs q starts at k (if_ l e a b rest) from to sites known =
     (each_append (LeadsAt Q c) first (first + size p xs a) (body_code p xs first (suc k) a) _ (ap (λ m. first + m) (code_length p xs a first (suc k)))
     (body_leads Q c lo hi xs q starts first (suc k) a (omega (arith, from)) (omega (arith, to)) sites_a known.1) (
       (q (suc (first + size p xs a)) (omega (arith, from)) (omega (arith, to)), omega arith, q last (omega (arith, from)) (omega (arith, to))),
-      subst (λ m. Each (LeadsAt Q c) m (body_code p xs second (suc k + place_count a) b ++ instr l k s.Control Done ∷ body_code p xs (suc last) (suc k + place_count a + place_count b) rest)) (omega arith)
+      subst (λ m. Each (LeadsAt Q c) m (body_code p xs second (suc k + place_count a) b ++ instr l k (s.Control Done) ∷ body_code p xs (suc last) (suc k + place_count a + place_count b) rest)) (omega arith)
           (each_append (LeadsAt Q c) second last (body_code p xs second (suc k + place_count a) b) _ (ap (λ m. second + m) (code_length p xs b second (suc k + place_count a)))
           (body_leads Q c lo hi xs q starts second (suc k + place_count a) b (omega (arith, from)) (omega (arith, to)) sites_b known.2) (
             q (suc last) (omega (arith, from)) (omega (arith, to)),

@@ -15,20 +15,20 @@ pub function_code : (p : Source) (names known : List (List ℕ)) (l at place fir
     names ≡ known →
     ran ≡ old ++ body_code p names at first b →
     first ≡ suc place →
-    new ≡ ran ++ instr l last s.Control Out ∷ [] →
+    new ≡ ran ++ instr l last (s.Control Out) ∷ [] →
     last ≡ suc place + place_count b →
-    new ≡ old ++ (body_code p known at (suc place) b ++ instr l (suc place + place_count b) s.Control Out ∷ [])
+    new ≡ old ++ (body_code p known at (suc place) b ++ instr l (suc place + place_count b) (s.Control Out) ∷ [])
 function_code p names known l at place first last b old ran new h1 h2 h3 h4 h5 =
     h4
-    ∙ ap (λ z. z ++ instr l last s.Control Out ∷ []) (h2 ∙ ap (λ z. old ++ body_code p z at first b) h1 ∙ ap (λ n. old ++ body_code p known at n b) h3)
-    ∙ append_assoc old (body_code p known at (suc place) b) (instr l last s.Control Out ∷ [])
-    ∙ ap (λ n. old ++ (body_code p known at (suc place) b ++ instr l n s.Control Out ∷ [])) h5
+    ∙ ap (λ z. z ++ instr l last (s.Control Out) ∷ []) (h2 ∙ ap (λ z. old ++ body_code p z at first b) h1 ∙ ap (λ n. old ++ body_code p known at n b) h3)
+    ∙ append_assoc old (body_code p known at (suc place) b) (instr l last (s.Control Out) ∷ [])
+    ∙ ap (λ n. old ++ (body_code p known at (suc place) b ++ instr l n (s.Control Out) ∷ [])) h5
 
 -- one function after another
 
 one_code_long : (p : Source) (at place : ℕ) (f : Function) → length (functions_code p at place (f ∷ [])) ≡ suc (size p (locals_of f) f.body)
 one_code_long p at place f =
-    let whole = length-append (body_code p (locals_of f) at (suc place) f.body) (instr f.line (suc place + place_count f.body) s.Control Out ∷ []) in
+    let whole = length-append (body_code p (locals_of f) at (suc place) f.body) (instr f.line (suc place + place_count f.body) (s.Control Out) ∷ []) in
     let many = code_length p (locals_of f) f.body at (suc place) in
     omega arith
 

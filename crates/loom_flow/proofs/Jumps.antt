@@ -40,17 +40,17 @@ aimed_twice front bs y0 y z over aimed otherwise over_it new h1 h2 h3 h4 h5 =
     h5 ∙ ap (λ w. w ++ z ∷ []) (h4 ∙ ap (λ w. slice_set w over y) one ∙ patched front bs y0 y over h3) ∙ append_assoc front (y ∷ bs) (z ∷ [])
 
 -- the test of a statement, which begins it
-test_front : (l place : ℕ) (steps : List Step) (x : Step) (old rest : List Instr) → ((old ++ instr l place s.Control Begin ∷ []) ++ instrs l place steps) ++ instr l place x ∷ rest ≡ old ++ (instrs l place (s.Control Begin ∷ (steps ++ x ∷ [])) ++ rest)
+test_front : (l place : ℕ) (steps : List Step) (x : Step) (old rest : List Instr) → ((old ++ instr l place (s.Control Begin) ∷ []) ++ instrs l place steps) ++ instr l place x ∷ rest ≡ old ++ (instrs l place (s.Control Begin ∷ (steps ++ x ∷ [])) ++ rest)
 test_front l place steps x old rest =
     let is = instrs_append l place steps (x ∷ []) in
-    let one : ((old ++ instr l place s.Control Begin ∷ []) ++ instrs l place steps) ++ instr l place x ∷ rest ≡ old ++ instr l place s.Control Begin ∷ ((instrs l place steps ++ instr l place x ∷ []) ++ rest) = simp append_assoc in
-    one ∙ ap (λ z. old ++ instr l place s.Control Begin ∷ (z ++ rest)) (sym is)
+    let one : ((old ++ instr l place (s.Control Begin) ∷ []) ++ instrs l place steps) ++ instr l place x ∷ rest ≡ old ++ instr l place (s.Control Begin) ∷ ((instrs l place steps ++ instr l place x ∷ []) ++ rest) = simp append_assoc in
+    one ∙ ap (λ z. old ++ instr l place (s.Control Begin) ∷ (z ++ rest)) (sym is)
 
 -- how far the front is
-front_length : (l place : ℕ) (steps : List Step) (old begun : List Instr) → begun ≡ old ++ instr l place s.Control Begin ∷ [] → length (begun ++ instrs l place steps) ≡ length old + (1 + length steps)
+front_length : (l place : ℕ) (steps : List Step) (old begun : List Instr) → begun ≡ old ++ instr l place (s.Control Begin) ∷ [] → length (begun ++ instrs l place steps) ≡ length old + (1 + length steps)
 front_length l place steps old begun h =
     let one = ap length h in
-    let two = length-append old (instr l place s.Control Begin ∷ []) in
+    let two = length-append old (instr l place (s.Control Begin) ∷ []) in
     let three = length-append begun (instrs l place steps) in
     let four = instrs_length l place steps in
     omega arith
@@ -72,7 +72,7 @@ behind_code : (p : Source) (names : List (List ℕ)) (b : Body) (n place : ℕ) 
 behind_code p names b n place xs ys h = ap length h ∙ length-append xs (body_code p names n place b) ∙ ap (λ m. length xs + m) (code_length p names b n place)
 
 -- how long the code is behind the test, and behind a target that was put in
-pub tested_long : (l place : ℕ) (steps : List Step) (x : Step) (old begun tested : List Instr) → begun ≡ old ++ instr l place s.Control Begin ∷ [] → tested ≡ begun ++ instrs l place (steps ++ x ∷ []) → length tested ≡ length old + (2 + length steps)
+pub tested_long : (l place : ℕ) (steps : List Step) (x : Step) (old begun tested : List Instr) → begun ≡ old ++ instr l place (s.Control Begin) ∷ [] → tested ≡ begun ++ instrs l place (steps ++ x ∷ []) → length tested ≡ length old + (2 + length steps)
 tested_long l place steps x old begun tested h1 h2 =
     let front : length tested ≡ length (begun ++ instrs l place steps) + 1 = pushed (begun ++ instrs l place steps) tested (instr l place x) (tested_front l place steps x begun tested h2) in
     let is = front_length l place steps old begun h1 in
@@ -95,7 +95,7 @@ at_within l place at steps x y begun tested bs ran jumps h1 h2 h3 h4 =
 
 -- The code of an `if`: the jump to the second block, and then the one over it, get their targets.
 pub if_code : (p : Source) (names : List (List ℕ)) (l place : ℕ) (e : Expression) (a b : Body) (o : Operand) (at over second done first_place second_place : ℕ) (old begun tested ran jumps aimed otherwise over_it new : List Instr) →
-    begun ≡ old ++ instr l place s.Control Begin ∷ [] →
+    begun ≡ old ++ instr l place (s.Control Begin) ∷ [] →
     tested ≡ begun ++ instrs l place (operand_steps p names e ++ s.Control (JumpIfZero (operand_of names e) 0) ∷ []) →
     at ≡ length begun + length (operand_steps p names e) →
     o ≡ operand_of names e →
@@ -107,7 +107,7 @@ pub if_code : (p : Source) (names : List (List ℕ)) (l place : ℕ) (e : Expres
     otherwise ≡ aimed ++ body_code p names (length aimed) second_place b →
     done ≡ length otherwise →
     over_it ≡ slice_set otherwise over (instr l place (s.Control (Jump done))) →
-    new ≡ over_it ++ instr l place s.Control Done ∷ [] →
+    new ≡ over_it ++ instr l place (s.Control Done) ∷ [] →
     first_place ≡ suc place →
     second_place ≡ suc place + place_count a →
     new ≡ old ++ body_code p names (length old) place (if_ l e a b end)
@@ -135,20 +135,20 @@ if_code p names l place e a b o at over second done first_place second_place old
     let otherwise_is : otherwise ≡ aimed ++ bs = h10 ∙ ap (λ z. aimed ++ z) (moved_code p names b _ _ _ _ next_is h15) in
     let otherwise_long : length otherwise ≡ length aimed + size p names b = behind_code p names b next (suc place + place_count a) aimed otherwise otherwise_is in
     let over_is : over ≡ length (front ++ jump second ∷ cs) = omega arith in
-    let new_is : new ≡ (front ++ jump second ∷ cs) ++ over_to done ∷ (bs ++ instr l place s.Control Done ∷ []) =
+    let new_is : new ≡ (front ++ jump second ∷ cs) ++ over_to done ∷ (bs ++ instr l place (s.Control Done) ∷ []) =
     aimed_twice (front ++ jump second ∷ cs) bs (over_to 0) (over_to done) (instr l place (s.Control Done)) over aimed otherwise over_it new aimed_is otherwise_is over_is h12 h13 in
     let second_is : second ≡ next = omega arith in
     let done_is : done ≡ next + size p names b = omega arith in
     new_is
-    ∙ append_assoc front (jump second ∷ cs) (over_to done ∷ (bs ++ instr l place s.Control Done ∷ []))
-    ∙ ap (λ z. (z ++ instrs l place steps) ++ jump second ∷ (cs ++ over_to done ∷ (bs ++ instr l place s.Control Done ∷ []))) h1
-    ∙ test_front l place steps (s.Control (JumpIfZero (operand_of names e) second)) old (cs ++ over_to done ∷ (bs ++ instr l place s.Control Done ∷ []))
-    ∙ ap (λ n. old ++ (instrs l place (s.Control Begin ∷ (steps ++ s.Control (JumpIfZero (operand_of names e) n) ∷ [])) ++ (cs ++ over_to done ∷ (bs ++ instr l place s.Control Done ∷ [])))) second_is
-    ∙ ap (λ n. old ++ (instrs l place (s.Control Begin ∷ (steps ++ s.Control (JumpIfZero (operand_of names e) next) ∷ [])) ++ (cs ++ over_to n ∷ (bs ++ instr l place s.Control Done ∷ [])))) done_is
+    ∙ append_assoc front (jump second ∷ cs) (over_to done ∷ (bs ++ instr l place (s.Control Done) ∷ []))
+    ∙ ap (λ z. (z ++ instrs l place steps) ++ jump second ∷ (cs ++ over_to done ∷ (bs ++ instr l place (s.Control Done) ∷ []))) h1
+    ∙ test_front l place steps (s.Control (JumpIfZero (operand_of names e) second)) old (cs ++ over_to done ∷ (bs ++ instr l place (s.Control Done) ∷ []))
+    ∙ ap (λ n. old ++ (instrs l place (s.Control Begin ∷ (steps ++ s.Control (JumpIfZero (operand_of names e) n) ∷ [])) ++ (cs ++ over_to done ∷ (bs ++ instr l place (s.Control Done) ∷ [])))) second_is
+    ∙ ap (λ n. old ++ (instrs l place (s.Control Begin ∷ (steps ++ s.Control (JumpIfZero (operand_of names e) next) ∷ [])) ++ (cs ++ over_to n ∷ (bs ++ instr l place (s.Control Done) ∷ [])))) done_is
 
 -- The code of a `while`: the back edge leads to the test, whose jump gets its target behind that.
 pub while_code : (p : Source) (names : List (List ℕ)) (l place : ℕ) (e : Expression) (a : Body) (o : Operand) (head at done first_place : ℕ) (old begun tested ran jumps aimed new : List Instr) →
-    begun ≡ old ++ instr l place s.Control Begin ∷ [] →
+    begun ≡ old ++ instr l place (s.Control Begin) ∷ [] →
     head ≡ length begun →
     tested ≡ begun ++ instrs l place (operand_steps p names e ++ s.Control (JumpIfZero (operand_of names e) 0) ∷ []) →
     at ≡ length begun + length (operand_steps p names e) →
@@ -157,7 +157,7 @@ pub while_code : (p : Source) (names : List (List ℕ)) (l place : ℕ) (e : Exp
     jumps ≡ ran ++ instr l (suc place) (s.Control (Edge head)) ∷ [] →
     done ≡ length jumps →
     aimed ≡ slice_set jumps at (instr l place (s.Control (JumpIfZero o done))) →
-    new ≡ aimed ++ instr l place s.Control Done ∷ [] →
+    new ≡ aimed ++ instr l place (s.Control Done) ∷ [] →
     first_place ≡ suc (suc place) →
     new ≡ old ++ body_code p names (length old) place (while_ l e a end)
 while_code p names l place e a o head at done first_place old begun tested ran jumps aimed new h1 h2 h3 h4 h5 h6 h7 h8 h9 h10 h11 =
@@ -178,11 +178,11 @@ while_code p names l place e a o head at done first_place old begun tested ran j
     aimed_once front cs (jump 0) (jump done) (back head) at tested ran jumps aimed tested_is ran_is h7 (at_front l place at steps begun h4) (h9 ∙ ap (λ z. slice_set jumps at (instr l place (s.Control (JumpIfZero z done)))) h5) in
     let done_is : done ≡ first + (1 + size p names a) = omega arith in
     let head_is : head ≡ length old + 1 = h2 ∙ pushed old begun (instr l place (s.Control Begin)) h1 in
-    let flat : ((front ++ jump done ∷ cs) ++ back head ∷ []) ++ instr l place s.Control Done ∷ [] ≡ front ++ jump done ∷ (cs ++ back head ∷ instr l place s.Control Done ∷ []) = simp append_assoc in
+    let flat : ((front ++ jump done ∷ cs) ++ back head ∷ []) ++ instr l place (s.Control Done) ∷ [] ≡ front ++ jump done ∷ (cs ++ back head ∷ instr l place (s.Control Done) ∷ []) = simp append_assoc in
     h10
-    ∙ ap (λ z. z ++ instr l place s.Control Done ∷ []) aimed_is
+    ∙ ap (λ z. z ++ instr l place (s.Control Done) ∷ []) aimed_is
     ∙ flat
-    ∙ ap (λ z. (z ++ instrs l place steps) ++ jump done ∷ (cs ++ back head ∷ instr l place s.Control Done ∷ [])) h1
-    ∙ test_front l place steps (s.Control (JumpIfZero (operand_of names e) done)) old (cs ++ back head ∷ instr l place s.Control Done ∷ [])
-    ∙ ap (λ n. old ++ (instrs l place (s.Control Begin ∷ (steps ++ s.Control (JumpIfZero (operand_of names e) n) ∷ [])) ++ (cs ++ back head ∷ instr l place s.Control Done ∷ []))) done_is
-    ∙ ap (λ n. old ++ (instrs l place (s.Control Begin ∷ (steps ++ s.Control (JumpIfZero (operand_of names e) (first + (1 + size p names a))) ∷ [])) ++ (cs ++ back n ∷ instr l place s.Control Done ∷ []))) head_is
+    ∙ ap (λ z. (z ++ instrs l place steps) ++ jump done ∷ (cs ++ back head ∷ instr l place (s.Control Done) ∷ [])) h1
+    ∙ test_front l place steps (s.Control (JumpIfZero (operand_of names e) done)) old (cs ++ back head ∷ instr l place (s.Control Done) ∷ [])
+    ∙ ap (λ n. old ++ (instrs l place (s.Control Begin ∷ (steps ++ s.Control (JumpIfZero (operand_of names e) n) ∷ [])) ++ (cs ++ back head ∷ instr l place (s.Control Done) ∷ []))) done_is
+    ∙ ap (λ n. old ++ (instrs l place (s.Control Begin ∷ (steps ++ s.Control (JumpIfZero (operand_of names e) (first + (1 + size p names a))) ∷ [])) ++ (cs ++ back n ∷ instr l place (s.Control Done) ∷ []))) head_is

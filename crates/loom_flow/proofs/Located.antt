@@ -72,7 +72,7 @@ body_located p n xs at k (if_ l e a b rest) h =
     (each_append (Located p n) first (first + size p xs a) (body_code p xs first (suc k) a) _ (ap (λ m. first + m) (code_length p xs a first (suc k)))
     (body_located p n xs first (suc k) a places_a) (
       (h.0, refl),
-      subst (λ m. Each (Located p n) m (body_code p xs second (suc k + place_count a) b ++ instr l k s.Control Done ∷ body_code p xs (suc last) (suc k + place_count a + place_count b) rest)) (omega arith)
+      subst (λ m. Each (Located p n) m (body_code p xs second (suc k + place_count a) b ++ instr l k (s.Control Done) ∷ body_code p xs (suc last) (suc k + place_count a + place_count b) rest)) (omega arith)
           (each_append (Located p n) second last (body_code p xs second (suc k + place_count a) b) _ (ap (λ m. second + m) (code_length p xs b second (suc k + place_count a)))
           (body_located p n xs second (suc k + place_count a) b places_b)
           ((h.0, refl), body_located p n xs (suc last) (suc k + place_count a + place_count b) rest places_rest)),

@@ -13,11 +13,10 @@ use Rattle.loom_flow.specs.declared.code.Control.TheVariants.{Begin, Done, Edge,
 use Rattle.loom_flow.specs.declared.code.Instr.{Instr}
 use Rattle.loom_flow.specs.Flat.{Flat, resume}
 use Rattle.loom_flow.specs.State.{State, jumped, named, names, locals_now}
-use Rattle.loom_flow.specs.FlatTrace.{runs}
 use Rattle.loom_flow.specs.FlatCode.{operand_of, operand_steps, simple_steps, instr, instrs, size, place_count, body_code, body_sites}
 use Rattle.loom_flow.proofs.Relations.{Within, Meets, meets_same, meets_on, meets_emit, meets_choice, breaks, choice_open}
-use Rattle.loom_flow.proofs.Steps.{meets_performed}
-use Rattle.loom_flow.proofs.Running.{runs_more, ever, ever_fetched, ever_open}
+use Rattle.loom_flow.proofs.Steps.{performed, fetched, jump_gives, meets_performed}
+use Rattle.loom_flow.proofs.Running.{runs_from, ever_from, runs_next, runs_fetched, ever_fetched, ever_open}
 use Rattle.loom_flow.proofs.Lying.{Lies, lies_first, lies_second}
 use Rattle.loom_flow.proofs.Straight.{straight, skip, skip_length, AllStraight, Fetches, meets_instr}
 use Rattle.loom_flow.proofs.Expressions.{IsKnown, left, settled, settled_is, operand_are, steps_are}
@@ -36,29 +35,30 @@ pub record Runner (b : Bool) (c : Flat) (t : Thread) (m : ℕ → State → List
       → (vs : List ℤ) → length vs ≡ count → Meets b (fetched c t (m i) (head vs) (slice_get c.code (head vs).at)) (turn (named xs vs) again leave))
       → (vs : List ℤ) → length vs ≡ count → Meets b (m n (head vs)) (turns j turn leave (named xs vs))
 
-runs_loop : (c : Flat) (t : Thread) (n j : ℕ) → n ≤ j → (head : List ℤ → State) (turn : Turn) (leave : Locals → Lists) (xs : List (List ℕ)) (count : ℕ)
+runs_loop : (c : Flat) (t : Thread) → t.stopped [] Open → (n j : ℕ) → n ≤ j → (head : List ℤ → State) (turn : Turn) (leave : Locals → Lists) (xs : List (List ℕ)) (count : ℕ)
     → ((env : Locals) (again : Locals → Lists) → turn env again leave [] Open)
-    → ((i : ℕ) → i ≤ n → (again : Locals → Lists) → ((h : ℕ) → h ≤ i → (vs : List ℤ) → length vs ≡ count → Within (runs c t h (head vs)) (again (named xs vs)))
-    → (vs : List ℤ) → length vs ≡ count → Within (fetched c t (runs c t i) (head vs) (slice_get c.code (head vs).at)) (turn (named xs vs) again leave))
-    → (vs : List ℤ) → length vs ≡ count → Within (runs c t n (head vs)) (turns j turn leave (named xs vs))
-runs_loop c t zero j le head turn leave xs count opens step vs h = breaks (turns j turn leave (named xs vs)) (turns_open j turn leave (named xs vs) opens)
-runs_loop c t (suc n) zero le head turn leave xs count opens step vs h = absurd (omega (arith, le))
-runs_loop c t (suc n) (suc j) le head turn leave xs count opens step vs h =
+    → ((i : ℕ) → i ≤ n → (again : Locals → Lists) → ((h : ℕ) → h ≤ i → (vs : List ℤ) → length vs ≡ count → Within (runs_from c t h (head vs)) (again (named xs vs)))
+    → (vs : List ℤ) → length vs ≡ count → Within (fetched c t (runs_from c t i) (head vs) (slice_get c.code (head vs).at)) (turn (named xs vs) again leave))
+    → (vs : List ℤ) → length vs ≡ count → Within (runs_from c t n (head vs)) (turns j turn leave (named xs vs))
+runs_loop c t stops zero j le head turn leave xs count opens step vs h = breaks (turns j turn leave (named xs vs)) (turns_open j turn leave (named xs vs) opens)
+runs_loop c t stops (suc n) zero le head turn leave xs count opens step vs h = absurd (omega (arith, le))
+runs_loop c t stops (suc n) (suc j) le head turn leave xs count opens step vs h = λ es r f.
     step n (omega arith) (λ env. turns j turn leave env)
-    (λ i below ws g. runs_loop c t i j (omega (arith, below, le)) head turn leave xs count opens (λ i' le'. step i' (omega (arith, le', below))) ws g) vs h
+    (λ i below ws g. runs_loop c t stops i j (omega (arith, below, le)) head turn leave xs count opens (λ i' le'. step i' (omega (arith, le', below))) ws g) vs h es r
+    (runs_next c t stops n (head vs) es r f)
 
-pub runs_runner : (c : Flat) (t : Thread) → Runner true c t (runs c t)
-runs_runner c t = record { fetches = λ j z. runs_more c t j z; loops = runs_loop c t }
+pub runs_runner : (c : Flat) (t : Thread) → t.stopped [] Open → Runner true c t (runs_from c t)
+runs_runner c t stops = record { fetches = runs_fetched c t stops; loops = runs_loop c t stops }
 
 ever_loop : (c : Flat) (t : Thread) (n j : ℕ) (head : List ℤ → State) (turn : Turn) (leave : Locals → Lists) (xs : List (List ℕ)) (count : ℕ)
-    → ((i : ℕ) → i ≤ n → (again : Locals → Lists) → ((h : ℕ) → h ≤ i → (vs : List ℤ) → length vs ≡ count → Within (again (named xs vs)) (ever c t (head vs)))
-    → (vs : List ℤ) → length vs ≡ count → Within (turn (named xs vs) again leave) (fetched c t (ever c t) (head vs) (slice_get c.code (head vs).at)))
-    → (vs : List ℤ) → length vs ≡ count → Within (turns j turn leave (named xs vs)) (ever c t (head vs))
-ever_loop c t n zero head turn leave xs count step vs h = breaks (ever c t (head vs)) (ever_open c t (head vs))
+    → ((i : ℕ) → i ≤ n → (again : Locals → Lists) → ((h : ℕ) → h ≤ i → (vs : List ℤ) → length vs ≡ count → Within (again (named xs vs)) (ever_from c t (head vs)))
+    → (vs : List ℤ) → length vs ≡ count → Within (turn (named xs vs) again leave) (fetched c t (ever_from c t) (head vs) (slice_get c.code (head vs).at)))
+    → (vs : List ℤ) → length vs ≡ count → Within (turns j turn leave (named xs vs)) (ever_from c t (head vs))
+ever_loop c t n zero head turn leave xs count step vs h = breaks (ever_from c t (head vs)) (ever_open c t (head vs))
 ever_loop c t n (suc j) head turn leave xs count step vs h = λ es r g.
     ever_fetched c t (head vs) es r (step n (omega arith) (λ env. turns j turn leave env) (λ i below ws e. ever_loop c t n j head turn leave xs count step ws e) vs h es r g)
 
-pub ever_runner : (c : Flat) (t : Thread) → Runner false c t (λ j. ever c t)
+pub ever_runner : (c : Flat) (t : Thread) → Runner false c t (λ j. ever_from c t)
 ever_runner c t = record {
   fetches = λ j z. ever_fetched c t z;
   loops = λ n j le head turn leave xs count opens step. ever_loop c t n j head turn leave xs count step;
@@ -78,7 +78,7 @@ meets_then b c t l k m [] x at z f a h e = meets_instr b c t m z (instr l k x) f
 meets_then b c t l k m (y ∷ ys) x at z f a h e =
     meets_on b (m z) (performed c t m z (instr l k y) y) _
     (meets_instr b c t m z (instr l k y) f (ap (slice_get c.code) e ∙ h.0))
-    (meets_performed b c t m (straight c t l k ys (λ z'. performed c t m z' (instr l k x) x)) z (instr l k y) y (λ z' g. meets_then b c t l k m ys x (suc at) z' f a.1 h.1 (g a.0 ∙ ap suc e)))
+    (meets_performed b c t m (straight c t l k ys (λ z'. performed c t m z' (instr l k x) x)) z (instr l k y) y a.0 (λ z' g. meets_then b c t l k m ys x (suc at) z' f a.1 h.1 (g ∙ ap suc e)))
 
 fetched_then : (b : Bool) (c : Flat) (t : Thread) (l k : ℕ) (m : State → Lists) (xs : List Step) (x : Step) (at : ℕ) (z : State)
     → Fetches b c t m → AllStraight xs → Lies c.code at (instrs l k (xs ++ x ∷ [])) → z.at ≡ at
@@ -87,13 +87,13 @@ fetched_then b c t l k m [] x at z f a h e = meets_same b _ _ (ap (fetched c t m
 fetched_then b c t l k m (y ∷ ys) x at z f a h e =
     meets_on b (fetched c t m z (slice_get c.code z.at)) (performed c t m z (instr l k y) y) _
     (meets_same b _ _ (ap (fetched c t m z) (ap (slice_get c.code) e ∙ h.0)))
-    (meets_performed b c t m (straight c t l k ys (λ z'. performed c t m z' (instr l k x) x)) z (instr l k y) y (λ z' g. meets_then b c t l k m ys x (suc at) z' f a.1 h.1 (g a.0 ∙ ap suc e)))
+    (meets_performed b c t m (straight c t l k ys (λ z'. performed c t m z' (instr l k x) x)) z (instr l k y) y a.0 (λ z' g. meets_then b c t l k m ys x (suc at) z' f a.1 h.1 (g ∙ ap suc e)))
 
 jump_is : (c : Flat) (t : Thread) (l k to n : ℕ) (a : Operand) (m : State → Lists) (z : State) (v : ℤ)
     → performed c t m (jumped (left a v z) n) (instr l k (s.Control (JumpIfZero a to))) (s.Control (JumpIfZero a to)) ≡ choice (is_zero (settled a z.locals v)) (m (jumped z to)) (m (jumped z (suc n)))
-jump_is c t l k to n operand.Top m z v = refl
-jump_is c t l k to n (operand.Local j) m z v = refl
-jump_is c t l k to n (operand.Number i) m z v = refl
+jump_is c t l k to n operand.Top m z v = jump_gives c t m (jumped (left operand.Top v z) n) (instr l k (s.Control (JumpIfZero operand.Top to))) operand.Top to
+jump_is c t l k to n (operand.Local j) m z v = jump_gives c t m (jumped (left (operand.Local j) v z) n) (instr l k (s.Control (JumpIfZero (operand.Local j) to))) (operand.Local j) to
+jump_is c t l k to n (operand.Number i) m z v = jump_gives c t m (jumped (left (operand.Number i) v z) n) (instr l k (s.Control (JumpIfZero (operand.Number i) to))) (operand.Number i) to
 
 condition_are : (c : Flat) (t : Thread) (l k to at : ℕ) (xs : List (List ℕ)) (m : State → Lists) (z : State) (e : Expression) → length xs ≤ length z.locals → IsKnown t.program xs e
     → straight c t l k (operand_steps t.program xs e) (λ z'. performed c t m z' (instr l k (s.Control (JumpIfZero (operand_of xs e) to))) (s.Control (JumpIfZero (operand_of xs e) to))) (jumped z at)
@@ -176,19 +176,19 @@ body_meets b c t m runner most n le calls xs z (if_ l e x y rest) k at ret more 
     let code_x : List Instr = body_code p xs first (suc k) x in
     let code_y : List Instr = body_code p xs second (suc k + place_count x) y in
     let code_rest : List Instr = body_code p xs (suc last) (suc k + place_count x + place_count y) rest in
-    let lies_head : Lies c.code at (instrs l k head) = lies_first c.code at (instrs l k head) (code_x ++ instr l k (s.Control (Jump last)) ∷ (code_y ++ instr l k s.Control Done ∷ code_rest)) lies in
-    let lies_from_x : Lies c.code first (code_x ++ instr l k (s.Control (Jump last)) ∷ (code_y ++ instr l k s.Control Done ∷ code_rest)) =
-    subst (λ i. Lies c.code i (code_x ++ instr l k (s.Control (Jump last)) ∷ (code_y ++ instr l k s.Control Done ∷ code_rest))) (ap (λ i. at + i) (condition_length l k before (s.Control Begin) jump))
-    (lies_second c.code at (instrs l k head) (code_x ++ instr l k (s.Control (Jump last)) ∷ (code_y ++ instr l k s.Control Done ∷ code_rest)) lies) in
-    let lies_x : Lies c.code first code_x = lies_first c.code first code_x (instr l k (s.Control (Jump last)) ∷ (code_y ++ instr l k s.Control Done ∷ code_rest)) lies_from_x in
-    let lies_jump : Lies c.code (first + size p xs x) (instr l k (s.Control (Jump last)) ∷ (code_y ++ instr l k s.Control Done ∷ code_rest)) =
-    subst (λ i. Lies c.code i (instr l k (s.Control (Jump last)) ∷ (code_y ++ instr l k s.Control Done ∷ code_rest))) (ap (λ i. first + i) (code_length p xs x first (suc k)))
-    (lies_second c.code first code_x (instr l k (s.Control (Jump last)) ∷ (code_y ++ instr l k s.Control Done ∷ code_rest)) lies_from_x) in
-    let lies_from_y : Lies c.code second (code_y ++ instr l k s.Control Done ∷ code_rest) = subst (λ i. Lies c.code i (code_y ++ instr l k s.Control Done ∷ code_rest)) (omega arith) lies_jump.1 in
-    let lies_y : Lies c.code second code_y = lies_first c.code second code_y (instr l k s.Control Done ∷ code_rest) lies_from_y in
-    let lies_done : Lies c.code last (instr l k s.Control Done ∷ code_rest) =
-    subst (λ i. Lies c.code i (instr l k s.Control Done ∷ code_rest)) (ap (λ i. second + i) (code_length p xs y second (suc k + place_count x)))
-    (lies_second c.code second code_y (instr l k s.Control Done ∷ code_rest) lies_from_y) in
+    let lies_head : Lies c.code at (instrs l k head) = lies_first c.code at (instrs l k head) (code_x ++ instr l k (s.Control (Jump last)) ∷ (code_y ++ instr l k (s.Control Done) ∷ code_rest)) lies in
+    let lies_from_x : Lies c.code first (code_x ++ instr l k (s.Control (Jump last)) ∷ (code_y ++ instr l k (s.Control Done) ∷ code_rest)) =
+    subst (λ i. Lies c.code i (code_x ++ instr l k (s.Control (Jump last)) ∷ (code_y ++ instr l k (s.Control Done) ∷ code_rest))) (ap (λ i. at + i) (condition_length l k before (s.Control Begin) jump))
+    (lies_second c.code at (instrs l k head) (code_x ++ instr l k (s.Control (Jump last)) ∷ (code_y ++ instr l k (s.Control Done) ∷ code_rest)) lies) in
+    let lies_x : Lies c.code first code_x = lies_first c.code first code_x (instr l k (s.Control (Jump last)) ∷ (code_y ++ instr l k (s.Control Done) ∷ code_rest)) lies_from_x in
+    let lies_jump : Lies c.code (first + size p xs x) (instr l k (s.Control (Jump last)) ∷ (code_y ++ instr l k (s.Control Done) ∷ code_rest)) =
+    subst (λ i. Lies c.code i (instr l k (s.Control (Jump last)) ∷ (code_y ++ instr l k (s.Control Done) ∷ code_rest))) (ap (λ i. first + i) (code_length p xs x first (suc k)))
+    (lies_second c.code first code_x (instr l k (s.Control (Jump last)) ∷ (code_y ++ instr l k (s.Control Done) ∷ code_rest)) lies_from_x) in
+    let lies_from_y : Lies c.code second (code_y ++ instr l k (s.Control Done) ∷ code_rest) = subst (λ i. Lies c.code i (code_y ++ instr l k (s.Control Done) ∷ code_rest)) (omega arith) lies_jump.1 in
+    let lies_y : Lies c.code second code_y = lies_first c.code second code_y (instr l k (s.Control Done) ∷ code_rest) lies_from_y in
+    let lies_done : Lies c.code last (instr l k (s.Control Done) ∷ code_rest) =
+    subst (λ i. Lies c.code i (instr l k (s.Control Done) ∷ code_rest)) (ap (λ i. second + i) (code_length p xs y second (suc k + place_count x)))
+    (lies_second c.code second code_y (instr l k (s.Control Done) ∷ code_rest) lies_from_y) in
     let sites_x : Lies c.sites (suc k) (body_sites p xs first x) = lies_first c.sites (suc k) (body_sites p xs first x) (body_sites p xs second y ++ body_sites p xs (suc last) rest) sites.1 in
     let sites_from_y : Lies c.sites (suc k + place_count x) (body_sites p xs second y ++ body_sites p xs (suc last) rest) =
     subst (λ i. Lies c.sites i (body_sites p xs second y ++ body_sites p xs (suc last) rest)) (ap (λ i. suc k + i) (sites_length p xs x first))
@@ -224,15 +224,15 @@ body_meets b c t m runner most n le calls xs z (while_ l e x rest) k at ret more
     let begin : List Step = s.Control Begin ∷ (before ++ jump ∷ []) in
     let code_x : List Instr = body_code p xs first (suc (suc k)) x in
     let code_rest : List Instr = body_code p xs (suc last) (suc (suc k) + place_count x) rest in
-    let lies_begin : Lies c.code at (instrs l k begin) = lies_first c.code at (instrs l k begin) (code_x ++ instr l (suc k) (s.Control (Edge head)) ∷ instr l k s.Control Done ∷ code_rest) lies in
-    let lies_from_x : Lies c.code first (code_x ++ instr l (suc k) (s.Control (Edge head)) ∷ instr l k s.Control Done ∷ code_rest) =
-    subst (λ i. Lies c.code i (code_x ++ instr l (suc k) (s.Control (Edge head)) ∷ instr l k s.Control Done ∷ code_rest)) (ap (λ i. at + i) (condition_length l k before (s.Control Begin) jump) ∙ first_again at (length before))
-    (lies_second c.code at (instrs l k begin) (code_x ++ instr l (suc k) (s.Control (Edge head)) ∷ instr l k s.Control Done ∷ code_rest) lies) in
-    let lies_x : Lies c.code first code_x = lies_first c.code first code_x (instr l (suc k) (s.Control (Edge head)) ∷ instr l k s.Control Done ∷ code_rest) lies_from_x in
-    let lies_edge : Lies c.code (first + size p xs x) (instr l (suc k) (s.Control (Edge head)) ∷ instr l k s.Control Done ∷ code_rest) =
-    subst (λ i. Lies c.code i (instr l (suc k) (s.Control (Edge head)) ∷ instr l k s.Control Done ∷ code_rest)) (ap (λ i. first + i) (code_length p xs x first (suc (suc k))))
-    (lies_second c.code first code_x (instr l (suc k) (s.Control (Edge head)) ∷ instr l k s.Control Done ∷ code_rest) lies_from_x) in
-    let lies_done : Lies c.code last (instr l k s.Control Done ∷ code_rest) = subst (λ i. Lies c.code i (instr l k s.Control Done ∷ code_rest)) (omega arith) lies_edge.1 in
+    let lies_begin : Lies c.code at (instrs l k begin) = lies_first c.code at (instrs l k begin) (code_x ++ instr l (suc k) (s.Control (Edge head)) ∷ instr l k (s.Control Done) ∷ code_rest) lies in
+    let lies_from_x : Lies c.code first (code_x ++ instr l (suc k) (s.Control (Edge head)) ∷ instr l k (s.Control Done) ∷ code_rest) =
+    subst (λ i. Lies c.code i (code_x ++ instr l (suc k) (s.Control (Edge head)) ∷ instr l k (s.Control Done) ∷ code_rest)) (ap (λ i. at + i) (condition_length l k before (s.Control Begin) jump) ∙ first_again at (length before))
+    (lies_second c.code at (instrs l k begin) (code_x ++ instr l (suc k) (s.Control (Edge head)) ∷ instr l k (s.Control Done) ∷ code_rest) lies) in
+    let lies_x : Lies c.code first code_x = lies_first c.code first code_x (instr l (suc k) (s.Control (Edge head)) ∷ instr l k (s.Control Done) ∷ code_rest) lies_from_x in
+    let lies_edge : Lies c.code (first + size p xs x) (instr l (suc k) (s.Control (Edge head)) ∷ instr l k (s.Control Done) ∷ code_rest) =
+    subst (λ i. Lies c.code i (instr l (suc k) (s.Control (Edge head)) ∷ instr l k (s.Control Done) ∷ code_rest)) (ap (λ i. first + i) (code_length p xs x first (suc (suc k))))
+    (lies_second c.code first code_x (instr l (suc k) (s.Control (Edge head)) ∷ instr l k (s.Control Done) ∷ code_rest) lies_from_x) in
+    let lies_done : Lies c.code last (instr l k (s.Control Done) ∷ code_rest) = subst (λ i. Lies c.code i (instr l k (s.Control Done) ∷ code_rest)) (omega arith) lies_edge.1 in
     let place : ℕ = at + (2 + length before) in
     let sites_x : Lies c.sites (suc (suc k)) (body_sites p xs first x) =
     subst (λ i. Lies c.sites (suc (suc k)) (body_sites p xs i x)) (first_again at (length before))

@@ -21,7 +21,7 @@ placed_from c [] at place l ls code sites f = refl
 placed_from c (g ∷ gs) at place l ls code sites zero =
     let p : Source = c.program in
     let xs : List (List ℕ) = locals_of g in
-    let rest : List Instr = instr g.line (suc place + place_count g.body) s.Control Out ∷ functions_code p (suc (at + size p xs g.body)) (suc (suc (place + place_count g.body))) gs in
+    let rest : List Instr = instr g.line (suc place + place_count g.body) (s.Control Out) ∷ functions_code p (suc (at + size p xs g.body)) (suc (suc (place + place_count g.body))) gs in
     let last : Lies c.code (at + length (body_code p xs at (suc place) g.body)) rest = lies_second c.code at (body_code p xs at (suc place) g.body) rest code in (
       record { start = at; place = place; params = length g.params },
       refl,
@@ -41,8 +41,8 @@ placed_from c (g ∷ gs) at place l ls code sites (suc f) =
     let later : ℕ = suc (suc (place + place_count g.body)) in
     let more : List Instr = functions_code p next later gs in
     let others : List Site = functions_sites p next gs in
-    let code_last : Lies c.code (at + length (body_code p xs at (suc place) g.body)) (instr g.line (suc place + place_count g.body) s.Control Out ∷ more) =
-    lies_second c.code at (body_code p xs at (suc place) g.body) (instr g.line (suc place + place_count g.body) s.Control Out ∷ more) code in
+    let code_last : Lies c.code (at + length (body_code p xs at (suc place) g.body)) (instr g.line (suc place + place_count g.body) (s.Control Out) ∷ more) =
+    lies_second c.code at (body_code p xs at (suc place) g.body) (instr g.line (suc place + place_count g.body) (s.Control Out) ∷ more) code in
     let sites_last : Lies c.sites (suc place + length (body_sites p xs at g.body)) (site g.line 0 ∷ others) =
     lies_second c.sites (suc place) (body_sites p xs at g.body) (site g.line 0 ∷ others) sites.1 in
     let code_length_is : length (body_code p xs at (suc place) g.body) ≡ size p xs g.body = code_length p xs g.body at (suc place) in

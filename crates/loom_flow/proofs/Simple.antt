@@ -16,6 +16,7 @@ use Rattle.loom_flow.specs.Flat.{Flat, resume}
 use Rattle.loom_flow.specs.State.{State, put_at, given, jumped, named, names}
 use Rattle.loom_flow.specs.FlatCode.{or_zero, first_cell, word_named, operand_of, steps_to, operand_steps, argument_steps, store_step, value_steps, instr, instrs}
 use Rattle.loom_flow.proofs.Relations.{Meets, meets_itself, meets_same, meets_on, meets_emit}
+use Rattle.loom_flow.proofs.Steps.{performed, called, call_gives}
 use Rattle.loom_flow.proofs.Lying.{Lies}
 use Rattle.loom_flow.proofs.Locals.{local_value, value_named, put_by, updated_named, put_length}
 use Rattle.loom_flow.proofs.Straight.{straight, straight_append, skip, skip_append, AllStraight, Fetches, meets_straight, meets_instr, lies_front, lies_rest}
@@ -62,7 +63,8 @@ meets_call b c t m n l k at xs z calls f es rest more fetches meets names_are h 
     (meets_instr b c t (m n) (jumped (topped vs z) a) (instr l k x) (fetches n) behind.0)
     (meets_on b (performed c t (m n) (jumped (topped vs z) a) (instr l k x) x) (called c t (m n) (jumped z a) (instr l k x) function.0 vs) _
     (meets_same b _ _ (
-    ap {B = Lists} (λ ws. called c t (m n) (record (jumped z a) { values = ws }) (instr l k x) g (reverse (take (length es) (reverse vs ++ z.values)))) (left_arguments (length es) vs z.values e)
+    call_gives c t (m n) (jumped (topped vs z) a) (instr l k x) g (length es)
+    ∙ ap {B = Lists} (λ ws. called c t (m n) (record (jumped z a) { values = ws }) (instr l k x) g (reverse (take (length es) (reverse vs ++ z.values)))) (left_arguments (length es) vs z.values e)
     ∙ ap {B = Lists} (λ us. called c t (m n) (jumped z a) (instr l k x) g us) (taken_arguments (length es) vs z.values e)
     ∙ ap {B = Lists} (λ (g' : ℕ). called c t (m n) (jumped z a) (instr l k x) g' vs) found))
     (meets_on b (called c t (m n) (jumped z a) (instr l k x) function.0 vs) (calls l function.0 vs more) _
@@ -133,7 +135,7 @@ value_is : (b : Bool) (c : Flat) (t : Thread) (m : State → Lists) (l k at : �
     (expression t l (named xs z.locals) e (λ v. stored t l (named xs z.locals) (local_value z.locals a) x v (λ env. emit (done l) (more env))))
 value_is b c t m l k at x xs z e more None f h known g ends =
     let before : List Step = operand_steps t.program xs e in
-    let x' : Operand → Step = s.Ask (Write (word_named t.program x) in)
+    let x' : Operand → Step = λ a. s.Ask (Write (word_named t.program x) a) in
     let last : List Step = x' (operand_of xs e) ∷ [] in
     let env : Locals = named xs z.locals in
     let same : (before ++ last) ++ s.Control Done ∷ [] ≡ before ++ (last ++ s.Control Done ∷ []) = append_assoc before last (s.Control Done ∷ []) in

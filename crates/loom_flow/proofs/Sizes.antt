@@ -119,12 +119,12 @@ arguments_step p names l place e es rest code more h g =
 
 -- statements from their beginning to their end
 
-pub statement_is : (l place : ℕ) (ys : List Step) (z : Step) (old a b new : List Instr) → a ≡ old ++ instr l place s.Control Begin ∷ [] → b ≡ a ++ instrs l place ys → new ≡ b ++ instr l place z ∷ [] → new ≡ old ++ instr l place s.Control Begin ∷ instrs l place (ys ++ z ∷ [])
+pub statement_is : (l place : ℕ) (ys : List Step) (z : Step) (old a b new : List Instr) → a ≡ old ++ instr l place (s.Control Begin) ∷ [] → b ≡ a ++ instrs l place ys → new ≡ b ++ instr l place z ∷ [] → new ≡ old ++ instr l place (s.Control Begin) ∷ instrs l place (ys ++ z ∷ [])
 statement_is l place ys z old a b new h g k =
     k ∙ ap (λ w. w ++ instr l place z ∷ []) (g ∙ ap (λ w. w ++ instrs l place ys) h)
-    ∙ append_assoc (old ++ instr l place s.Control Begin ∷ []) (instrs l place ys) (instr l place z ∷ [])
-    ∙ append_assoc old (instr l place s.Control Begin ∷ []) (instrs l place ys ++ instr l place z ∷ [])
-    ∙ ap (λ w. old ++ instr l place s.Control Begin ∷ w) (sym (instrs_append l place ys (z ∷ [])))
+    ∙ append_assoc (old ++ instr l place (s.Control Begin) ∷ []) (instrs l place ys) (instr l place z ∷ [])
+    ∙ append_assoc old (instr l place (s.Control Begin) ∷ []) (instrs l place ys ++ instr l place z ∷ [])
+    ∙ ap (λ w. old ++ instr l place (s.Control Begin) ∷ w) (sym (instrs_append l place ys (z ∷ [])))
 
 -- the number behind these steps, which stand behind the first instruction of a statement
 pub number_behind : (l place : ℕ) (xs : List Step) (old new : List Instr) (n at : ℕ) → n ≡ length new → new ≡ old ++ instrs l place xs → length old ≡ at + 1 → n ≡ at + (1 + length xs)
@@ -134,12 +134,12 @@ number_behind l place xs old new n at h g k =
     let steps = instrs_length l place xs in
     omega arith
 
-pub statement_ends : (l place : ℕ) (ys : List Step) (y z : Step) (old a b d new : List Instr) → a ≡ old ++ instr l place s.Control Begin ∷ [] → b ≡ a ++ instrs l place ys → d ≡ b ++ instr l place y ∷ [] → new ≡ d ++ instr l place z ∷ [] → new ≡ old ++ instr l place s.Control Begin ∷ instrs l place (ys ++ y ∷ z ∷ [])
+pub statement_ends : (l place : ℕ) (ys : List Step) (y z : Step) (old a b d new : List Instr) → a ≡ old ++ instr l place (s.Control Begin) ∷ [] → b ≡ a ++ instrs l place ys → d ≡ b ++ instr l place y ∷ [] → new ≡ d ++ instr l place z ∷ [] → new ≡ old ++ instr l place (s.Control Begin) ∷ instrs l place (ys ++ y ∷ z ∷ [])
 statement_ends l place ys y z old a b d new h g k m =
     let is : new ≡ old ++ instrs l place (s.Control Begin ∷ ((ys ++ y ∷ []) ++ z ∷ [])) = statement_is l place (ys ++ y ∷ []) z old a d new h (step_is l place ys y a b d g k) m in
     is ∙ ap (λ w. old ++ instrs l place (s.Control Begin ∷ w)) (append_assoc ys (y ∷ []) (z ∷ []))
 
-pub cell_is : (l place : ℕ) (xs ys : List Step) (y z : Step) (old a b d e new : List Instr) → a ≡ old ++ instr l place s.Control Begin ∷ [] → b ≡ a ++ instrs l place xs → d ≡ b ++ instrs l place ys → e ≡ d ++ instr l place y ∷ [] → new ≡ e ++ instr l place z ∷ [] → new ≡ old ++ instr l place s.Control Begin ∷ instrs l place (xs ++ (ys ++ y ∷ z ∷ []))
+pub cell_is : (l place : ℕ) (xs ys : List Step) (y z : Step) (old a b d e new : List Instr) → a ≡ old ++ instr l place (s.Control Begin) ∷ [] → b ≡ a ++ instrs l place xs → d ≡ b ++ instrs l place ys → e ≡ d ++ instr l place y ∷ [] → new ≡ e ++ instr l place z ∷ [] → new ≡ old ++ instr l place (s.Control Begin) ∷ instrs l place (xs ++ (ys ++ y ∷ z ∷ []))
 cell_is l place xs ys y z old a b d e new h f g k m =
     let both : d ≡ a ++ instrs l place (xs ++ ys) = g ∙ ap (λ w. w ++ instrs l place ys) f ∙ append_assoc a (instrs l place xs) (instrs l place ys) ∙ ap (λ w. a ++ w) (sym (instrs_append l place xs ys)) in
     statement_ends l place (xs ++ ys) y z old a d e new h both k m ∙ ap (λ w. old ++ instrs l place (s.Control Begin ∷ w)) (append_assoc xs ys (y ∷ z ∷ []))

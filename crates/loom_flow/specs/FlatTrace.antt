@@ -1,6 +1,6 @@
 -- The traces of flat code: it is free in what a read gives and in the traps that the store may give.
 use Rattle.std.specs.Prelude.{slice_get, ℕ, zero, suc, List, [], ℤ, pos, Option, Some, None}
-use Rattle.loom_tree.specs.Tree.{Function, Source}
+use Rattle.loom_tree.specs.Tree.{Function}
 use Rattle.loom_lang.specs.Trace as trace
 use Rattle.loom_lang.specs.Trace.{Thread, Lists, Outcome, Item, made, broken, emit, any, either, trapped, reading, joined, ended, threads, not_held, overflow}
 use Rattle.loom_flow.specs.declared.code.Entrance.{Entrance}

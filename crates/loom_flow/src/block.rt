@@ -71,7 +71,12 @@ fn choice(
     let skip = code.len();
     push(code, spot, Step::Control(Control::Jump(0)))?;
     let second = next(code)?;
-    patch(code, test.at, spot, Step::Control(Control::JumpIfZero(test.operand, second)));
+    patch(
+        code,
+        test.at,
+        spot,
+        Step::Control(Control::JumpIfZero(test.operand, second)),
+    );
     body(code, sites, scope, b)?;
     let done = next(code)?;
     patch(code, skip, spot, Step::Control(Control::Jump(done)));
@@ -103,7 +108,12 @@ fn repeat(
     body(code, sites, scope, a)?;
     push(code, back, Step::Control(Control::Edge(head)))?;
     let done = next(code)?;
-    patch(code, test.at, spot, Step::Control(Control::JumpIfZero(test.operand, done)));
+    patch(
+        code,
+        test.at,
+        spot,
+        Step::Control(Control::JumpIfZero(test.operand, done)),
+    );
     push(code, spot, Step::Control(Control::Done))?;
     Ok(())
 }

@@ -79,14 +79,26 @@ pub fn expression(
     ensures { OnOk result (code.new.items ≡ code.old.items ++ instrs spot.line spot.place (steps_to scope.now.program scope.now.locals target (expression_of e.now))) }
 {
     match e {
-        Expr::Num(n) => push(code, spot, Step::Compute(Compute::Move(Operand::Number(*n), target))),
+        Expr::Num(n) => push(
+            code,
+            spot,
+            Step::Compute(Compute::Move(Operand::Number(*n), target)),
+        ),
         Expr::Var(x) => match scope.local(x) {
-            Some(local) => push(code, spot, Step::Compute(Compute::Move(Operand::Local(local), target))),
+            Some(local) => push(
+                code,
+                spot,
+                Step::Compute(Compute::Move(Operand::Local(local), target)),
+            ),
             None => push(code, spot, Step::Ask(Ask::Read(scope.word(x), target))),
         },
         Expr::Cell(x, i) => {
             let index = operand(code, scope, spot, i)?;
-            push(code, spot, Step::Ask(Ask::ReadCell(scope.array(x), index, target)))
+            push(
+                code,
+                spot,
+                Step::Ask(Ask::ReadCell(scope.array(x), index, target)),
+            )
         }
         Expr::Neg(a) => {
             let a = operand(code, scope, spot, a)?;
@@ -99,7 +111,11 @@ pub fn expression(
         Expr::Bin(op, a, b) => {
             let left = operand(code, scope, spot, a)?;
             let right = operand(code, scope, spot, b)?;
-            push(code, spot, Step::Compute(Compute::Apply(*op, left, right, target)))
+            push(
+                code,
+                spot,
+                Step::Compute(Compute::Apply(*op, left, right, target)),
+            )
         }
     }
 }

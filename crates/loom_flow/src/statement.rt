@@ -70,7 +70,11 @@ fn call(
 {
     arguments(code, scope, spot, es)?;
     let count = count(scope, f, es);
-    push(code, spot, Step::Control(Control::Call(scope.function(f), count)))?;
+    push(
+        code,
+        spot,
+        Step::Control(Control::Call(scope.function(f), count)),
+    )?;
     let resume = next(code)?;
     Ok(resume)
 }
@@ -100,8 +104,16 @@ fn store(code: &mut Vec<Instr>, scope: &Scope, spot: Spot, x: &Name) -> Result<(
     ensures { OnOk result (code.new.items ≡ code.old.items ++ instr spot.line spot.place (store_step scope.now.program x.now (position x.now scope.now.locals)) ∷ []) }
 {
     match scope.local(x) {
-        Some(local) => push(code, spot, Step::Compute(Compute::Move(Operand::Top, Target::Local(local)))),
-        None => push(code, spot, Step::Ask(Ask::Write(scope.word(x), Operand::Top))),
+        Some(local) => push(
+            code,
+            spot,
+            Step::Compute(Compute::Move(Operand::Top, Target::Local(local))),
+        ),
+        None => push(
+            code,
+            spot,
+            Step::Ask(Ask::Write(scope.word(x), Operand::Top)),
+        ),
     }
 }
 
@@ -195,7 +207,11 @@ pub fn set_cell(
     push(code, spot, Step::Control(Control::Begin))?;
     let index = operand(code, scope, spot, i)?;
     let value = operand(code, scope, spot, e)?;
-    push(code, spot, Step::Ask(Ask::WriteCell(scope.array(x), index, value)))?;
+    push(
+        code,
+        spot,
+        Step::Ask(Ask::WriteCell(scope.array(x), index, value)),
+    )?;
     push(code, spot, Step::Control(Control::Done))?;
     Ok(())
 }
@@ -238,7 +254,11 @@ pub fn give_back(
     push(code, spot, Step::Control(Control::Begin))?;
     match e {
         None => {
-            push(code, spot, Step::Control(Control::Return(Operand::Number(0))))?;
+            push(
+                code,
+                spot,
+                Step::Control(Control::Return(Operand::Number(0))),
+            )?;
             Ok(())
         }
         Some(e) => {

@@ -78,7 +78,12 @@ fn shares_its_program(rt: HostRuntime) -> Result<(), Fail> {
 fn makes_code(rt: HostRuntime) -> Result<(), Fail> {
     let flow = flow_of(rt.alloc(), STEPS)?;
     assert_eq!(rt; flow.code().len(), 31);
-    let apply = Step::Compute(Compute::Apply(Op::Add, Operand::Top, Operand::Number(1), Target::Push));
+    let apply = Step::Compute(Compute::Apply(
+        Op::Add,
+        Operand::Top,
+        Operand::Number(1),
+        Target::Push,
+    ));
     let jump = Step::Control(Control::JumpIfZero(Operand::Top, 25));
     let steps = [
         (2, 3, 2, apply),

@@ -66,7 +66,7 @@ repeat-returns-clause-code t c =
     let back : c.spot_of-back.result ≡ record { line = c.args.spot.line; place = suc c.args.spot.place } = c.spot_of-back.ensures ∙ ap (λ n. record { line = c.args.spot.line; place = n }) behind in
     while_code c.args.scope.now.program c.args.scope.now.locals c.args.spot.line c.args.spot.place (expression_of c.args.e.now) (body_of c.args.a.now) _ _ _ _ _ _ _ _ _ _ _ _
     c.in_ok-push.ensures (c.in_ok-head.ensures ∙ ap length c.deref-2.ensures.value) c.in_ok-test.ensures.code c.in_ok-test.ensures.at c.in_ok-test.ensures.operand c.in_ok-body.ensures.code
-    (c.in_ok-push-2.ensures ∙ ap (λ (z : Spot). c.body.new.code.items ++ instr z.line z.place (s.Control (Edge c.in_ok)-head.head) ∷ []) back) (c.in_ok-done.ensures ∙ ap length c.deref-3.ensures.value) c.patch.ensures c.in_ok-push-3.ensures (omega arith)
+    (c.in_ok-push-2.ensures ∙ ap (λ (z : Spot). c.body.new.code.items ++ instr z.line z.place (s.Control (Edge c.in_ok-head.head)) ∷ []) back) (c.in_ok-done.ensures ∙ ap length c.deref-3.ensures.value) c.patch.ensures c.in_ok-push-3.ensures (omega arith)
 
 pub repeat-returns-clause-sites : goal.repeat-returns-clause-sites
 repeat-returns-clause-sites t c =

@@ -14,12 +14,12 @@ use Rattle.loom_flow.specs.Flat.{Flat}
 use Rattle.loom_flow.specs.FlatCode.{operand_of, operand_steps, simple_steps, instr, instrs, size, place_count, body_code, functions_code, entrances, lowered}
 use Rattle.loom_flow.specs.Depth.{taken, takes_off, puts_on, depth_after, depth_before, nodes, IsSmallBody, AreSmallFunctions, IsSmall}
 use Rattle.loom_flow.specs.Laws.{KeepsDepth, HasOperands}
-use Rattle.loom_flow.proofs.Lying.{Lies, lies_first, lies_second, lies_whole}
+use Rattle.loom_flow.proofs.Sublist.{Lies, lies_first, lies_second, lies_whole}
 use Rattle.loom_flow.proofs.Each.{AllOf, all_append, Each, each_append, each_at, same_element}
 use Rattle.loom_flow.proofs.Plain.{is_plain, CallsRight, CallsSimple, operand_all, simple_all}
 use Rattle.loom_flow.proofs.Sizes.{instrs_length, code_length}
-use Rattle.loom_flow.proofs.Meeting.{condition_length}
-use Rattle.loom_flow.proofs.Balanced.{Fits, fits_takes, Balanced, condition_balanced, simple_balanced}
+use Rattle.loom_flow.proofs.BodyTraces.{condition_length}
+use Rattle.loom_flow.proofs.Balance.{Fits, fits_takes, Balanced, condition_balanced, simple_balanced}
 use Rattle.loom_flow.proofs.Truths.{both}
 
 -- From an instruction to the next

@@ -18,7 +18,7 @@ use Rattle.loom_flow.specs.State.{State, jumped, named, names}
 use Rattle.loom_flow.specs.FlatCode.{or_zero, array_named, operand_of, steps_to, operand_steps, argument_steps, call_steps, store_step, value_steps, set_steps, simple_steps, resume_of, instr, instrs}
 use Rattle.loom_flow.proofs.Relations.{Meets, meets_itself, meets_same, meets_on, meets_emit, meets_either}
 use Rattle.loom_flow.proofs.Steps.{returned, performed, meets_joined}
-use Rattle.loom_flow.proofs.Lying.{Lies}
+use Rattle.loom_flow.proofs.Sublist.{Lies}
 use Rattle.loom_flow.proofs.Straight.{straight, skip, skip_append, skip_length, AllStraight, all_straight_append, Fetches, meets_instr}
 use Rattle.loom_flow.proofs.Expressions.{IsNumbered, IsArray, IsKnown, left, settled}
 use Rattle.loom_flow.proofs.Arguments.{AllKnown}

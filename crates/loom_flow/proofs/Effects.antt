@@ -17,7 +17,7 @@ use Rattle.loom_flow.specs.State.{State, jumped, named, names}
 use Rattle.loom_flow.specs.FlatCode.{or_zero, array_of, array_named, operand_of, operand_steps, argument_steps, instr, instrs}
 use Rattle.loom_flow.proofs.Relations.{Meets, meets_itself, meets_same, meets_on, meets_emit, meets_any, meets_either}
 use Rattle.loom_flow.proofs.Steps.{returned, performed, write_cell_gives}
-use Rattle.loom_flow.proofs.Lying.{Lies}
+use Rattle.loom_flow.proofs.Sublist.{Lies}
 use Rattle.loom_flow.proofs.Straight.{straight, straight_append, skip, skip_append, Fetches, meets_instr, lies_front, lies_rest}
 use Rattle.loom_flow.proofs.Expressions.{IsArray, IsKnown, left, settled, settled_is, operand_are, steps_are}
 use Rattle.loom_flow.proofs.Trees.{meets_expression, meets_arguments, meets_indexed}

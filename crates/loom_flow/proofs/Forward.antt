@@ -15,16 +15,16 @@ use Rattle.loom_flow.specs.declared.code.Entrance.{Entrance}
 use Rattle.loom_flow.specs.Flat.{Flat, resume}
 use Rattle.loom_flow.specs.FlatCode.{or_zero, operand_of, operand_steps, argument_steps, call_steps, store_step, set_steps, simple_steps, resume_of, instr, instrs, size, place_count, body_code, body_sites, entrances, lowered}
 use Rattle.loom_flow.specs.Laws.{IsInFunction, HasStart, LeadsInto, JumpsForward, KeepsFunctions}
-use Rattle.loom_flow.proofs.Lying.{Lies, lies_first, lies_second}
+use Rattle.loom_flow.proofs.Sublist.{Lies, lies_first, lies_second}
 use Rattle.loom_flow.proofs.Each.{all_append, Each, each_append, each_at, each_instrs, each_steps, same_element}
 use Rattle.loom_flow.proofs.Plain.{is_plain, CallsSimple, operand_all, arguments_all, simple_all}
 use Rattle.loom_flow.proofs.Sizes.{instrs_length, code_length, sites_length}
-use Rattle.loom_flow.proofs.Meeting.{condition_length}
+use Rattle.loom_flow.proofs.BodyTraces.{condition_length}
 use Rattle.loom_flow.proofs.Simple.{IsFunction}
 use Rattle.loom_flow.proofs.EachSimple.{IsKnownSimple}
-use Rattle.loom_flow.proofs.Meeting.{IsKnownBody}
+use Rattle.loom_flow.proofs.BodyTraces.{IsKnownBody}
 use Rattle.loom_flow.proofs.Roles.{body_known}
-use Rattle.loom_flow.proofs.Standing.{function_code, function_length, Stands, stands, covered}
+use Rattle.loom_flow.proofs.FunctionBounds.{function_code, function_length, Stands, stands, covered}
 
 -- All numbers from one to another are in `Q`.
 abbrev Inside : (ℕ → Type 0) → ℕ → ℕ → Type 0

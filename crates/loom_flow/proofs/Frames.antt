@@ -1,5 +1,5 @@
 -- Frames, calls and threads
-use Rattle.std.proofs.Common.{ℕ, suc, zero, ◌+◌, ◌≡◌, ◌≤◌, List, [], ◌∷◌, ◌++◌, Bool, ℤ, pos, Option, Some, None, refl, sym, ap, subst, ◌∙◌, slice_get, length, length-append, map, inl, inr, nat_lt, arith}
+use Rattle.std.proofs.Common.{ℕ, suc, zero, ◌+◌, ◌-◌, ◌≡◌, ◌≤◌, List, [], ◌∷◌, ◌++◌, Bool, ℤ, pos, Option, Some, None, refl, sym, ap, subst, ◌∙◌, slice_get, length, length-append, map, inl, inr, nat_lt, arith}
 use Rattle.std.proofs.lemmas.Bool.{lt-ltb}
 use Rattle.loom_tree.specs.Tree.{Function, Source}
 use Rattle.loom_lang.specs.Rules.{lets, locals_of}
@@ -9,16 +9,16 @@ use Rattle.loom_flow.specs.declared.code.Step.TheVariants as s
 use Rattle.loom_flow.specs.declared.code.Control.TheVariants.{Out}
 use Rattle.loom_flow.specs.declared.code.Entrance.{Entrance}
 use Rattle.loom_flow.specs.Flat.{Flat}
-use Rattle.loom_flow.specs.State.{Frame, State, filled, frame_locals, named, names, locals_now, at_start}
+use Rattle.loom_flow.specs.State.{frame_room, Frame, State, filled, frame_locals, named, names, locals_now, at_start}
 use Rattle.loom_flow.specs.Progress.{enters}
 use Rattle.loom_flow.specs.FlatTrace.{followed}
 use Rattle.loom_flow.specs.FlatCode.{instr, size, place_count, body_code, body_sites}
 use Rattle.loom_flow.proofs.Relations.{Within, Meets, meets_itself, meets_same, meets_on, meets_emit}
 use Rattle.loom_flow.proofs.Steps.{by_states, returned, entered}
-use Rattle.loom_flow.proofs.Lying.{Lies}
+use Rattle.loom_flow.proofs.Sublist.{Lies}
 use Rattle.loom_flow.proofs.Straight.{meets_instr}
 use Rattle.loom_flow.proofs.Simple.{CallsMeet}
-use Rattle.loom_flow.proofs.Meeting.{Runner, IsKnownBody, body_meets}
+use Rattle.loom_flow.proofs.BodyTraces.{Runner, IsKnownBody, body_meets}
 
 -- Locals of a new frame
 
@@ -41,7 +41,7 @@ named_frame (suc n) (x ∷ xs) ys (v ∷ vs) h = ap (λ (env : Locals). (x, v) �
 -- A function of the tree stands in the code.
 pub record IsPlaced (c : Flat) (g : Function) (e : Entrance) : Type 0 where
   pub params : e.params ≡ length g.params
-  pub few : length (locals_of g) ≤ 32
+  pub few : length (locals_of g) ≤ frame_room
   pub code : Lies c.code e.start (body_code c.program (locals_of g) e.start (suc e.place) g.body)
   pub last : slice_get c.code (e.start + size c.program (locals_of g) g.body) ≡ Some (instr g.line (suc e.place + place_count g.body) (s.Control Out))
   pub sites : Lies c.sites (suc e.place) (body_sites c.program (locals_of g) e.start g.body)
@@ -56,12 +56,12 @@ ArePlaced c = (f : ℕ) → IsFunctionPlaced c (slice_get c.program.funcs f) (sl
 
 frame_named : (c : Flat) (g : Function) (e : Entrance) (vs : List ℤ) → IsPlaced c g e → named (locals_of g) (frame_locals e vs) ≡ trace.frame_locals g vs
 frame_named c g e vs h =
-    let few : length (locals_of g) ≤ 32 = h.few in
+    let few : length (locals_of g) ≤ frame_room = h.few in
     let is : length (locals_of g) ≡ length g.params + length (lets g.body) = length-append g.params (lets g.body) in
-    ap (λ n. named (locals_of g) (filled 32 (filled n vs))) h.params ∙ named_frame 32 g.params (lets g.body) vs (omega arith)
+    ap (λ n. named (locals_of g) (filled frame_room (filled n vs))) h.params ∙ named_frame frame_room g.params (lets g.body) vs (omega arith)
 
 frame_length : (c : Flat) (g : Function) (e : Entrance) (vs : List ℤ) → IsPlaced c g e → length (locals_of g) ≤ length (frame_locals e vs)
-frame_length c g e vs h = subst (λ n. length (locals_of g) ≤ n) (sym (filled_length 32 (filled e.params vs))) h.few
+frame_length c g e vs h = subst (λ n. length (locals_of g) ≤ n) (sym (filled_length frame_room (filled e.params vs))) h.few
 
 -- A frame from its entrance on
 
@@ -99,10 +99,10 @@ frame_meets b c t m runner same most n le calls f g e vs ws below more found pla
 
 -- Calls, with so many frames left
 
-calls_meet : (b : Bool) (c : Flat) (t : Thread) (m : ℕ → State → Lists) → Runner b c t m → t.program ≡ c.program → ArePlaced c → (most : ℕ) (d n : ℕ) → n ≤ most → (depth : ℕ) → suc depth + d ≡ 256
+calls_meet : (b : Bool) (c : Flat) (t : Thread) (m : ℕ → State → Lists) → Runner b c t m → t.program ≡ c.program → ArePlaced c → (most : ℕ) (d n : ℕ) → n ≤ most → (depth : ℕ) → suc depth + d ≡ frame_limit
     → CallsMeet b c t m n depth (calls_to t most d)
 calls_meet b c t m runner same placed most zero n le depth full z i f vs more deep resumes =
-    meets_same b _ _ (ap {B = Lists} (λ q. choice q (entered c t (m n) z i f vs (slice_get c.entrances f)) (trapped t i.line trace.frames)) (ap (λ q. nat_lt q frame_limit) (ap suc deep ∙ (let e : suc depth ≡ 256 = omega (arith, full) in e))))
+    meets_same b _ _ (ap {B = Lists} (λ q. choice q (entered c t (m n) z i f vs (slice_get c.entrances f)) (trapped t i.line trace.frames)) (ap (λ q. nat_lt q frame_limit) (ap suc deep ∙ (let e : suc depth ≡ frame_limit = omega (arith, full) in e))))
 calls_meet b c t m runner same placed most (suc d) n le depth full z i f vs more deep resumes =
     meets_on b _ (entered c t (m n) z i f vs (slice_get c.entrances f)) _
     (meets_same b _ _ (ap {B = Lists} (λ q. choice q (entered c t (m n) z i f vs (slice_get c.entrances f)) (trapped t i.line trace.frames)) (lt-ltb (suc (length z.below)) frame_limit (omega (arith, full, deep)))))
@@ -130,7 +130,7 @@ pub first_frame : (b : Bool) (c : Flat) (t : Thread) (m : ℕ → State → List
     → slice_get c.program.funcs f ≡ Some g → IsPlaced c g e
     → Meets b (starts c t (m n) f (at_start f e vs [] [])) (calls_to t most frame_limit line f vs (λ v. t.stopped))
 first_frame b c t m runner same placed most n le f line vs g e found here =
-    meets_on b _ (framed t (calls_to t most 255) most f vs (λ v. t.stopped) (Some g)) _
-    (frame_meets b c t m runner same most n le (calls_to t most 255) f g e vs [] [] (λ v. t.stopped) found here
-    (λ j under. calls_meet b c t m runner same placed most 255 j (omega (arith, under, le)) 0 refl) (λ j under v. meets_itself b t.stopped))
-    (meets_same b _ _ (ap {B = Lists} (framed t (calls_to t most 255) most f vs (λ v. t.stopped)) (sym found ∙ ap (λ (p : Source). slice_get p.funcs f) (sym same))))
+    meets_on b _ (framed t (calls_to t most (frame_limit - 1)) most f vs (λ v. t.stopped) (Some g)) _
+    (frame_meets b c t m runner same most n le (calls_to t most (frame_limit - 1)) f g e vs [] [] (λ v. t.stopped) found here
+    (λ j under. calls_meet b c t m runner same placed most (frame_limit - 1) j (omega (arith, under, le)) 0 refl) (λ j under v. meets_itself b t.stopped))
+    (meets_same b _ _ (ap {B = Lists} (framed t (calls_to t most (frame_limit - 1)) most f vs (λ v. t.stopped)) (sym found ∙ ap (λ (p : Source). slice_get p.funcs f) (sym same))))

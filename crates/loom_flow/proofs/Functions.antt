@@ -7,9 +7,9 @@ use Rattle.loom_flow.specs.declared.code.Site.{Site}
 use Rattle.loom_flow.specs.declared.code.Entrance.{Entrance}
 use Rattle.loom_flow.specs.declared.code.Step.TheVariants as s
 use Rattle.loom_flow.specs.declared.code.Control.TheVariants.{Out}
-use Rattle.loom_flow.specs.FlatCode.{instr, site, size, place_count, body_code, body_sites, functions_code, functions_sites, entrances, calls_body, set_of, lowered}
+use Rattle.loom_flow.specs.FlatCode.{instr, site, size, place_count, body_code, body_sites, functions_code, functions_sites, entrances, calls_body, set_of, lowered, place_limit}
 use Rattle.loom_flow.proofs.Sizes.{code_length, sites_length}
-use Rattle.loom_flow.proofs.Kept.{few_sites}
+use Rattle.loom_flow.proofs.FlowLaws.{few_sites}
 
 pub function_code : (p : Source) (names known : List (List ℕ)) (l at place first last : ℕ) (b : Body) (old ran new : List Instr) →
     names ≡ known →
@@ -105,7 +105,7 @@ calls_on p f all fs ns ns' e h =
     ∙ ap (λ (z : List Function). ns ++ map (λ (g : Function). set_of 0 (calls_body p g.body)) z) (sym e)
 
 -- there is room for the places of the next function
-pub room_for : (p : Source) (f : Function) (all fs : List Function) (at : ℕ) (sites : List Site) → KeepsRules p → all ≡ f ∷ fs → sites ++ functions_sites p at all ≡ (lowered p).sites → length sites + (2 + place_count f.body) ≤ 65536
+pub room_for : (p : Source) (f : Function) (all fs : List Function) (at : ℕ) (sites : List Site) → KeepsRules p → all ≡ f ∷ fs → sites ++ functions_sites p at all ≡ (lowered p).sites → length sites + (2 + place_count f.body) ≤ place_limit
 room_for p f all fs at sites l e h =
     let few : length (lowered p).sites ≤ 8321 = few_sites (lowered p) (record { lawful = l; is = refl }) in
     let whole : length (sites ++ functions_sites p at (f ∷ fs)) ≡ length (lowered p).sites = ap (λ (z : List Function). length (sites ++ functions_sites p at z)) (sym e) ∙ ap length h in

@@ -17,7 +17,7 @@ use Rattle.loom_flow.specs.State.{State, put_at, given, jumped, named, names}
 use Rattle.loom_flow.specs.FlatCode.{or_zero, first_cell, word_named, operand_of, steps_to, operand_steps, argument_steps, store_step, value_steps, instr, instrs}
 use Rattle.loom_flow.proofs.Relations.{Meets, meets_itself, meets_same, meets_on, meets_emit}
 use Rattle.loom_flow.proofs.Steps.{performed, called, call_gives}
-use Rattle.loom_flow.proofs.Lying.{Lies}
+use Rattle.loom_flow.proofs.Sublist.{Lies}
 use Rattle.loom_flow.proofs.Locals.{local_value, value_named, put_by, updated_named, put_length}
 use Rattle.loom_flow.proofs.Straight.{straight, straight_append, skip, skip_append, AllStraight, Fetches, meets_straight, meets_instr, lies_front, lies_rest}
 use Rattle.loom_flow.proofs.Expressions.{IsNumbered, IsKnown, left, settled, steps_are}

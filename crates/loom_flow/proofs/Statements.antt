@@ -16,7 +16,7 @@ use Rattle.loom_flow.specs.State.{State, jumped, named, names, locals_now}
 use Rattle.loom_flow.specs.FlatCode.{operand_of, unless_there, variable_step, steps_to, operand_steps, argument_steps, instrs}
 use Rattle.loom_flow.proofs.Relations.{Meets, meets_same, meets_on, meets_emit}
 use Rattle.loom_flow.proofs.Steps.{is_straight}
-use Rattle.loom_flow.proofs.Lying.{Lies}
+use Rattle.loom_flow.proofs.Sublist.{Lies}
 use Rattle.loom_flow.proofs.Straight.{straight, straight_append, skip, skip_append, AllStraight, all_straight_append, Fetches, meets_straight}
 use Rattle.loom_flow.proofs.Expressions.{IsKnown, left, settled, settled_is, operand_are, steps_are}
 use Rattle.loom_flow.proofs.Trees.{meets_expression}

@@ -8,7 +8,7 @@ use Rattle.loom_flow.specs.State.{State}
 use Rattle.loom_flow.specs.FlatCode.{instr, instrs}
 use Rattle.loom_flow.proofs.Relations.{Meets, meets_itself, meets_on, meets_same}
 use Rattle.loom_flow.proofs.Steps.{performed, fetched, is_straight, meets_performed}
-use Rattle.loom_flow.proofs.Lying.{Lies}
+use Rattle.loom_flow.proofs.Sublist.{Lies}
 
 -- what the steps give, where the last one's next state gives that
 abbrev pub straight : Flat → Thread → ℕ → ℕ → List Step → (State → Lists) → State → Lists

@@ -12,10 +12,10 @@ use Rattle.loom_flow.specs.FlatTrace as flat
 use Rattle.loom_flow.specs.FlatCode.{lowered}
 use Rattle.loom_flow.specs.Laws.{HasTraces}
 use Rattle.loom_flow.proofs.Relations.{Within, meets_emit, meets_same, meets_on, emit_open}
-use Rattle.loom_flow.proofs.Running.{runs_from, ever_from}
-use Rattle.loom_flow.proofs.Meeting.{runs_runner, ever_runner}
+use Rattle.loom_flow.proofs.Runs.{runs_from, ever_from}
+use Rattle.loom_flow.proofs.BodyTraces.{runs_runner, ever_runner}
 use Rattle.loom_flow.proofs.Frames.{IsFunctionPlaced, ArePlaced, first_frame, ever_behind}
-use Rattle.loom_flow.proofs.Placed.{are_placed}
+use Rattle.loom_flow.proofs.Placement.{are_placed}
 
 abbrev thread_of : Flat → Function → Thread
 thread_of c g = record { program = c.program; stopped = ended g.line }

@@ -20,7 +20,7 @@ pub fn operands_are_there()
 {}
 
 /// The numbers in instructions are those of the program: of words, arrays, mutexes, semaphores and functions.
-#[tactic(auto, using(crate::proofs::Numbered::lowered_numbers))]
+#[tactic(auto, using(crate::proofs::ProgramNumbers::lowered_numbers))]
 pub fn numbers_are_there()
     ensures { AllHaveProgramNumbers }
 {}

@@ -7,7 +7,7 @@ ghost use Rattle.loom_lang.specs.Rules.{takes};
 ghost use Rattle.loom_flow.specs.Arguments.{takes_right};
 ghost use Rattle.loom_flow.specs.declared.code.Step.TheVariants as s;
 ghost use Rattle.loom_flow.specs.declared.code.Control.TheVariants.{Begin, Done};
-ghost use Rattle.loom_flow.specs.FlatCode.{instr, instrs, call_steps, spawn_steps, store_step, value_steps, set_steps, simple_steps, resume_of, site};
+ghost use Rattle.loom_flow.specs.FlatCode.{instr, instrs, call_steps, spawn_steps, store_step, value_steps, set_steps, simple_steps, resume_of, site, place_limit};
 
 use crate::code::{Ask, Compute, Control, Instr, Operand, Site, Step, Target};
 use crate::expression::{Spot, arguments, expression, operand, push};
@@ -28,7 +28,7 @@ pub fn next(code: &[Instr]) -> Result<u32, NoMemory>
 
 /// Where the instructions of a statement stand whose place is the next.
 pub fn spot_of(sites: &[Site], line: u32) -> Spot
-    requires { length sites.now < 65536 }
+    requires { length sites.now < place_limit }
     ensures { result ≡ record { line = line; place = length sites.now } }
 {
     Spot {
@@ -46,7 +46,7 @@ pub fn put_site(sites: &mut Vec<Site>, line: u32, resume: u32) -> Result<(), NoM
 }
 
 /// How many arguments a call has.
-#[tactic(auto, using(crate::proofs::Known::few_arguments))]
+#[tactic(auto, using(crate::proofs::StatementRules::few_arguments))]
 fn count(scope: &Scope, f: &Name, es: &Exprs) -> u8
     requires { takes scope.now.program.funcs f.now (length (expressions_of es.now)) ≡ true }
     ensures { result ≡ length (expressions_of es.now) }
@@ -270,7 +270,7 @@ pub fn give_back(
 }
 
 /// A statement of one step between its beginning and its completion.
-pub fn alone(
+pub fn one_step(
     code: &mut Vec<Instr>,
     sites: &mut Vec<Site>,
     spot: Spot,

@@ -16,10 +16,10 @@ put-preserved c =
     let f : Function = function_of c.f-item.result in
     let next : functions_of (drop c.put.f-index c.args.funcs.now) ≡ f ∷ functions_of (drop (c.put.f-index + 1) c.args.funcs.now) = ap functions_of (drop_at _ _ c.f-item.result c.put-test.true c.f-item.is) in
     let is : c.put.scope.program ≡ c.args.scope.now.program = c.put.invariant.program in
-    let code = c.in_ok-put.ensures.code ∙ ap (λ (q : Source). c.put.made.code.items ++ functions_code q (length c.put.made.code.items) (length c.put.made.sites.items) (f ∷ [])) is in
-    let sites = c.in_ok-put.ensures.sites ∙ ap (λ (q : Source). c.put.made.sites.items ++ functions_sites q (length c.put.made.code.items) (f ∷ [])) is in
-    let entries = c.in_ok-put.ensures.entrances ∙ ap (λ (q : Source). c.put.made.entrances.items ++ entrances q (length c.put.made.code.items) (length c.put.made.sites.items) (f ∷ [])) is in
-    let calls = c.in_ok-put.ensures.calls ∙ ap (λ (q : Source). c.put.made.calls.items ++ set_of 0 (calls_body q f.body) ∷ []) is in
+    let code = c.in_ok-put.ensures.code ∙ ap (λ (q : Source). c.put.parts.code.items ++ functions_code q (length c.put.parts.code.items) (length c.put.parts.sites.items) (f ∷ [])) is in
+    let sites = c.in_ok-put.ensures.sites ∙ ap (λ (q : Source). c.put.parts.sites.items ++ functions_sites q (length c.put.parts.code.items) (f ∷ [])) is in
+    let entries = c.in_ok-put.ensures.entrances ∙ ap (λ (q : Source). c.put.parts.entrances.items ++ entrances q (length c.put.parts.code.items) (length c.put.parts.sites.items) (f ∷ [])) is in
+    let calls = c.in_ok-put.ensures.calls ∙ ap (λ (q : Source). c.put.parts.calls.items ++ set_of 0 (calls_body q f.body) ∷ []) is in
     record {
       program = c.in_ok-put.ensures.program ∙ is;
       lawful = (let P : List Function → Type 0 = λ fs. FunctionsKeepRules c.args.scope.now.program fs in subst P next c.put.invariant.lawful).1;

@@ -12,12 +12,13 @@ use Rattle.loom_flow.specs.declared.code.Step.TheVariants as s
 use Rattle.loom_flow.specs.declared.code.Control.TheVariants.{Begin, Done, Edge, Jump, JumpIfZero}
 use Rattle.loom_flow.specs.declared.code.Instr.{Instr}
 use Rattle.loom_flow.specs.Flat.{Flat, resume}
+use Rattle.loom_flow.specs.Position as position
 use Rattle.loom_flow.specs.State.{State, jumped, named, names, locals_now}
 use Rattle.loom_flow.specs.FlatCode.{operand_of, operand_steps, simple_steps, instr, instrs, size, place_count, body_code, body_sites}
 use Rattle.loom_flow.proofs.Relations.{Within, Meets, meets_same, meets_on, meets_emit, meets_choice, breaks, choice_open}
 use Rattle.loom_flow.proofs.Steps.{performed, fetched, jump_gives, meets_performed}
-use Rattle.loom_flow.proofs.Running.{runs_from, ever_from, runs_next, runs_fetched, ever_fetched, ever_open}
-use Rattle.loom_flow.proofs.Lying.{Lies, lies_first, lies_second}
+use Rattle.loom_flow.proofs.Runs.{runs_from, ever_from, runs_next, runs_fetched, ever_fetched, ever_open}
+use Rattle.loom_flow.proofs.Sublist.{Lies, lies_first, lies_second}
 use Rattle.loom_flow.proofs.Straight.{straight, skip, skip_length, AllStraight, Fetches, meets_instr}
 use Rattle.loom_flow.proofs.Expressions.{IsKnown, left, settled, settled_is, operand_are, steps_are}
 use Rattle.loom_flow.proofs.Trees.{Turn, meets_expression, expression_open, body_open, turns_open}
@@ -54,7 +55,7 @@ ever_loop : (c : Flat) (t : Thread) (n j : ℕ) (head : List ℤ → State) (tur
     → ((i : ℕ) → i ≤ n → (again : Locals → Lists) → ((h : ℕ) → h ≤ i → (vs : List ℤ) → length vs ≡ count → Within (again (named xs vs)) (ever_from c t (head vs)))
     → (vs : List ℤ) → length vs ≡ count → Within (turn (named xs vs) again leave) (fetched c t (ever_from c t) (head vs) (slice_get c.code (head vs).at)))
     → (vs : List ℤ) → length vs ≡ count → Within (turns j turn leave (named xs vs)) (ever_from c t (head vs))
-ever_loop c t n zero head turn leave xs count step vs h = breaks (ever_from c t (head vs)) (ever_open c t (head vs))
+ever_loop c t n zero head turn leave xs count step vs h = breaks (ever_from c t (head vs)) (ever_open c t (position.before (head vs)))
 ever_loop c t n (suc j) head turn leave xs count step vs h = λ es r g.
     ever_fetched c t (head vs) es r (step n (omega arith) (λ env. turns j turn leave env) (λ i below ws e. ever_loop c t n j head turn leave xs count step ws e) vs h es r g)
 

@@ -13,11 +13,11 @@ use Rattle.loom_flow.proofs.Steps.{leads_anywhere, meets_followed, followed_open
 
 -- More steps give more.
 
-runs_open : (c : Flat) (t : Thread) → t.stopped [] Open → (n : ℕ) (z : Position) → runs c t n z [] Open
+pub runs_open : (c : Flat) (t : Thread) → t.stopped [] Open → (n : ℕ) (z : Position) → runs c t n z [] Open
 runs_open c t stops zero z = (refl, refl)
 runs_open c t stops (suc n) z = followed_open t (runs c t n) (progress c z) stops (runs_open c t stops n)
 
-runs_more : (c : Flat) (t : Thread) → t.stopped [] Open → (n : ℕ) (z : Position) → Within (runs c t n z) (runs c t (suc n) z)
+pub runs_more : (c : Flat) (t : Thread) → t.stopped [] Open → (n : ℕ) (z : Position) → Within (runs c t n z) (runs c t (suc n) z)
 runs_more c t stops zero z = breaks (runs c t 1 z) (runs_open c t stops 1 z)
 runs_more c t stops (suc n) z =
     meets_followed true t (runs c t n) (runs c t (suc n)) (progress c z) (leads_anywhere (λ p. Within (runs c t n p) (runs c t (suc n) p)) (runs_more c t stops n) (progress c z))
@@ -75,8 +75,11 @@ followed_on t m (traps line c) = still (trapped t line c)
 followed_on t m ends = still t.stopped
 followed_on t m nothing = still broken
 
-ever_followed : (c : Flat) (t : Thread) (z : Position) → Within (followed t (ever c t) (progress c z)) (ever c t z)
+pub ever_followed : (c : Flat) (t : Thread) (z : Position) → Within (followed t (ever c t) (progress c z)) (ever c t z)
 ever_followed c t z es r h = let g : any (λ (n : ℕ). followed t (runs c t n) (progress c z)) es r = followed_on t (runs c t) (progress c z) es r h in (suc g.0, g.1)
+
+pub ever_open : (c : Flat) (t : Thread) (z : Position) → ever c t z [] Open
+ever_open c t z = (0, (refl, refl))
 
 -- Both from one state to the next
 
@@ -86,9 +89,6 @@ runs_from c t n z = runs c t n (before z)
 
 abbrev pub ever_from : Flat → Thread → State → Lists
 ever_from c t z = ever c t (before z)
-
-pub ever_open : (c : Flat) (t : Thread) (z : State) → ever_from c t z [] Open
-ever_open c t z = (0, (refl, refl))
 
 runs_over : (c : Flat) (t : Thread) → t.stopped [] Open → (n : ℕ) → Within (runs c t n over) t.stopped
 runs_over c t stops zero = breaks t.stopped stops

@@ -8,7 +8,7 @@ use Rattle.loom_flow.specs.declared.code.Instr.{Instr}
 use Rattle.loom_flow.specs.declared.code.Site.{Site}
 use Rattle.loom_flow.specs.Flat.{Flat}
 use Rattle.loom_flow.specs.FlatCode.{instr, size, place_count, body_code, body_sites, site, functions_code, functions_sites, entrances, lowered}
-use Rattle.loom_flow.proofs.Lying.{Lies, lies_first, lies_second, lies_behind, lies_whole}
+use Rattle.loom_flow.proofs.Sublist.{Lies, lies_first, lies_second, lies_behind, lies_whole}
 use Rattle.loom_flow.proofs.Sizes.{code_length, sites_length}
 use Rattle.loom_flow.proofs.Roles.{body_known}
 use Rattle.loom_flow.proofs.Frames.{IsFunctionPlaced, ArePlaced}

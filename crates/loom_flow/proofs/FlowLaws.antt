@@ -12,7 +12,7 @@ use Rattle.loom_flow.specs.FlatCode.{or_zero, calls_body, set_of}
 use Rattle.loom_flow.specs.Code.{IsLowered}
 use Rattle.loom_flow.proofs.Places.{lowered_places, few_places}
 use Rattle.loom_flow.proofs.CallSets.{lowered_calls}
-use Rattle.loom_flow.proofs.Located as located
+use Rattle.loom_flow.proofs.InstructionPlaces as located
 use Rattle.loom_flow.proofs.Traces.{lowered_traces}
 
 pub has_places : (c : Flat) → IsLowered c → HasPlaces c c.program

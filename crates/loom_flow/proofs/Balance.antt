@@ -4,7 +4,7 @@ use Rattle.loom_tree.specs.Tree.{Expression, num, var, cell, neg, inverse, bin, 
 use Rattle.loom_tree.specs.Tree as tree
 use Rattle.loom_lang.specs.Rules.{takes, KeepsRules}
 use Rattle.loom_flow.specs.Arguments.{takes_right, takes_simple}
-use Rattle.loom_flow.proofs.Known.{few_in}
+use Rattle.loom_flow.proofs.StatementRules.{few_in}
 use Rattle.loom_lang.specs.Numbers.{position, function_number}
 use Rattle.loom_flow.specs.declared.code.Operand.{Operand}
 use Rattle.loom_flow.specs.declared.code.Operand.TheVariants as operand

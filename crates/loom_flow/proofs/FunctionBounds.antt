@@ -11,7 +11,7 @@ use Rattle.loom_flow.specs.declared.code.Entrance.{Entrance}
 use Rattle.loom_flow.specs.Flat.{Flat}
 use Rattle.loom_flow.specs.FlatCode.{instr, size, place_count, body_code, body_sites, site, functions_code, functions_sites, entrances, lowered}
 use Rattle.loom_flow.specs.Laws.{start_or, IsInFunction}
-use Rattle.loom_flow.proofs.Lying.{Lies, lies_first, lies_second, lies_behind, lies_whole}
+use Rattle.loom_flow.proofs.Sublist.{Lies, lies_first, lies_second, lies_behind, lies_whole}
 use Rattle.loom_flow.proofs.Each.{same_element}
 use Rattle.loom_flow.proofs.Sizes.{code_length, sites_length}
 

@@ -10,12 +10,12 @@ use Rattle.loom_flow.specs.declared.code.Instr.{Instr}
 use Rattle.loom_flow.specs.declared.code.Entrance.{Entrance}
 use Rattle.loom_flow.specs.FlatCode.{operand_of, operand_steps, simple_steps, instr, instrs, size, place_count, body_code, entrances, lowered}
 use Rattle.loom_flow.specs.Laws.{IsInFunction, place_of, HasInstructionPlaces}
-use Rattle.loom_flow.proofs.Lying.{Lies, lies_first, lies_second}
+use Rattle.loom_flow.proofs.Sublist.{Lies, lies_first, lies_second}
 use Rattle.loom_flow.proofs.Each.{AllOf, all_append, Each, each_append, each_at}
 use Rattle.loom_flow.proofs.Plain.{is_plain, CallsRight, CallsSimple, operand_all, simple_all}
 use Rattle.loom_flow.proofs.Sizes.{instrs_length, code_length}
-use Rattle.loom_flow.proofs.Meeting.{condition_length}
-use Rattle.loom_flow.proofs.Standing.{function_code, function_length, Stands, stands, covered}
+use Rattle.loom_flow.proofs.BodyTraces.{condition_length}
+use Rattle.loom_flow.proofs.FunctionBounds.{function_code, function_length, Stands, stands, covered}
 
 -- a step of function `n` on line `l`, at place `k`
 abbrev IsAt : Source → ℕ → ℕ → ℕ → Step → Type 0

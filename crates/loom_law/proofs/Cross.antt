@@ -3,9 +3,9 @@ use Rattle.std.proofs.Common.{ℕ, ◌≡◌, ◌==◌, Bool, true, false, not, 
 use Rattle.std.specs.List.{filter}
 use Rattle.std.proofs.lemmas.Bool.{and_parts}
 use Rattle.std.proofs.lemmas.List.Elements.{filter-append}
-use Rattle.loom_law.specs.Filter.{Range, Ruling, has, share, entries_of, ranges_of, clauses}
-use Rattle.loom_law.specs.Walk.{Plans, wait, enters, at, past, post, leave, back, tick, cross, blocked, Inside, Owed, holds, is_among, is_left_with, with_back, entered_ranges, entered_regions, without_clause, without_filters, kept}
-use Rattle.loom_law.proofs.Held.{or_cases, or_left, or_right, either_of, pick, same_number, HeldAll, HeldEach, AllHeld, Covers, Safe, op_inside}
+use Rattle.loom_law.specs.Filter.{Range, Ruling, has, share, entry_events, ranges_of, clauses}
+use Rattle.loom_law.specs.Walk.{Plans, wait, enters, at, past, post, leave, back, tick, cross, blocked, Inside, Queue, holds, is_among, is_left_with, with_back, entered_ranges, entered_regions, without_clause, without_filters, still_owed}
+use Rattle.loom_law.proofs.Holdings.{or_cases, or_left, or_right, either_of, pick, same_number, HeldAll, HeldEach, AllHeld, Covers, Safe, op_inside}
 
 abbrev pub held_in : List ℕ → List (ℕ × ℕ) → List (ℕ × ℕ)
 held_in ks hs = filter (λ (h : ℕ × ℕ). has ks h.0) hs
@@ -113,8 +113,8 @@ if_kept false false x ys zs e f = cc
 ranges_stay : (ks : List ℕ) (k : ℕ) (ns : List ℕ) (c : ℕ) (xs : List Range) → has ks k ≡ true → without_filters ks (entered_ranges k ns c xs) ≡ entered_ranges k ns c xs
 ranges_stay ks k ns c [] i = refl
 ranges_stay ks k ns c (x ∷ xs) i =
-    filter_if (stays_in ks) (share (entries_of x) ns) (record { filter = k; clause = c; range = x }) (entered_ranges k ns c xs)
-    ∙ if_kept (share (entries_of x) ns) (has ks k) _ _ _ i (ranges_stay ks k ns c xs i)
+    filter_if (stays_in ks) (share (entry_events x) ns) (record { filter = k; clause = c; range = x }) (entered_ranges k ns c xs)
+    ∙ if_kept (share (entry_events x) ns) (has ks k) _ _ _ i (ranges_stay ks k ns c xs i)
 
 if_gone : {A : Type 0} (d b : Bool) (x : A) (ys : List A) → b ≡ false → ys ≡ [] → (if d then (if b then x ∷ ys else ys) else ys) ≡ []
 if_gone true true x ys e f = cc
@@ -125,8 +125,8 @@ if_gone false false x ys e f = f
 ranges_go : (ks : List ℕ) (k : ℕ) (ns : List ℕ) (c : ℕ) (xs : List Range) → has ks k ≡ false → without_filters ks (entered_ranges k ns c xs) ≡ []
 ranges_go ks k ns c [] i = refl
 ranges_go ks k ns c (x ∷ xs) i =
-    filter_if (stays_in ks) (share (entries_of x) ns) (record { filter = k; clause = c; range = x }) (entered_ranges k ns c xs)
-    ∙ if_gone (share (entries_of x) ns) (has ks k) _ _ i (ranges_go ks k ns c xs i)
+    filter_if (stays_in ks) (share (entry_events x) ns) (record { filter = k; clause = c; range = x }) (entered_ranges k ns c xs)
+    ∙ if_gone (share (entry_events x) ns) (has ks k) _ _ i (ranges_go ks k ns c xs i)
 
 abbrev pub regions_from : ℕ → List ℕ → List (ℕ × Ruling) → List Inside
 regions_from k ns cs = flat_map (λ (c : ℕ × Ruling). entered_ranges k ns c.0 (ranges_of c.1)) cs
@@ -182,17 +182,17 @@ leave_goes ks k c hs i =
 
 -- What stays of what is owed, with `more` behind it
 
-abbrev pub Then : Plans → List ℕ → List (ℕ × ℕ) → List (List Inside) → List Inside → Owed → Owed → Type 0
+abbrev pub Then : Plans → List ℕ → List (ℕ × ℕ) → List (List Inside) → List Inside → Queue → Queue → Type 0
 Then plans ks hs iss lv more os = Safe plans (held_in ks hs) (each_in ks iss) (without_filters ks lv) (os ++ more)
 
-unless_empty : (plans : Plans) (hs : List (ℕ × ℕ)) (iss : List (List Inside)) (lv : List Inside) (l : ℕ) (os more : Owed) → AllHeld hs iss lv
+unless_empty : (plans : Plans) (hs : List (ℕ × ℕ)) (iss : List (List Inside)) (lv : List Inside) (l : ℕ) (os more : Queue) → AllHeld hs iss lv
     → Safe plans hs iss lv more → Safe plans hs iss [] (os ++ more) → Safe plans hs iss lv (with_back l os ++ more)
 unless_empty plans hs iss lv l [] more h m g = m
 unless_empty plans hs iss lv l (o ∷ os) more h m g = (h, tt, g)
 
-pub kept_safe : (plans : Plans) (ks : List ℕ) (more : Owed)
+pub kept_safe : (plans : Plans) (ks : List ℕ) (more : Queue)
     → ((hs : List (ℕ × ℕ)) (iss : List (List Inside)) (lv : List Inside) → AllHeld hs iss lv → Safe plans hs iss lv more)
-    → (hs : List (ℕ × ℕ)) (iss : List (List Inside)) (lv : List Inside) (os : Owed) → Safe plans hs iss lv os → Then plans ks hs iss lv more (kept ks os)
+    → (hs : List (ℕ × ℕ)) (iss : List (List Inside)) (lv : List Inside) (os : Queue) → Safe plans hs iss lv os → Then plans ks hs iss lv more (still_owed ks os)
 kept_safe plans ks more go hs iss lv [] h = go _ _ _ (all_held_in ks hs iss lv h)
 kept_safe plans ks more go hs iss lv ((l, wait k n) ∷ os) h =
     let ih = kept_safe plans ks more go hs iss lv os h.2 in
@@ -205,28 +205,28 @@ kept_safe plans ks more go hs iss lv ((l, cross x v n) ∷ os) h = (all_held_in 
 kept_safe plans ks more go hs iss lv ((l, blocked w) ∷ os) h = (all_held_in ks hs iss lv h.0, tt, kept_safe plans ks more go hs iss lv os h.2)
 kept_safe plans ks more go hs iss lv ((l, back) ∷ os) h =
     let all : AllHeld (held_in ks hs) (each_in ks iss) (without_filters ks lv) = all_held_in ks hs iss lv h.0 in
-    unless_empty plans _ _ _ l (kept ks os) more all (go _ _ _ all) (kept_safe plans ks more go hs iss [] os h.2)
+    unless_empty plans _ _ _ l (still_owed ks os) more all (go _ _ _ all) (kept_safe plans ks more go hs iss [] os h.2)
 kept_safe plans ks more go hs iss lv ((l, enters k c) ∷ os) h =
     let ih = kept_safe plans ks more go ((k, c) ∷ hs) iss lv os h.2 in
-    let P : List (ℕ × ℕ) → Type 0 = λ gs. Safe plans gs (each_in ks iss) (without_filters ks lv) (kept ks os ++ more) in
+    let P : List (ℕ × ℕ) → Type 0 = λ gs. Safe plans gs (each_in ks iss) (without_filters ks lv) (still_owed ks os ++ more) in
     pick (Then plans ks hs iss lv more) (has ks k) _ _
     (λ b. (all_held_in ks hs iss lv h.0, tt, subst P (if_true (has ks k) ((k, c) ∷ held_in ks hs) (held_in ks hs) b) ih))
     (λ b. subst P (if_false (has ks k) ((k, c) ∷ held_in ks hs) (held_in ks hs) b) ih)
 kept_safe plans ks more go hs iss lv ((l, leave k c) ∷ os) h =
     let ih = kept_safe plans ks more go (without_clause k c hs) iss lv os h.2 in
-    let P : List (ℕ × ℕ) → Type 0 = λ gs. Safe plans gs (each_in ks iss) (without_filters ks lv) (kept ks os ++ more) in
+    let P : List (ℕ × ℕ) → Type 0 = λ gs. Safe plans gs (each_in ks iss) (without_filters ks lv) (still_owed ks os ++ more) in
     pick (Then plans ks hs iss lv more) (has ks k) _ _
     (λ b. (all_held_in ks hs iss lv h.0, tt, subst P (filters_commute (λ (x : ℕ × ℕ). has ks x.0) (λ (x : ℕ × ℕ). not ((x.0 == k) && (x.1 == c))) hs) ih))
     (λ b. subst P (leave_goes ks k c hs b) ih)
 kept_safe plans ks more go hs iss lv ((l, at k ns) ∷ os) h =
     let ih = kept_safe plans ks more go hs (op_inside plans (at k ns) iss) lv os h.2 in
-    let P : List (List Inside) → Type 0 = λ jss. Safe plans (held_in ks hs) jss (without_filters ks lv) (kept ks os ++ more) in
+    let P : List (List Inside) → Type 0 = λ jss. Safe plans (held_in ks hs) jss (without_filters ks lv) (still_owed ks os ++ more) in
     pick (Then plans ks hs iss lv more) (has ks k) _ _
     (λ b. (all_held_in ks hs iss lv h.0, covers_in ks hs k ns (clauses (plans k)) b h.1, subst P (at_stays ks plans k ns iss b) ih))
     (λ b. subst P (at_goes ks plans k ns iss b) ih)
 kept_safe plans ks more go hs iss lv ((l, past k ns) ∷ os) h =
     let ih = kept_safe plans ks more go hs (op_inside plans (past k ns) iss) lv os h.2 in
-    let P : List (List Inside) → Type 0 = λ jss. Safe plans (held_in ks hs) jss (without_filters ks lv) (kept ks os ++ more) in
+    let P : List (List Inside) → Type 0 = λ jss. Safe plans (held_in ks hs) jss (without_filters ks lv) (still_owed ks os ++ more) in
     pick (Then plans ks hs iss lv more) (has ks k) _ _
     (λ b. (all_held_in ks hs iss lv h.0, tt, subst P (past_stays ks plans k ns iss) ih))
     (λ b. subst P (past_goes ks plans k ns iss b) ih)

@@ -1,4 +1,6 @@
 -- A thread leaves only clauses that it holds, and so only those of which the journal says it.
+use Rattle.loom_event.specs.Replay.{thread_limit, ThreadState}
+use Rattle.loom_law.proofs.Strict.{IsStrict}
 use Rattle.std.proofs.Common.{ℕ, suc, ◌<◌, ◌≡◌, ◌==◌, Bool, true, false, not, ◌&&◌, ◌||◌, List, [], ◌∷◌, ◌++◌, length, Some, refl, sym, ap, subst, ◌∙◌, arith}
 use Rattle.std.specs.List.{filter}
 use Rattle.std.proofs.lemmas.Bool.{and_parts, and_left, and_right, ne_eqb}
@@ -12,17 +14,17 @@ use Rattle.loom_lang.specs.Places as place
 use Rattle.loom_lang.specs.Trace.{Locals, begin, end, trap, read, write, lock, unlock, down, up, spawn, join, print, Item, made, begins, done, edge, enter, out}
 use Rattle.loom_law.specs.Walk.{tick_after}
 use Rattle.loom_law.specs.Filter.{Site, statement, function, Ruling, Plan, matching, has, waits, posts, numbered_from, clauses}
-use Rattle.loom_law.specs.Walk.{Version, Plans, Op, wait, enters, at, past, post, leave, back, tick, cross, blocked, Step, goes, makes, Inside, Frame, Spot, elsewhere, beginning, entered, complete, left, trapped, Owed, Walk, unborn, holds, begins_in, owed_waits, owed_enters, owed_by, owed_at, is_among, all_inside, completed, in_frame, owed_posts, owed_leaves, events_of, owed_past, owed_behind, all_leaves, with_back, with_tick, begun_with, function_line, without_first, taking, entered_journal, after_item, without_clause, kept, fresh, owed_fresh, crossed, crossing, after_op, walked, Owes, MayStand, AreWoven}
-use Rattle.loom_law.specs.Part.{led}
-use Rattle.loom_law.specs.Control.{Command, have_one_name, Control, first_control, control, after_entry, takes, taken_from, taken}
-use Rattle.loom_law.specs.Lawful.{plans, own, is_installed}
-use Rattle.loom_law.specs.Laws.{AreOnce, HaveOnce, HasHeldLeaves, HasRightLeaves}
-use Rattle.loom_law.proofs.Held.{or_cases, or_left, or_right, either_of, pick, same_number, op_held}
-use Rattle.loom_law.proofs.Crossed.{held_in, filters_commute, leave_goes, if_true, if_false}
+use Rattle.loom_law.specs.Walk.{Version, Plans, Operation, wait, enters, at, past, post, leave, back, tick, cross, blocked, Step, goes, makes, Inside, OpenFrame, Spot, elsewhere, beginning, entered, complete, left, trapped, Queue, Walk, unborn, holds, begins_in, owed_waits, owed_enters, owed_by, owed_at, is_among, all_inside, completed, in_frame, owed_posts, owed_leaves, events_of, owed_past, owed_behind, all_leaves, with_back, with_tick, begun_with, function_line, without_first, taking, entered_journal, after_item, without_clause, still_owed, new_filters, owed_fresh, owed_behind_cross, crossing, after_operation, walked, Owes, MayStand, AreWoven}
+use Rattle.loom_law.specs.Part.{led, IsPart}
+use Rattle.loom_law.specs.Control.{Command, have_one_name, Control, first_control, control, after_entry, takes, taken_from, taken, entries_of, listed}
+use Rattle.loom_law.specs.Lawful.{plans, own, is_installed, Setting, is_held_by}
+use Rattle.loom_law.specs.Laws.{AreOnce, HaveOnce, HasHeldLeaves}
+use Rattle.loom_law.proofs.Holdings.{or_cases, or_left, or_right, either_of, pick, same_number, op_held}
+use Rattle.loom_law.proofs.Cross.{held_in, filters_commute, leave_goes, if_true, if_false}
 use Rattle.loom_law.proofs.Inside.{owed_none}
 use Rattle.loom_law.proofs.Balance.{holds_without, holds_in, Says, AreSaid, IsSound, first_sound, sound_behind}
-use Rattle.loom_law.proofs.Obeyed.{are_said, balance}
-use Rattle.loom_law.proofs.Named.{owed_installed}
+use Rattle.loom_law.proofs.Obedience.{are_said, balance}
+use Rattle.loom_law.proofs.ActiveFilters.{owed_installed}
 
 and_both : (a b : Bool) → a ≡ true → b ≡ true → (a && b) ≡ true
 and_both true b h g = g
@@ -33,30 +35,30 @@ eq_same n = grind arith
 
 -- What is owed is held where it is left
 
-abbrev LeftHeld : List (ℕ × ℕ) → Op → Type 0
+abbrev LeftHeld : List (ℕ × ℕ) → Operation → Type 0
 LeftHeld hs (leave k c) = holds hs k c ≡ true
 LeftHeld hs _ = Unit {0}
 
-abbrev AllLeft : List (ℕ × ℕ) → Owed → Type 0
+abbrev AllLeft : List (ℕ × ℕ) → Queue → Type 0
 AllLeft hs [] = Unit {0}
 AllLeft hs (x ∷ os) = LeftHeld hs x.1 × AllLeft (op_held x.1 hs) os
 
 -- whatever is held
-abbrev AnyLeft : Owed → Type 0
+abbrev AnyLeft : Queue → Type 0
 AnyLeft os = (hs : List (ℕ × ℕ)) → AllLeft hs os
 
-waits_any : (f : Plan) (k l : ℕ) (ns : List ℕ) (more : Owed) → AnyLeft more → AnyLeft (owed_waits f k l ns more)
+waits_any : (f : Plan) (k l : ℕ) (ns : List ℕ) (more : Queue) → AnyLeft more → AnyLeft (owed_waits f k l ns more)
 waits_any f k l [] more h hs = h hs
 waits_any f k l (n ∷ ns) more h hs =
     let ih : AllLeft hs (owed_waits f k l ns more) = waits_any f k l ns more h hs in
     pick (AllLeft hs) (waits f n) _ _ (λ b. (tt, ih)) (λ b. ih)
 
-enters_any : (gs : List (ℕ × ℕ)) (k l : ℕ) (ns : List ℕ) (cs : List (ℕ × Ruling)) (more : Owed) → AnyLeft more → AnyLeft (owed_enters gs k l ns cs more)
+enters_any : (gs : List (ℕ × ℕ)) (k l : ℕ) (ns : List ℕ) (cs : List (ℕ × Ruling)) (more : Queue) → AnyLeft more → AnyLeft (owed_enters gs k l ns cs more)
 enters_any gs k l ns [] more h hs = h hs
 enters_any gs k l ns (c ∷ cs) more h hs =
     pick (AllLeft hs) (begins_in c.1 ns && not (holds gs k c.0)) _ _ (λ b. (tt, enters_any gs k l ns cs more h ((k, c.0) ∷ hs))) (λ b. enters_any gs k l ns cs more h hs)
 
-by_any : (f : Plan) (k : ℕ) (gs : List (ℕ × ℕ)) (l : ℕ) (ns : List ℕ) (more : Owed) → AnyLeft more → AnyLeft (owed_by f k gs l ns more)
+by_any : (f : Plan) (k : ℕ) (gs : List (ℕ × ℕ)) (l : ℕ) (ns : List ℕ) (more : Queue) → AnyLeft more → AnyLeft (owed_by f k gs l ns more)
 by_any f k gs l [] more h hs = h hs
 by_any f k gs l (n ∷ ns) more h hs =
     waits_any f k l (n ∷ ns) _ (enters_any gs k l (n ∷ ns) (clauses f) ((l, at k (n ∷ ns)) ∷ more) (λ js. (tt, h js))) hs
@@ -73,16 +75,16 @@ fresh_any p plans (complete l) ks hs = tt
 fresh_any p plans (left f is) ks hs = tt
 fresh_any p plans (trapped l) ks hs = tt
 
-posts_left : (f : Plan) (k l : ℕ) (ns : List ℕ) (more : Owed) (hs : List (ℕ × ℕ)) → AllLeft hs more → AllLeft hs (owed_posts f k l ns more)
+posts_left : (f : Plan) (k l : ℕ) (ns : List ℕ) (more : Queue) (hs : List (ℕ × ℕ)) → AllLeft hs more → AllLeft hs (owed_posts f k l ns more)
 posts_left f k l [] more hs h = h
 posts_left f k l (n ∷ ns) more hs h =
     let ih : AllLeft hs (owed_posts f k l ns more) = posts_left f k l ns more hs h in
     pick (AllLeft hs) (posts f n) _ _ (λ b. (tt, ih)) (λ b. ih)
 
-tick_left : (p : Source) (x : Place) (n : ℕ) (os : Owed) (hs : List (ℕ × ℕ)) → AllLeft hs os → AllLeft hs (with_tick p x n os)
+tick_left : (p : Source) (x : Place) (n : ℕ) (os : Queue) (hs : List (ℕ × ℕ)) → AllLeft hs os → AllLeft hs (with_tick p x n os)
 tick_left p x n os hs h = pick (AllLeft hs) (n == tick_after) _ _ (λ b. (tt, h)) (λ b. h)
 
-back_left : (l : ℕ) (os : Owed) (hs : List (ℕ × ℕ)) → AllLeft hs os → AllLeft hs (with_back l os)
+back_left : (l : ℕ) (os : Queue) (hs : List (ℕ × ℕ)) → AllLeft hs os → AllLeft hs (with_back l os)
 back_left l [] hs h = tt
 back_left l (o ∷ os) hs h = (tt, h)
 
@@ -124,7 +126,7 @@ still_less gs hs k n (d ∷ cs) a h = ((λ g. holds_other k n hs k d.0 (and_righ
 abbrev Others : ℕ → List (ℕ × ℕ) → List (ℕ × ℕ) → Type 0
 Others k hs js = (j m : ℕ) → (j == k) ≡ false → holds hs j m ≡ true → holds js j m ≡ true
 
-leaves_left : (gs hs : List (ℕ × ℕ)) (is : List Inside) (k l : ℕ) (cs : List (ℕ × Ruling)) (more : Owed) → OneEach cs → Still gs hs k cs
+leaves_left : (gs hs : List (ℕ × ℕ)) (is : List Inside) (k l : ℕ) (cs : List (ℕ × Ruling)) (more : Queue) → OneEach cs → Still gs hs k cs
     → ((js : List (ℕ × ℕ)) → Others k hs js → AllLeft js more) → AllLeft hs (owed_leaves gs is k l cs more)
 leaves_left gs hs is k l [] more o s go = go hs (λ j m q h. h)
 leaves_left gs hs is k l (c ∷ cs) more o s go =
@@ -160,7 +162,7 @@ all_leaves_left plans gs hs is l (k ∷ ks) o h =
     (all_still gs hs k (clauses (plans k)) (holding_first gs hs k ks h))
     (λ js others. all_leaves_left plans gs js is l ks o.1 (holding_others gs hs js k ks o.0 h others))
 
-past_left : (f : Plan) (k : ℕ) (gs hs : List (ℕ × ℕ)) (fs : List Frame) (l : ℕ) (ns : List ℕ) (more : Owed) → ((m : ℕ) → holds gs k m ≡ true → holds hs k m ≡ true)
+past_left : (f : Plan) (k : ℕ) (gs hs : List (ℕ × ℕ)) (fs : List OpenFrame) (l : ℕ) (ns : List ℕ) (more : Queue) → ((m : ℕ) → holds gs k m ≡ true → holds hs k m ≡ true)
     → ((js : List (ℕ × ℕ)) → Others k hs js → AllLeft js more) → AllLeft hs (owed_past f k gs fs l ns more)
 past_left f k gs hs fs l [] more h go = go hs (λ j m q g. g)
 past_left f k gs hs fs l (n ∷ ns) more h go = (
@@ -169,7 +171,7 @@ past_left f k gs hs fs l (n ∷ ns) more h go = (
       (leaves_left gs hs (all_inside (in_frame (completed k (n ∷ ns)) fs)) k l (clauses f) more (numbered_once 1 f.rulings) (all_still gs hs k (clauses f) h) go),
 )
 
-behind_left : (plans : Plans) (gs hs : List (ℕ × ℕ)) (fs : List Frame) (l : ℕ) (xs : List (ℕ × List ℕ)) (ks : List ℕ) → AreOnce ks → Holding gs hs ks
+behind_left : (plans : Plans) (gs hs : List (ℕ × ℕ)) (fs : List OpenFrame) (l : ℕ) (xs : List (ℕ × List ℕ)) (ks : List ℕ) → AreOnce ks → Holding gs hs ks
     → AllLeft hs (owed_behind plans gs fs l xs ks)
 behind_left plans gs hs fs l xs [] o h = tt
 behind_left plans gs hs fs l xs (k ∷ ks) o h =
@@ -178,13 +180,13 @@ behind_left plans gs hs fs l xs (k ∷ ks) o h =
 
 -- Where a version is taken
 
-back_more : (l : ℕ) (os more : Owed) (hs : List (ℕ × ℕ)) → AllLeft hs (os ++ more) → AllLeft hs (with_back l os ++ more)
+back_more : (l : ℕ) (os more : Queue) (hs : List (ℕ × ℕ)) → AllLeft hs (os ++ more) → AllLeft hs (with_back l os ++ more)
 back_more l [] more hs h = h
 back_more l (o ∷ os) more hs h = (tt, h)
 
-kept_left : (ks : List ℕ) (more : Owed) → AnyLeft more → (hs : List (ℕ × ℕ)) (os : Owed) → AllLeft hs os → AllLeft (held_in ks hs) (kept ks os ++ more)
+kept_left : (ks : List ℕ) (more : Queue) → AnyLeft more → (hs : List (ℕ × ℕ)) (os : Queue) → AllLeft hs os → AllLeft (held_in ks hs) (still_owed ks os ++ more)
 kept_left ks more any hs [] h = any (held_in ks hs)
-kept_left ks more any hs ((l, back) ∷ os) h = back_more l (kept ks os) more (held_in ks hs) (kept_left ks more any hs os h.1)
+kept_left ks more any hs ((l, back) ∷ os) h = back_more l (still_owed ks os) more (held_in ks hs) (kept_left ks more any hs os h.1)
 kept_left ks more any hs ((l, wait k n) ∷ os) h =
     let ih = kept_left ks more any hs os h.1 in pick (λ us. AllLeft (held_in ks hs) (us ++ more)) (has ks k) _ _ (λ b. (tt, ih)) (λ b. ih)
 kept_left ks more any hs ((l, at k n) ∷ os) h =
@@ -195,13 +197,13 @@ kept_left ks more any hs ((l, post k n) ∷ os) h =
     let ih = kept_left ks more any hs os h.1 in pick (λ us. AllLeft (held_in ks hs) (us ++ more)) (has ks k) _ _ (λ b. (tt, ih)) (λ b. ih)
 kept_left ks more any hs ((l, enters k c) ∷ os) h =
     let ih = kept_left ks more any ((k, c) ∷ hs) os h.1 in
-    let P : List (ℕ × ℕ) → Type 0 = λ gs. AllLeft gs (kept ks os ++ more) in
+    let P : List (ℕ × ℕ) → Type 0 = λ gs. AllLeft gs (still_owed ks os ++ more) in
     pick (λ us. AllLeft (held_in ks hs) (us ++ more)) (has ks k) _ _
     (λ b. (tt, subst P (if_true (has ks k) ((k, c) ∷ held_in ks hs) (held_in ks hs) b) ih))
     (λ b. subst P (if_false (has ks k) ((k, c) ∷ held_in ks hs) (held_in ks hs) b) ih)
 kept_left ks more any hs ((l, leave k c) ∷ os) h =
     let ih = kept_left ks more any (without_clause k c hs) os h.1 in
-    let P : List (ℕ × ℕ) → Type 0 = λ gs. AllLeft gs (kept ks os ++ more) in
+    let P : List (ℕ × ℕ) → Type 0 = λ gs. AllLeft gs (still_owed ks os ++ more) in
     pick (λ us. AllLeft (held_in ks hs) (us ++ more)) (has ks k) _ _
     (λ b. (
       holds_in ks hs k c ∙ and_both (has ks k) (holds hs k c) b h.0,
@@ -212,9 +214,9 @@ kept_left ks more any hs ((l, tick x) ∷ os) h = (tt, kept_left ks more any hs 
 kept_left ks more any hs ((l, cross x v n) ∷ os) h = (tt, kept_left ks more any hs os h.1)
 kept_left ks more any hs ((l, blocked what) ∷ os) h = (tt, kept_left ks more any hs os h.1)
 
-crossed_left : (p : Source) (plans : Plans) (s : Spot) (old ks : List ℕ) (hs : List (ℕ × ℕ)) (os : Owed) → AllLeft hs os → AllLeft (held_in ks hs) (crossed p plans s old ks os)
+crossed_left : (p : Source) (plans : Plans) (s : Spot) (old ks : List ℕ) (hs : List (ℕ × ℕ)) (os : Queue) → AllLeft hs os → AllLeft (held_in ks hs) (owed_behind_cross p plans s old ks os)
 crossed_left p plans s old ks hs [] h = tt
-crossed_left p plans s old ks hs (o ∷ os) h = kept_left ks (owed_fresh p plans s (fresh old ks)) (fresh_any p plans s (fresh old ks)) hs (o ∷ os) h
+crossed_left p plans s old ks hs (o ∷ os) h = kept_left ks (owed_fresh p plans s (new_filters old ks)) (fresh_any p plans s (new_filters old ks)) hs (o ∷ os) h
 
 -- Along a walk
 
@@ -254,17 +256,17 @@ item_well p plans z (out f) is h = (
   h.1,
 )
 
-left_op : (hs : List (ℕ × ℕ)) (os : Owed) (l : ℕ) (o : Op) → Owes os l o → AllLeft hs os → AllLeft (op_held o hs) (without_first os)
+left_op : (hs : List (ℕ × ℕ)) (os : Queue) (l : ℕ) (o : Operation) → Owes os l o → AllLeft hs os → AllLeft (op_held o hs) (without_first os)
 left_op hs [] l o is h = absurd is
 left_op hs (x ∷ os) l o is h =
-    let P : Op → Type 0 = λ q. AllLeft (op_held q hs) os in
-    subst P (ap (λ (q : ℕ × Op). q.1) is) h.1
+    let P : Operation → Type 0 = λ q. AllLeft (op_held q hs) os in
+    subst P (ap (λ (q : ℕ × Operation). q.1) is) h.1
 
-left_held : (hs : List (ℕ × ℕ)) (os : Owed) (l : ℕ) (o : Op) → Owes os l o → AllLeft hs os → LeftHeld hs o
+left_held : (hs : List (ℕ × ℕ)) (os : Queue) (l : ℕ) (o : Operation) → Owes os l o → AllLeft hs os → LeftHeld hs o
 left_held hs [] l o is h = absurd is
-left_held hs (x ∷ os) l o is h = subst (LeftHeld hs) (ap (λ (q : ℕ × Op). q.1) is) h.0
+left_held hs (x ∷ os) l o is h = subst (LeftHeld hs) (ap (λ (q : ℕ × Operation). q.1) is) h.0
 
-op_well : (p : Source) (plans : Plans) (z : Walk) (l : ℕ) (o : Op) (rest : List Item) → MayStand p z (makes l o) rest → LeavesWell z → LeavesWell (after_op p plans z o)
+op_well : (p : Source) (plans : Plans) (z : Walk) (l : ℕ) (o : Operation) (rest : List Item) → MayStand p z (makes l o) rest → LeavesWell z → LeavesWell (after_operation p plans z o)
 op_well p plans z l (wait k n) rest m h = (left_op z.held z.owed l (wait k n) m h.0, h.1)
 op_well p plans z l (enters k n) rest m h = (left_op z.held z.owed l (enters k n) m h.0, h.1)
 op_well p plans z l (at k n) rest m h = (left_op z.held z.owed l (at k n) m h.0, h.1)
@@ -279,7 +281,7 @@ op_well p plans z l (blocked what) rest m h = h
 walk_well : (p : Source) (plans : Plans) (z : Walk) (ss : List Step) (ahead : List Item) → AreWoven p plans z ss ahead → LeavesWell z → LeavesWell (walked p plans z ss)
 walk_well p plans z [] ahead w h = h
 walk_well p plans z (goes i ∷ ss) ahead w h = walk_well p plans (after_item p plans z i) ss ahead w.1 (item_well p plans z i (owed_none p z i _ w.0) h)
-walk_well p plans z (makes l o ∷ ss) ahead w h = walk_well p plans (after_op p plans z o) ss ahead w.1 (op_well p plans z l o _ w.0 h)
+walk_well p plans z (makes l o ∷ ss) ahead w h = walk_well p plans (after_operation p plans z o) ss ahead w.1 (op_well p plans z l o _ w.0 h)
 
 pub held_leaves : HasHeldLeaves
 held_leaves p plans x h once l k c owes =
@@ -337,7 +339,10 @@ taken_once cs t c (x ∷ es) h s o =
     let ih : HaveOnce (taken_from cs t (after_entry cs c x) es) = taken_once cs t (after_entry cs c x) es h.1 (sound_behind cs c x h.0 s) (once_behind cs c x h.0 s o) in
     pick HaveOnce (takes t x) (c.version ∷ taken_from cs t (after_entry cs c x) es) (taken_from cs t (after_entry cs c x) es) (λ b. (o, ih)) (λ b. ih)
 
-pub right_leaves : HasRightLeaves
+pub right_leaves : (s : Setting) (front rest : List Entry) → IsStrict s (front ++ rest) → (i : ℕ) → i < thread_limit → (x : ThreadState)
+    (h : IsPart s.program (plans s) (own s front (suc i) x)) (y : Entry) (ys : List Entry) → entries_of (suc i) front ≡ y ∷ ys → listed (suc i) front ≡ []
+    → (l k c : ℕ) → Owes (led s.program (plans s) (own s front (suc i) x) h.steps).owed l (leave k c)
+    → is_held_by (control s.commands front) k c (suc i) ≡ true
 right_leaves s front rest h i small x part y ys some none l k c owes =
     let t : ℕ = suc i in
     let once : HaveOnce (taken s.commands t front) = taken_once s.commands t first_control front (are_said s front rest h) first_sound tt in

@@ -4,22 +4,19 @@ use Rattle.std.specs.List.{Contains}
 use Rattle.std.proofs.lemmas.List.Elements.{Contains-append_left, Contains-append_right, Contains-append_cases}
 use Rattle.loom_tree.specs.Tree.{Source, Body, simple, if_, while_, Function}
 use Rattle.loom_tree.specs.Tree as tree
-use Rattle.loom_command.specs.Filter.{Event, Step, Region, Clause, Filter}
-use Rattle.loom_law.specs.Filter.{statement, function, Watch, Range, Plan, watch_of, watches_of_region, watches_of_clause, numbers, range_from, ranges_from, ruling_from, rulings_from, plan_of, ranges_of}
-use Rattle.loom_law.specs.Watch.{all_ranges}
+use Rattle.loom_law.specs.Filter.{LineEvent, OrderStep, Region, Clause, Filter, statement, function, Watch, Range, Plan, watch_of, watches_of_region, watches_of_clause, numbers, range_from, ranges_from, ruling_from, rulings_from, plan_of, ranges_of}
+use Rattle.loom_law.specs.View.{all_ranges}
 use Rattle.loom_law.specs.Paths.{watch_at, Node, node_places, places_in, places_of, IsReached, IsReachedAt, IsUnsafe}
 use Rattle.loom_law.specs.Paths as path
 use Rattle.loom_lang.specs.Places.{Place, nowhere, entry, inside, back_edge, out, body_places}
 use Rattle.loom_law.specs.Laws.{HasSoundPlaces, IsOutsideWhereFlagged}
-use Rattle.loom_lang.specs.Rules as rules
-use Rattle.loom_event.specs.Replay.{Spawned, thread_at}
+use Rattle.loom_event.specs.Replay.{ThreadState, thread_at}
 use Rattle.loom_law.specs.Control.{Command, Action, install, means, command_at}
-use Rattle.loom_law.specs.Lawful.{Setting, Front, plans, own, is_running, IsFlaggedBy, IsOutsideAs, IsOutside, Lists}
+use Rattle.loom_law.specs.Lawful.{Setting, Front, plans, own, IsFlaggedBy, IsOutside, Lists, running}
 use Rattle.loom_law.specs.Part.{Own}
 use Rattle.loom_law.proofs.Course.{contains_first, contains_later, no_member, contains_cases}
 use Rattle.loom_law.proofs.Sight.{IsSited, IsWellSited}
 use Rattle.loom_law.proofs.Sound.{sound_of_sites}
-use Rattle.loom_law.proofs.Locals.{calls_to_locals}
 
 -- Positions in lists
 
@@ -69,21 +66,21 @@ agrees_right k n xs ys all e a i lt =
 
 -- Events of lines
 
-line_at : (es : List Event) (i : ℕ) (w : Watch) → slice_get (map watch_of es) i ≡ Some w → (l : ℕ) × (w.site ≡ statement l)
+line_at : (es : List LineEvent) (i : ℕ) (w : Watch) → slice_get (map watch_of es) i ≡ Some w → (l : ℕ) × (w.site ≡ statement l)
 line_at [] i w h = cc
 line_at (x ∷ es) zero w h =
     let same : watch_of x ≡ w = cc in
     (x.line, ap (λ (v : Watch). v.site) (sym same))
 line_at (x ∷ es) (suc i) w h = line_at es i w h
 
-step_at : (ss : List Step) (i : ℕ) (w : Watch) → slice_get (map (λ (s : Step). watch_of s.event) ss) i ≡ Some w → (l : ℕ) × (w.site ≡ statement l)
+step_at : (ss : List OrderStep) (i : ℕ) (w : Watch) → slice_get (map (λ (s : OrderStep). watch_of s.event) ss) i ≡ Some w → (l : ℕ) × (w.site ≡ statement l)
 step_at [] i w h = cc
 step_at (x ∷ ss) zero w h =
     let same : watch_of x.event ≡ w = cc in
-    (Event.line x.event, ap (λ (v : Watch). v.site) (sym same))
+    (LineEvent.line x.event, ap (λ (v : Watch). v.site) (sym same))
 step_at (x ∷ ss) (suc i) w h = step_at ss i w h
 
-numbers_member : (n : ℕ) (es : List Event) (m : ℕ) → Contains (numbers n es) m → (i : ℕ) × ((m ≡ n + i) × (i < length es))
+numbers_member : (n : ℕ) (es : List LineEvent) (m : ℕ) → Contains (numbers n es) m → (i : ℕ) × ((m ≡ n + i) × (i < length es))
 numbers_member n [] m c = absurd (no_member m c)
 numbers_member n (x ∷ es) m c = by_cases (numbers_member (suc n) es m) (contains_cases n m (numbers (suc n) es) c)
   where
@@ -92,7 +89,7 @@ numbers_member n (x ∷ es) m c = by_cases (numbers_member (suc n) es m) (contai
     by_cases ih (inl e) = (0, (omega arith, omega arith))
     by_cases ih (inr k) = let r = ih k in let e = r.1.0 in let lt = r.1.1 in (suc r.0, (omega arith, omega arith))
 
-length_map : (es : List Event) → length (map watch_of es) ≡ length es
+length_map : (es : List LineEvent) → length (map watch_of es) ≡ length es
 length_map [] = refl
 length_map (x ∷ es) = ap suc (length_map es)
 
@@ -105,7 +102,7 @@ watch_there f (suc m) j w e h =
 
 -- Regions are where they belong
 
-between_sited : (p : Source) (f : Plan) (k n : ℕ) (es xs : List Event) → n ≡ suc k → AgreesFrom k (map watch_of es ++ map watch_of xs) f.watches
+between_sited : (p : Source) (f : Plan) (k n : ℕ) (es xs : List LineEvent) → n ≡ suc k → AgreesFrom k (map watch_of es ++ map watch_of xs) f.watches
     → IsSited f (Range.between (numbers n es) (numbers (n + length es) xs))
 between_sited p f k n es xs e a m c w is =
     let r = numbers_member n es m c in
@@ -265,9 +262,9 @@ plan_sited p t = record {
         let same : 1 + j ≡ suc j = omega arith in
         subst P same (clauses_event p 1 j t w g is site)
 
--- The unsafe places of each filter are sound, in each program that keeps its rules.
+-- The unsafe places of each filter are sound.
 pub places_are_sound : HasSoundPlaces
-places_are_sound p t lawful = sound_of_sites p (plan_of p t) (plan_sited p t) (calls_to_locals p lawful)
+places_are_sound p t = sound_of_sites p (plan_of p t) (plan_sited p t)
 
 -- Place 0 is safe
 
@@ -355,7 +352,7 @@ nowhere_safe p f (inr (inr u)) = by_cases u.place
 
 -- At an install a thread that stands at a flagged place is outside the filter's regions, and none of its events is under way.
 pub outside_where_flagged : IsOutsideWhereFlagged
-outside_where_flagged s x t y lawful flagged h there = places_are_sound s.program t lawful (plans s) x h y there (safe flagged)
+outside_where_flagged s x t y flagged h there = places_are_sound s.program t (plans s) x h y there (safe flagged)
   where
     safe : (y ≡ nowhere) ⊎ (IsUnsafe s.program (plan_of s.program t) y → ⊥) → IsUnsafe s.program (plan_of s.program t) y → ⊥
     safe (inl e) =
@@ -372,18 +369,13 @@ flagged_safe p t o c y is installs h =
     let Q : Action → Type 0 = λ z. IsFlaggedBy p (Some (record c { action = z })) y in
     subst Q installs (subst P is h)
 
-outside_if : (s : Setting) (x : Own) (t : Filter) (y : Place) (b : Bool) → rules.KeepsRules s.program → (y ≡ nowhere) ⊎ (IsUnsafe s.program (plan_of s.program t) y → ⊥)
-    → IsOutsideAs s x b (plan_of s.program t) y
-outside_if s x t y false lawful flagged = tt
-outside_if s x t y true lawful flagged = outside_where_flagged s x t y lawful flagged
-
-pub all_outside : (s : Setting) (f : Front) (k : ℕ) (row : List ℕ) (t : Filter) (c : Command) → rules.KeepsRules s.program → command_at s.commands k ≡ Some c
+pub all_outside : (s : Setting) (f : Front) (k : ℕ) (row : List ℕ) (t : Filter) (c : Command) → command_at s.commands k ≡ Some c
     → c.action ≡ install (means (plan_of s.program t)) → (ls : Lists s f k row) → (u : ℕ)
-    → IsOutside s f.entries u (thread_at f.store u) (plan_of s.program t) (Lists.place ls u)
-all_outside s f k row t c lawful is installs ls u = by_state (thread_at f.store u)
+    → IsOutside s f.entries u (running (thread_at f.store u)) (plan_of s.program t) (Lists.place ls u)
+all_outside s f k row t c is installs ls u = by_state (running (thread_at f.store u))
   where
-    by_state : (o : Option Spawned) → IsOutside s f.entries u o (plan_of s.program t) (Lists.place ls u)
+    by_state : (o : Option ThreadState) → IsOutside s f.entries u o (plan_of s.program t) (Lists.place ls u)
     by_state None = tt
     by_state (Some x) =
-        outside_if s (own s f.entries u x) t (Lists.place ls u) (is_running x) lawful
+        outside_where_flagged s (own s f.entries u x) t (Lists.place ls u)
         (flagged_safe s.program t (command_at s.commands k) c (Lists.place ls u) is installs (Lists.flagged ls u))

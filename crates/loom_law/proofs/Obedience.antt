@@ -6,13 +6,14 @@ use Rattle.loom_trace.specs.declared.entry.Entry.TheVariants as e
 use Rattle.loom_lang.specs.Trace.{begin, end, trap, read, write, lock, unlock, down, up, spawn, join, print, made, begins, done, edge, enter, out}
 use Rattle.loom_event.specs.Event.{targets}
 use Rattle.loom_event.specs.Entries.{thread_of}
-use Rattle.loom_event.specs.Replay.{Spawned, thread_at}
+use Rattle.loom_event.specs.Replay.{ThreadState, thread_at}
 use Rattle.loom_law.specs.Filter.{is_alone}
 use Rattle.loom_law.specs.Walk.{Version, Plans, wait, enters, at, past, post, leave, back, tick, cross, blocked, Step, goes, makes, told, Walk, unborn, holds, without_clause, without_first, taking, entered_journal, crossing, after, walked}
 use Rattle.loom_law.specs.Part.{led, IsPart, IsInside}
 use Rattle.loom_law.specs.Control.{Command, Control, first_control, after_entry, controlled, control, taken_from, taken, entries_of}
-use Rattle.loom_law.specs.Lawful.{Setting, Front, front_of, plans, own, Stands, MayMove, IsHeldOff, is_held_by, is_installed, IsInsideIf, IsLawful}
-use Rattle.loom_law.specs.Laws.{HasBalance, HasExclusion, IsAlwaysObeyed}
+use Rattle.loom_law.specs.Lawful.{Setting, Front, front_of, plans, own, MayMove, IsHeldOff, is_held_by, is_installed, IsInsideIf, front_at, IsObeyed}
+use Rattle.loom_law.proofs.Strict.{Stands, IsStrict, StandsBy}
+
 use Rattle.loom_law.proofs.Inside.{inside_is_held}
 use Rattle.loom_law.proofs.Balance.{held_in, Says, AreSaid, IsSound, first_sound, sound_along, held_from, IsBalanced, first_balanced, balanced_along}
 
@@ -152,7 +153,7 @@ told_held cs t c hs (e.Unreached k ∷ es) = told_held cs t (after_entry cs c (e
 told_held cs t c hs (e.Finish k ∷ es) = told_held cs t c hs es
 
 -- what a thread holds behind its part is what the journal gives
-pub held_told : (s : Setting) (front : List Entry) (t : ℕ) (x : Spawned) (h : IsPart s.program (plans s) (own s front t x))
+pub held_told : (s : Setting) (front : List Entry) (t : ℕ) (x : ThreadState) (h : IsPart s.program (plans s) (own s front t x))
     → Walk.held (led s.program (plans s) (own s front t x) h.steps) ≡ held_from s.commands t first_control [] front
 held_told s front t x h =
     walked_held s.program (plans s) t (unborn (taken s.commands t front)) h.steps
@@ -176,18 +177,18 @@ append_one : (xs : List Entry) (y : Entry) (ys : List Entry) → (xs ++ y ∷ []
 append_one [] y ys = refl
 append_one (x ∷ xs) y ys = ap (◌∷◌ x) (append_one xs y ys)
 
-said_from : (s : Setting) (es : List Entry) (h : IsLawful s es) (front todo rest : List Entry) → es ≡ front ++ (todo ++ rest) → AreSaid s.commands (control s.commands front) todo
+said_from : (s : Setting) (es : List Entry) (h : IsStrict s es) (front todo rest : List Entry) → es ≡ front ++ (todo ++ rest) → AreSaid s.commands (control s.commands front) todo
 said_from s es h front [] rest is = tt
 said_from s es h front (x ∷ todo) rest is = (
-  stands_says s (front_of s front (take (length (targets front)) h.events)) x (todo ++ rest) (h.stands front x (todo ++ rest) is),
+  stands_says s (front_at s h.events front) x (todo ++ rest) (h.stands front x (todo ++ rest) is),
   subst (λ c. AreSaid s.commands c todo) (controlled_last s.commands first_control front x)
       (said_from s es h (front ++ x ∷ []) todo rest (is ∙ sym (append_one front x (todo ++ rest)))),
 )
 
-pub are_said : (s : Setting) (front rest : List Entry) → IsLawful s (front ++ rest) → AreSaid s.commands first_control front
+pub are_said : (s : Setting) (front rest : List Entry) → IsStrict s (front ++ rest) → AreSaid s.commands first_control front
 are_said s front rest h = said_from s (front ++ rest) h [] front rest refl
 
-balance_at : (s : Setting) (front rest : List Entry) → IsLawful s (front ++ rest) → (t : ℕ)
+balance_at : (s : Setting) (front rest : List Entry) → IsStrict s (front ++ rest) → (t : ℕ)
     → IsBalanced (control s.commands front) t (held_from s.commands t first_control [] front)
 balance_at s front rest h t = balanced_along s.commands first_control t [] front (are_said s front rest h) first_sound (first_balanced t)
 
@@ -196,7 +197,9 @@ same_bools true b f g = sym (f refl)
 same_bools false true f g = g refl
 same_bools false false f g = refl
 
-pub balance : HasBalance
+pub balance : (s : Setting) (front rest : List Entry) → IsStrict s (front ++ rest) → (t : ℕ) (x : ThreadState) (h : IsPart s.program (plans s) (own s front t x)) (k c : ℕ)
+    → is_installed (control s.commands front) k ≡ true
+    → holds (led s.program (plans s) (own s front t x) h.steps).held k c ≡ is_held_by (control s.commands front) k c t
 balance s front rest h t x part k c i =
     let hs : List (ℕ × ℕ) = held_from s.commands t first_control [] front in
     let b : IsBalanced (control s.commands front) t hs = balance_at s front rest h t in
@@ -205,56 +208,25 @@ balance s front rest h t x part k c i =
 
 -- Filters are obeyed
 
-inside_holder : (s : Setting) (front rest : List Entry) → IsLawful s (front ++ rest) → (t : ℕ) (x : Spawned) (k c : ℕ) → is_installed (control s.commands front) k ≡ true
+inside_holder : (s : Setting) (front rest : List Entry) → IsStrict s (front ++ rest) → (t : ℕ) (x : ThreadState) (k c : ℕ) → is_installed (control s.commands front) k ≡ true
     → IsInside s.program (plans s) (own s front t x) k c → is_held_by (control s.commands front) k c t ≡ true
 inside_holder s front rest h t x k c i inside =
     sym (balance s front rest h t x inside.part k c i) ∙ inside_is_held s.program (plans s) (own s front t x) k c inside
 
-pub exclusion : HasExclusion
+pub exclusion : (s : Setting) (front rest : List Entry) → IsStrict s (front ++ rest) → (k c t u : ℕ) (x y : ThreadState) → is_installed (control s.commands front) k ≡ true
+    → IsInside s.program (plans s) (own s front t x) k c → IsInside s.program (plans s) (own s front u y) k c → t ≡ u
 exclusion s front rest h k c t u x y i a b =
     let sound : IsSound (control s.commands front) = sound_along s.commands first_control front (are_said s front rest h) first_sound in
     sound.one k c t u (inside_holder s front rest h t x k c i a) (inside_holder s front rest h u y k c i b)
 
-exclusion_if : (s : Setting) (front rest : List Entry) → IsLawful s (front ++ rest) → (k c t u : ℕ) (x y : Option Spawned) → is_installed (control s.commands front) k ≡ true
+exclusion_if : (s : Setting) (front rest : List Entry) → IsStrict s (front ++ rest) → (k c t u : ℕ) (x y : Option ThreadState) → is_installed (control s.commands front) k ≡ true
     → IsInsideIf s front t x k c → IsInsideIf s front u y k c → t ≡ u
 exclusion_if s front rest h k c t u None y i a b = absurd a
 exclusion_if s front rest h k c t u (Some x) None i a b = absurd b
 exclusion_if s front rest h k c t u (Some x) (Some y) i a b = exclusion s front rest h k c t u x y i a b
 
-same_thread : (P : ℕ → Type 0) (t u : ℕ) → Some t ≡ Some u → P t → P u
-same_thread P t u h p = let same : t ≡ u = cc in subst P same p
-
 pub stands_moves : (s : Setting) (f : Front) (x : Entry) (rest : List Entry) (u : ℕ) → Stands s f x rest → thread_of x ≡ Some u → MayMove s f u x
-stands_moves s f (e.Begin t l) rest u h is = same_thread (λ y. MayMove s f y (e.Begin t l)) t u is h.0
-stands_moves s f (e.End t l) rest u h is = same_thread (λ y. MayMove s f y (e.End t l)) t u is h.0
-stands_moves s f (e.Trap t l r) rest u h is = same_thread (λ y. MayMove s f y (e.Trap t l r)) t u is h
-stands_moves s f (e.Read t l x v) rest u h is = same_thread (λ y. MayMove s f y (e.Read t l x v)) t u is h
-stands_moves s f (e.Write t l x v) rest u h is = same_thread (λ y. MayMove s f y (e.Write t l x v)) t u is h
-stands_moves s f (e.Lock t l m) rest u h is = same_thread (λ y. MayMove s f y (e.Lock t l m)) t u is h
-stands_moves s f (e.Unlock t l m) rest u h is = same_thread (λ y. MayMove s f y (e.Unlock t l m)) t u is h
-stands_moves s f (e.Down t l x) rest u h is = same_thread (λ y. MayMove s f y (e.Down t l x)) t u is h
-stands_moves s f (e.Up t l x) rest u h is = same_thread (λ y. MayMove s f y (e.Up t l x)) t u is h
-stands_moves s f (e.Spawn t l c g vs) rest u h is = same_thread (λ y. MayMove s f y (e.Spawn t l c g vs)) t u is h
-stands_moves s f (e.Join t l c) rest u h is = same_thread (λ y. MayMove s f y (e.Join t l c)) t u is h
-stands_moves s f (e.Print t l v) rest u h is = same_thread (λ y. MayMove s f y (e.Print t l v)) t u is h
-stands_moves s f (e.Tick t l x) rest u h is = same_thread (λ y. MayMove s f y (e.Tick t l x)) t u is h
-stands_moves s f (e.Blocked t l x) rest u h is = same_thread (λ y. MayMove s f y (e.Blocked t l x)) t u is h.0
-stands_moves s f (e.At t l k ns) rest u h is = same_thread (λ y. MayMove s f y (e.At t l k ns)) t u is h.0
-stands_moves s f (e.Past t l k ns) rest u h is = same_thread (λ y. MayMove s f y (e.Past t l k ns)) t u is h.0
-stands_moves s f (e.Back t l) rest u h is = same_thread (λ y. MayMove s f y (e.Back t l)) t u is h
-stands_moves s f (e.Enter t l k c) rest u h is = same_thread (λ y. MayMove s f y (e.Enter t l k c)) t u is h.0
-stands_moves s f (e.Leave t l k c) rest u h is = same_thread (λ y. MayMove s f y (e.Leave t l k c)) t u is h.0
-stands_moves s f (e.Post t l k n) rest u h is = same_thread (λ y. MayMove s f y (e.Post t l k n)) t u is h.0
-stands_moves s f (e.Wait t l k n) rest u h is = same_thread (λ y. MayMove s f y (e.Wait t l k n)) t u is h.0
-stands_moves s f (e.Cross t l x v n) rest u h is = same_thread (λ y. MayMove s f y (e.Cross t l x v n)) t u is h.0
-stands_moves s f (e.Asked k) rest u h is = cc
-stands_moves s f (e.Refused k n m) rest u h is = cc
-stands_moves s f (e.Installed k v ps) rest u h is = cc
-stands_moves s f (e.Removed k v ps) rest u h is = cc
-stands_moves s f (e.Stalled k t l) rest u h is = cc
-stands_moves s f (e.Cut k) rest u h is = cc
-stands_moves s f (e.Unreached k) rest u h is = cc
-stands_moves s f (e.Finish k) rest u h is = cc
+stands_moves s f x rest u h is = let both : StandsBy s f x rest (Some u) = subst (StandsBy s f x rest) is h in both.0
 
 same_number : (t u : ℕ) → (t == u) ≡ true → t ≡ u
 same_number t u h = grind arith
@@ -263,7 +235,7 @@ by_test : (b : Bool) (P : Type 0) → (b ≡ true → P) → (b ≡ false → P)
 by_test true P f g = f refl
 by_test false P f g = g refl
 
-alone_if : (s : Setting) (f : Front) (rest : List Entry) → IsLawful s (f.entries ++ rest) → f.control ≡ control s.commands f.entries → (k c t u : ℕ) (x : Option Spawned)
+alone_if : (s : Setting) (f : Front) (rest : List Entry) → IsStrict s (f.entries ++ rest) → f.control ≡ control s.commands f.entries → (k c t u : ℕ) (x : Option ThreadState)
     → is_installed f.control k ≡ true → is_alone (plans s k) c ≡ true → IsInsideIf s f.entries t x k c → (IsHeldOff s f u → ⊥) → t ≡ u
 alone_if s f rest h same k c t u None i alone a free = absurd a
 alone_if s f rest h same k c t u (Some x) i alone a free =
@@ -279,10 +251,11 @@ alone_if s f rest h same k c t u (Some x) i alone a free =
       };
     })))
 
-pub always_obeyed : IsAlwaysObeyed
+pub always_obeyed : (s : Setting) (es : List Entry) (h : IsStrict s es) (front : List Entry) (x : Entry) (rest : List Entry) → es ≡ front ++ x ∷ rest
+    → IsObeyed s (front_at s h.events front) x
 always_obeyed s es h front x rest is =
-    let f : Front = front_of s front (take (length (targets front)) h.events) in
-    let g : IsLawful s (front ++ x ∷ rest) = subst (IsLawful s) is h in
+    let f : Front = front_at s h.events front in
+    let g : IsStrict s (front ++ x ∷ rest) = subst (IsStrict s) is h in
     record {
       one = λ k c t u i a b. exclusion_if s front (x ∷ rest) g k c t u (thread_at f.store t) (thread_at f.store u) i a b;
       alone = λ k c t u i alone a mover.

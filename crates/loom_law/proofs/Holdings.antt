@@ -3,8 +3,8 @@ use Rattle.std.proofs.Common.{ℕ, ◌≡◌, ◌==◌, ◌⊎◌, inl, inr, Boo
 use Rattle.std.specs.List.{filter, list_any}
 use Rattle.std.proofs.lemmas.Bool.{and_parts}
 use Rattle.loom_lang.specs.Trace.{Locals}
-use Rattle.loom_law.specs.Filter.{Site, Range, Ruling, Plan, matching, share, entries_of, ranges_of, clauses, waits, posts}
-use Rattle.loom_law.specs.Walk.{Plans, Op, enters, at, past, leave, back, Inside, Frame, Owed, holds, begins_in, owed_waits, owed_enters, owed_by, owed_at, is_among, all_inside, is_left_with, completed, in_frame, owed_posts, owed_leaves, events_of, owed_past, owed_behind, all_leaves, with_back, entered_ranges, entered_regions, without_clause, without_first, Owes}
+use Rattle.loom_law.specs.Filter.{Site, Range, Ruling, Plan, matching, share, entry_events, ranges_of, clauses, waits, posts}
+use Rattle.loom_law.specs.Walk.{Plans, Operation, enters, at, past, leave, back, Inside, OpenFrame, Queue, holds, begins_in, owed_waits, owed_enters, owed_by, owed_at, is_among, all_inside, is_left_with, completed, in_frame, owed_posts, owed_leaves, events_of, owed_past, owed_behind, all_leaves, with_back, entered_ranges, entered_regions, without_clause, without_first, Owes}
 
 -- Bool
 
@@ -59,7 +59,7 @@ all_more hs hs' iss lv s h = (each_more hs hs' iss s h.0, λ k c m. s k c (h.1 k
 
 -- What the operations do to this
 
-abbrev pub op_held : Op → List (ℕ × ℕ) → List (ℕ × ℕ)
+abbrev pub op_held : Operation → List (ℕ × ℕ) → List (ℕ × ℕ)
 op_held (enters k c) hs = (k, c) ∷ hs
 op_held (leave k c) hs = without_clause k c hs
 op_held _ hs = hs
@@ -68,12 +68,12 @@ abbrev pub in_first : (List Inside → List Inside) → List (List Inside) → L
 in_first f [] = []
 in_first f (is ∷ iss) = f is ∷ iss
 
-abbrev pub op_inside : Plans → Op → List (List Inside) → List (List Inside)
+abbrev pub op_inside : Plans → Operation → List (List Inside) → List (List Inside)
 op_inside plans (at k ns) iss = in_first (λ is. entered_regions (plans k) k ns ++ is) iss
 op_inside plans (past k ns) iss = in_first (λ is. filter (λ (i : Inside). not (is_left_with k ns i)) is) iss
 op_inside plans _ iss = iss
 
-abbrev pub op_leaving : Op → List Inside → List Inside
+abbrev pub op_leaving : Operation → List Inside → List Inside
 op_leaving back lv = []
 op_leaving _ lv = lv
 
@@ -83,45 +83,45 @@ Covers hs k ns [] = Unit {0}
 Covers hs k ns (c ∷ cs) = (begins_in c.1 ns ≡ true → holds hs k c.0 ≡ true) × Covers hs k ns cs
 
 -- events begin where each clause that begins with them is held
-abbrev pub Needs : Plans → Op → List (ℕ × ℕ) → Type 0
+abbrev pub Needs : Plans → Operation → List (ℕ × ℕ) → Type 0
 Needs plans (at k ns) hs = Covers hs k ns (clauses (plans k))
 Needs plans _ hs = Unit {0}
 
 -- all is held now, and behind each operation that is owed
-abbrev pub Safe : Plans → List (ℕ × ℕ) → List (List Inside) → List Inside → Owed → Type 0
+abbrev pub Safe : Plans → List (ℕ × ℕ) → List (List Inside) → List Inside → Queue → Type 0
 Safe plans hs iss lv [] = AllHeld hs iss lv
 Safe plans hs iss lv (x ∷ os) = AllHeld hs iss lv × Needs plans x.1 hs × Safe plans (op_held x.1 hs) (op_inside plans x.1 iss) (op_leaving x.1 lv) os
 
-pub safe_now : (plans : Plans) (hs : List (ℕ × ℕ)) (iss : List (List Inside)) (lv : List Inside) (os : Owed) → Safe plans hs iss lv os → AllHeld hs iss lv
+pub safe_now : (plans : Plans) (hs : List (ℕ × ℕ)) (iss : List (List Inside)) (lv : List Inside) (os : Queue) → Safe plans hs iss lv os → AllHeld hs iss lv
 safe_now plans hs iss lv [] h = h
 safe_now plans hs iss lv (x ∷ os) h = h.0
 
-pub safe_op : (plans : Plans) (hs : List (ℕ × ℕ)) (iss : List (List Inside)) (lv : List Inside) (os : Owed) (l : ℕ) (o : Op) → Owes os l o
+pub safe_op : (plans : Plans) (hs : List (ℕ × ℕ)) (iss : List (List Inside)) (lv : List Inside) (os : Queue) (l : ℕ) (o : Operation) → Owes os l o
     → Safe plans hs iss lv os → Safe plans (op_held o hs) (op_inside plans o iss) (op_leaving o lv) (without_first os)
 safe_op plans hs iss lv [] l o is h = absurd is
 safe_op plans hs iss lv (x ∷ os) l o is h =
-    let P : Op → Type 0 = λ q. Safe plans (op_held q hs) (op_inside plans q iss) (op_leaving q lv) os in
-    let same : x.1 ≡ o = ap (λ (q : ℕ × Op). q.1) is in
+    let P : Operation → Type 0 = λ q. Safe plans (op_held q hs) (op_inside plans q iss) (op_leaving q lv) os in
+    let same : x.1 ≡ o = ap (λ (q : ℕ × Operation). q.1) is in
     subst P same h.2
 
-pub safe_needs : (plans : Plans) (hs : List (ℕ × ℕ)) (iss : List (List Inside)) (lv : List Inside) (os : Owed) (l : ℕ) (o : Op) → Owes os l o
+pub safe_needs : (plans : Plans) (hs : List (ℕ × ℕ)) (iss : List (List Inside)) (lv : List Inside) (os : Queue) (l : ℕ) (o : Operation) → Owes os l o
     → Safe plans hs iss lv os → Needs plans o hs
 safe_needs plans hs iss lv [] l o is h = absurd is
 safe_needs plans hs iss lv (x ∷ os) l o is h =
-    let P : Op → Type 0 = λ q. Needs plans q hs in
-    let same : x.1 ≡ o = ap (λ (q : ℕ × Op). q.1) is in
+    let P : Operation → Type 0 = λ q. Needs plans q hs in
+    let same : x.1 ≡ o = ap (λ (q : ℕ × Operation). q.1) is in
     subst P same h.1
 
 -- Waits and posts change nothing
 
-pub waits_safe : (plans : Plans) (hs : List (ℕ × ℕ)) (iss : List (List Inside)) (lv : List Inside) (f : Plan) (k l : ℕ) (ns : List ℕ) (more : Owed)
+pub waits_safe : (plans : Plans) (hs : List (ℕ × ℕ)) (iss : List (List Inside)) (lv : List Inside) (f : Plan) (k l : ℕ) (ns : List ℕ) (more : Queue)
     → Safe plans hs iss lv more → Safe plans hs iss lv (owed_waits f k l ns more)
 waits_safe plans hs iss lv f k l [] more h = h
 waits_safe plans hs iss lv f k l (n ∷ ns) more h =
     let ih : Safe plans hs iss lv (owed_waits f k l ns more) = waits_safe plans hs iss lv f k l ns more h in
     pick (Safe plans hs iss lv) (waits f n) _ _ (λ b. (safe_now plans hs iss lv _ ih, tt, ih)) (λ b. ih)
 
-pub posts_safe : (plans : Plans) (hs : List (ℕ × ℕ)) (iss : List (List Inside)) (lv : List Inside) (f : Plan) (k l : ℕ) (ns : List ℕ) (more : Owed)
+pub posts_safe : (plans : Plans) (hs : List (ℕ × ℕ)) (iss : List (List Inside)) (lv : List Inside) (f : Plan) (k l : ℕ) (ns : List ℕ) (more : Queue)
     → Safe plans hs iss lv more → Safe plans hs iss lv (owed_posts f k l ns more)
 posts_safe plans hs iss lv f k l [] more h = h
 posts_safe plans hs iss lv f k l (n ∷ ns) more h =
@@ -144,7 +144,7 @@ and_not true true h g = refl
 and_not true false h g = cc
 and_not false b h g = cc
 
-pub enters_safe : (plans : Plans) (hs0 hs : List (ℕ × ℕ)) (iss : List (List Inside)) (lv : List Inside) (k l : ℕ) (ns : List ℕ) (cs : List (ℕ × Ruling)) (more : Owed)
+pub enters_safe : (plans : Plans) (hs0 hs : List (ℕ × ℕ)) (iss : List (List Inside)) (lv : List Inside) (k l : ℕ) (ns : List ℕ) (cs : List (ℕ × Ruling)) (more : Queue)
     → ((hs' : List (ℕ × ℕ)) → Sub hs hs' → AllHeld hs' iss lv → Covers hs' k ns cs → Safe plans hs' iss lv more)
     → AllHeld hs iss lv → Sub hs0 hs → Safe plans hs iss lv (owed_enters hs0 k l ns cs more)
 enters_safe plans hs0 hs iss lv k l ns [] more go h s = go hs (λ j d m. m) h tt
@@ -194,21 +194,21 @@ held_append hs a b h g k c m = by_part (among_append a b k c m)
 
 -- the clause of regions that are entered begins, and has their filter and number
 abbrev pub Entered : ℕ → List ℕ → ℕ → List Range → ℕ → ℕ → Type 0
-Entered k ns c rs j d = (list_any (λ (x : Range). share (entries_of x) ns) rs ≡ true) × ((k ≡ j) × (c ≡ d))
+Entered k ns c rs j d = (list_any (λ (x : Range). share (entry_events x) ns) rs ≡ true) × ((k ≡ j) × (c ≡ d))
 
 later_entered : (k : ℕ) (ns : List ℕ) (c : ℕ) (x : Range) (xs : List Range) (j d : ℕ) → Entered k ns c xs j d → Entered k ns c (x ∷ xs) j d
-later_entered k ns c x xs j d r = (or_right (share (entries_of x) ns) (list_any (λ (y : Range). share (entries_of y) ns) xs) r.0, r.1)
+later_entered k ns c x xs j d r = (or_right (share (entry_events x) ns) (list_any (λ (y : Range). share (entry_events y) ns) xs) r.0, r.1)
 
-first_entered : (k : ℕ) (ns : List ℕ) (c : ℕ) (x : Range) (xs : List Range) (j d : ℕ) → share (entries_of x) ns ≡ true → ((k == j) && (c == d)) ≡ true
+first_entered : (k : ℕ) (ns : List ℕ) (c : ℕ) (x : Range) (xs : List Range) (j d : ℕ) → share (entry_events x) ns ≡ true → ((k == j) && (c == d)) ≡ true
     → Entered k ns c (x ∷ xs) j d
 first_entered k ns c x xs j d b m =
     let parts = and_parts (k == j) (c == d) m in
-    (or_left (share (entries_of x) ns) (list_any (λ (y : Range). share (entries_of y) ns) xs) b, (same_number k j parts.0, same_number c d parts.1))
+    (or_left (share (entry_events x) ns) (list_any (λ (y : Range). share (entry_events y) ns) xs) b, (same_number k j parts.0, same_number c d parts.1))
 
 ranges_among : (k : ℕ) (ns : List ℕ) (c : ℕ) (rs : List Range) (j d : ℕ) → is_among (entered_ranges k ns c rs) j d ≡ true → Entered k ns c rs j d
 ranges_among k ns c [] j d h = cc
 ranges_among k ns c (x ∷ xs) j d h =
-    pick (λ is. is_among is j d ≡ true → Entered k ns c (x ∷ xs) j d) (share (entries_of x) ns)
+    pick (λ is. is_among is j d ≡ true → Entered k ns c (x ∷ xs) j d) (share (entry_events x) ns)
     (record { filter = k; clause = c; range = x } ∷ entered_ranges k ns c xs) (entered_ranges k ns c xs)
     (λ b m. either_of (or_cases ((k == j) && (c == d)) (is_among (entered_ranges k ns c xs) j d) m) (λ n. first_entered k ns c x xs j d b n)
     (λ n. later_entered k ns c x xs j d (ranges_among k ns c xs j d n)))
@@ -233,7 +233,7 @@ at_held : (plans : Plans) (hs : List (ℕ × ℕ)) (iss : List (List Inside)) (l
 at_held plans hs [] lv k ns cov h = h
 at_held plans hs (is ∷ iss) lv k ns cov h = ((held_append hs (entered_regions (plans k) k ns) is (regions_held hs k ns (clauses (plans k)) cov) h.0.0, h.0.1), h.1)
 
-pub by_safe : (plans : Plans) (hs0 hs : List (ℕ × ℕ)) (iss : List (List Inside)) (lv : List Inside) (k l : ℕ) (ns : List ℕ) (more : Owed)
+pub by_safe : (plans : Plans) (hs0 hs : List (ℕ × ℕ)) (iss : List (List Inside)) (lv : List Inside) (k l : ℕ) (ns : List ℕ) (more : Queue)
     → ((hs' : List (ℕ × ℕ)) (iss' : List (List Inside)) → Sub hs hs' → AllHeld hs' iss' lv → Safe plans hs' iss' lv more)
     → AllHeld hs iss lv → Sub hs0 hs → Safe plans hs iss lv (owed_by (plans k) k hs0 l ns more)
 by_safe plans hs0 hs iss lv k l [] more go h s = go hs iss (λ j d m. m) h
@@ -303,7 +303,7 @@ not_true true h = cc
 not_true false h = refl
 
 pub leaves_safe : (plans : Plans) (hs0 : List (ℕ × ℕ)) (is : List Inside) (hs : List (ℕ × ℕ)) (iss : List (List Inside)) (lv : List Inside) (k l : ℕ)
-    (cs : List (ℕ × Ruling)) (more : Owed) → ((hs' : List (ℕ × ℕ)) → AllHeld hs' iss lv → Safe plans hs' iss lv more) → AllHeld hs iss lv
+    (cs : List (ℕ × Ruling)) (more : Queue) → ((hs' : List (ℕ × ℕ)) → AllHeld hs' iss lv → Safe plans hs' iss lv more) → AllHeld hs iss lv
     → WithinEach is iss → Within is lv → Safe plans hs iss lv (owed_leaves hs0 is k l cs more)
 leaves_safe plans hs0 is hs iss lv k l [] more go h w v = go hs h
 leaves_safe plans hs0 is hs iss lv k l (c ∷ cs) more go h w v =
@@ -323,7 +323,7 @@ all_leaves_safe plans hs0 is hs iss lv l [] h w v = h
 all_leaves_safe plans hs0 is hs iss lv l (k ∷ ks) h w v =
     leaves_safe plans hs0 is hs iss lv k l (clauses (plans k)) (all_leaves plans hs0 is l ks) (λ hs' all. all_leaves_safe plans hs0 is hs' iss lv l ks all w v) h w v
 
-pub back_safe : (plans : Plans) (hs : List (ℕ × ℕ)) (iss : List (List Inside)) (lv : List Inside) (l : ℕ) (os : Owed) → AllHeld hs iss lv → Safe plans hs iss [] os
+pub back_safe : (plans : Plans) (hs : List (ℕ × ℕ)) (iss : List (List Inside)) (lv : List Inside) (l : ℕ) (os : Queue) → AllHeld hs iss lv → Safe plans hs iss [] os
     → Safe plans hs iss lv (with_back l os)
 back_safe plans hs iss lv l [] h g = h
 back_safe plans hs iss lv l (o ∷ os) h g = (h, tt, g)
@@ -334,7 +334,7 @@ back_safe plans hs iss lv l (o ∷ os) h g = (h, tt, g)
 abbrev pub Under : List Inside → List Inside → Type 0
 Under a b = (q : Inside → Bool) → list_any q a ≡ true → list_any q b ≡ true
 
-abbrev pub UnderEach : List (List Inside) → List Frame → Type 0
+abbrev pub UnderEach : List (List Inside) → List OpenFrame → Type 0
 UnderEach [] fs = Unit {0}
 UnderEach (a ∷ iss) [] = ⊥
 UnderEach (a ∷ iss) (x ∷ xs) = Under a x.inside × UnderEach iss xs
@@ -370,7 +370,7 @@ held_first : (hs : List (ℕ × ℕ)) (r : Inside → Bool) (iss : List (List In
 held_first hs r [] h = h
 held_first hs r (is ∷ iss) h = (held_filter hs r is h.0, h.1)
 
-pub within_frames : (is : List Inside) (iss : List (List Inside)) (fs : List Frame) → Within is (all_inside fs) → UnderEach iss fs → WithinEach is iss
+pub within_frames : (is : List Inside) (iss : List (List Inside)) (fs : List OpenFrame) → Within is (all_inside fs) → UnderEach iss fs → WithinEach is iss
 within_frames is [] fs w u = tt
 within_frames is (a ∷ iss) [] w u = absurd u
 within_frames is (a ∷ iss) (x ∷ xs) w u = (
@@ -381,19 +381,19 @@ within_frames is (a ∷ iss) (x ∷ xs) w u = (
 abbrev pub stays : ℕ → List ℕ → Inside → Bool
 stays k ns i = not (is_left_with k ns i)
 
-under_completed : (k : ℕ) (ns : List ℕ) (iss : List (List Inside)) (fs : List Frame) → UnderEach iss fs
+under_completed : (k : ℕ) (ns : List ℕ) (iss : List (List Inside)) (fs : List OpenFrame) → UnderEach iss fs
     → UnderEach (in_first (λ is. filter (stays k ns) is) iss) (in_frame (completed k ns) fs)
 under_completed k ns [] fs u = tt
 under_completed k ns (a ∷ iss) [] u = absurd u
 under_completed k ns (a ∷ iss) (x ∷ xs) u = (under_filter (stays k ns) a x.inside u.0, u.1)
 
-under_still : (k : ℕ) (ns : List ℕ) (iss : List (List Inside)) (fs : List Frame) → UnderEach iss fs
+under_still : (k : ℕ) (ns : List ℕ) (iss : List (List Inside)) (fs : List OpenFrame) → UnderEach iss fs
     → UnderEach (in_first (λ is. filter (stays k ns) is) iss) fs
 under_still k ns [] fs u = tt
 under_still k ns (a ∷ iss) [] u = absurd u
 under_still k ns (a ∷ iss) (x ∷ xs) u = (filter_under (stays k ns) a x.inside u.0, u.1)
 
-pub past_safe : (plans : Plans) (hs0 hs : List (ℕ × ℕ)) (iss : List (List Inside)) (fs : List Frame) (k l : ℕ) (ns : List ℕ) (more : Owed)
+pub past_safe : (plans : Plans) (hs0 hs : List (ℕ × ℕ)) (iss : List (List Inside)) (fs : List OpenFrame) (k l : ℕ) (ns : List ℕ) (more : Queue)
     → ((hs' : List (ℕ × ℕ)) (iss' : List (List Inside)) → AllHeld hs' iss' [] → UnderEach iss' fs → Safe plans hs' iss' [] more)
     → AllHeld hs iss [] → UnderEach iss fs → Safe plans hs iss [] (owed_past (plans k) k hs0 fs l ns more)
 past_safe plans hs0 hs iss fs k l [] more go h u = go hs iss h u
@@ -408,7 +408,7 @@ past_safe plans hs0 hs iss fs k l (n ∷ ns) more go h u =
           (within_frames js iss1 (in_frame (completed k (n ∷ ns)) fs) (λ j d m. m) (under_completed k (n ∷ ns) iss fs u)) (λ j d m. cc)),
     )
 
-pub behind_safe : (plans : Plans) (hs0 hs : List (ℕ × ℕ)) (iss : List (List Inside)) (fs : List Frame) (l : ℕ) (xs : List (ℕ × List ℕ)) (ks : List ℕ)
+pub behind_safe : (plans : Plans) (hs0 hs : List (ℕ × ℕ)) (iss : List (List Inside)) (fs : List OpenFrame) (l : ℕ) (xs : List (ℕ × List ℕ)) (ks : List ℕ)
     → AllHeld hs iss [] → UnderEach iss fs → Safe plans hs iss [] (owed_behind plans hs0 fs l xs ks)
 behind_safe plans hs0 hs iss fs l xs [] h u = h
 behind_safe plans hs0 hs iss fs l xs (k ∷ ks) h u =

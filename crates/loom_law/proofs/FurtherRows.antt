@@ -8,9 +8,11 @@ use Rattle.loom_tree.specs.Tree.{num, var, cell, neg, inverse, bin, Right, Simpl
 use Rattle.loom_tree.specs.Tree as tree
 use Rattle.loom_lang.specs.Trace.{division, begin, end, trap, read, write, lock, unlock, down, up, spawn, join, print, made, begins, done, edge, enter, out, Finished}
 use Rattle.loom_event.proofs.Runs.{next, given}
-use Rattle.loom_law.specs.Filter.{Region, Clause, plan_of}
+use Rattle.loom_command.specs.Filter.{Region, Clause}
+use Rattle.loom_law.specs.Filter.{plan_of}
 use Rattle.loom_law.specs.Walk.{wait, enters, past, post, leave, back, tick, cross, blocked, Step, goes, makes, told, unborn, AreWoven}
 use Rattle.loom_law.specs.Walk as walk
+use Rattle.loom_command.specs.Script as script
 use Rattle.loom_law.specs.Control.{stall, refused, means, install, remove, Command, plans_of}
 use Rattle.loom_law.specs.Control as control
 use Rattle.loom_law.specs.Part.{Own, IsPart}
@@ -46,7 +48,7 @@ abbrev pub program_r7 : Source
 program_r7 = record { words = []; mutexes = ((codes "m") ∷ []); semas = []; funcs = (record { name = (codes "w"); line = 2; params = []; body = (simple 3 (tree.lock (codes "m")) tree.end) } ∷ record { name = (codes "main"); line = 5; params = []; body = (simple 6 (tree.lock (codes "m")) (simple 7 (let_ (codes "t") (Right.spawn (codes "w") [])) (simple 8 (tree.print (num (pos 1))) (simple 9 (tree.print (num (pos 2))) (simple 10 (tree.unlock (codes "m")) (simple 11 (tree.join (var (codes "t"))) tree.end)))))) } ∷ []) }
 
 abbrev pub commands_r7 : List Command
-commands_r7 = (record { trigger = control.at 0; name = (codes "u"); action = install (means (plan_of program_r7 ((Clause.unilateral (Region.whole (codes "w") None)) ∷ []))) } ∷ record { trigger = stall; name = (codes "u"); action = remove } ∷ [])
+commands_r7 = (record { trigger = script.at 0; name = (codes "u"); action = install (means (plan_of program_r7 ((Clause.unilateral (Region.whole (codes "w") None)) ∷ []))) } ∷ record { trigger = stall; name = (codes "u"); action = remove } ∷ [])
 
 abbrev pub own_r7_1 : Own
 own_r7_1 = record { thread = 1; func = 1; args = []; versions = (record { number = 1; active = (1 ∷ []) } ∷ record { number = 2; active = [] } ∷ []); entries = (e.Begin 1 5 ∷ e.Lock 1 6 0 ∷ e.Spawn 1 7 2 0 [] ∷ e.Print 1 8 (pos 1) ∷ e.Cross 1 9 8 2 0 ∷ e.Print 1 9 (pos 2) ∷ e.Unlock 1 10 0 ∷ e.Blocked 1 11 (w.Join 2) ∷ e.Join 1 11 2 ∷ e.End 1 5 ∷ []) }
@@ -160,7 +162,7 @@ abbrev pub program_r8 : Source
 program_r8 = record { words = (record { name = (codes "x"); cells = None; first = (pos 0) } ∷ []); mutexes = []; semas = []; funcs = (record { name = (codes "f"); line = 2; params = []; body = (simple 3 (set (codes "x") (Right.value (bin o.Add (var (codes "x")) (num (pos 1))))) tree.end) } ∷ record { name = (codes "w"); line = 5; params = []; body = (simple 6 (Simple.call (codes "f") []) tree.end) } ∷ record { name = (codes "main"); line = 8; params = []; body = (simple 9 (let_ (codes "t") (Right.spawn (codes "w") [])) (simple 10 (Simple.call (codes "f") []) (simple 11 (let_ (codes "i") (Right.value (num (pos 0)))) (while_ 12 (bin o.Lt (var (codes "i")) (num (pos 2))) (simple 13 (set (codes "i") (Right.value (bin o.Add (var (codes "i")) (num (pos 1))))) tree.end) (simple 15 (tree.join (var (codes "t"))) tree.end))))) } ∷ []) }
 
 abbrev pub commands_r8 : List Command
-commands_r8 = (record { trigger = control.at 0; name = (codes "a"); action = install (means (plan_of program_r8 ((Clause.exclusive ((Region.whole (codes "f") None) ∷ [])) ∷ []))) } ∷ record { trigger = control.at 7; name = (codes "b"); action = install (refused 2 2) } ∷ record { trigger = control.at 7; name = (codes "c"); action = install (means (plan_of program_r8 ((Clause.unilateral (Region.whole (codes "f") None)) ∷ []))) } ∷ [])
+commands_r8 = (record { trigger = script.at 0; name = (codes "a"); action = install (means (plan_of program_r8 ((Clause.exclusive ((Region.whole (codes "f") None) ∷ [])) ∷ []))) } ∷ record { trigger = script.at 7; name = (codes "b"); action = install (refused 2 2) } ∷ record { trigger = script.at 7; name = (codes "c"); action = install (means (plan_of program_r8 ((Clause.unilateral (Region.whole (codes "f") None)) ∷ []))) } ∷ [])
 
 abbrev pub own_r8_1 : Own
 own_r8_1 = record { thread = 1; func = 2; args = []; versions = (record { number = 1; active = (1 ∷ []) } ∷ record { number = 2; active = (1 ∷ 3 ∷ []) } ∷ []); entries = (e.Begin 1 8 ∷ e.Spawn 1 9 2 1 [] ∷ e.Enter 1 2 1 1 ∷ e.At 1 2 1 (1 ∷ []) ∷ e.Read 1 3 0 (pos 0) ∷ e.Write 1 3 0 (pos 1) ∷ e.Back 1 2 ∷ e.Leave 1 2 1 1 ∷ e.Cross 1 12 12 2 0 ∷ e.Blocked 1 15 (w.Join 2) ∷ e.Join 1 15 2 ∷ e.End 1 8 ∷ []) }
@@ -297,7 +299,7 @@ abbrev pub program_r9 : Source
 program_r9 = record { words = []; mutexes = []; semas = (record { name = (codes "s"); first = 0 } ∷ []); funcs = (record { name = (codes "w"); line = 2; params = []; body = (simple 3 (tree.down (codes "s")) (simple 4 (tree.print (num (pos 1))) tree.end)) } ∷ record { name = (codes "main"); line = 6; params = []; body = (simple 7 (let_ (codes "t") (Right.spawn (codes "w") [])) (simple 8 (let_ (codes "i") (Right.value (num (pos 0)))) (while_ 9 (bin o.Lt (var (codes "i")) (num (pos 6))) (simple 10 (tree.print (var (codes "i"))) (simple 11 (set (codes "i") (Right.value (bin o.Add (var (codes "i")) (num (pos 1))))) tree.end)) (simple 13 (tree.up (codes "s")) (simple 14 (tree.join (var (codes "t"))) tree.end))))) } ∷ []) }
 
 abbrev pub commands_r9 : List Command
-commands_r9 = (record { trigger = control.at 0; name = (codes "a"); action = install (means (plan_of program_r9 ((Clause.exclusive ((Region.between (record { file = (codes "e.lm"); line = 3; test = None } ∷ []) (record { file = (codes "e.lm"); line = 4; test = None } ∷ [])) ∷ [])) ∷ (Clause.order (record { event = record { file = (codes "e.lm"); line = 3; test = None }; count = 1 } ∷ record { event = record { file = (codes "e.lm"); line = 10; test = None }; count = 1 } ∷ [])) ∷ []))) } ∷ record { trigger = stall; name = (codes "a"); action = remove } ∷ [])
+commands_r9 = (record { trigger = script.at 0; name = (codes "a"); action = install (means (plan_of program_r9 ((Clause.exclusive ((Region.between (record { file = (codes "e.lm"); line = 3; test = None } ∷ []) (record { file = (codes "e.lm"); line = 4; test = None } ∷ [])) ∷ [])) ∷ (Clause.order (record { event = record { file = (codes "e.lm"); line = 3; test = None }; count = 1 } ∷ record { event = record { file = (codes "e.lm"); line = 10; test = None }; count = 1 } ∷ [])) ∷ []))) } ∷ record { trigger = stall; name = (codes "a"); action = remove } ∷ [])
 
 abbrev pub own_r9_1 : Own
 own_r9_1 = record { thread = 1; func = 1; args = []; versions = (record { number = 1; active = (1 ∷ []) } ∷ record { number = 2; active = [] } ∷ []); entries = (e.Begin 1 6 ∷ e.Spawn 1 7 2 0 [] ∷ e.Blocked 1 10 (w.Wait 1 4) ∷ e.Cross 1 10 10 2 0 ∷ e.Print 1 10 (pos 0) ∷ e.Print 1 10 (pos 1) ∷ e.Print 1 10 (pos 2) ∷ e.Print 1 10 (pos 3) ∷ e.Print 1 10 (pos 4) ∷ e.Print 1 10 (pos 5) ∷ e.Up 1 13 0 ∷ e.Blocked 1 14 (w.Join 2) ∷ e.Join 1 14 2 ∷ e.End 1 6 ∷ []) }
@@ -402,7 +404,7 @@ abbrev pub program_r10 : Source
 program_r10 = record { words = []; mutexes = []; semas = (record { name = (codes "s"); first = 0 } ∷ []); funcs = (record { name = (codes "w"); line = 2; params = []; body = (simple 3 (tree.down (codes "s")) tree.end) } ∷ record { name = (codes "main"); line = 5; params = []; body = (simple 6 (let_ (codes "t") (Right.spawn (codes "w") [])) (simple 7 (let_ (codes "i") (Right.value (num (pos 0)))) (while_ 8 (bin o.Lt (var (codes "i")) (num (pos 5))) (simple 9 (tree.print (var (codes "i"))) (simple 10 (set (codes "i") (Right.value (bin o.Add (var (codes "i")) (num (pos 1))))) tree.end)) (simple 12 (tree.up (codes "s")) (simple 13 (tree.join (var (codes "t"))) tree.end))))) } ∷ []) }
 
 abbrev pub commands_r10 : List Command
-commands_r10 = (record { trigger = control.at 5; name = (codes "a"); action = install (means (plan_of program_r10 ((Clause.exclusive ((Region.between (record { file = (codes "e.lm"); line = 12; test = None } ∷ []) (record { file = (codes "e.lm"); line = 12; test = None } ∷ [])) ∷ [])) ∷ []))) } ∷ [])
+commands_r10 = (record { trigger = script.at 5; name = (codes "a"); action = install (means (plan_of program_r10 ((Clause.exclusive ((Region.between (record { file = (codes "e.lm"); line = 12; test = None } ∷ []) (record { file = (codes "e.lm"); line = 12; test = None } ∷ [])) ∷ [])) ∷ []))) } ∷ [])
 
 abbrev pub own_r10_1 : Own
 own_r10_1 = record { thread = 1; func = 1; args = []; versions = (record { number = 0; active = [] } ∷ record { number = 1; active = (1 ∷ []) } ∷ []); entries = (e.Begin 1 5 ∷ e.Spawn 1 6 2 0 [] ∷ e.Print 1 9 (pos 0) ∷ e.Cross 1 8 8 1 0 ∷ e.Print 1 9 (pos 1) ∷ e.Print 1 9 (pos 2) ∷ e.Print 1 9 (pos 3) ∷ e.Print 1 9 (pos 4) ∷ e.Enter 1 12 1 1 ∷ e.At 1 12 1 (1 ∷ 2 ∷ []) ∷ e.Up 1 12 0 ∷ e.Past 1 12 1 (1 ∷ 2 ∷ []) ∷ e.Leave 1 12 1 1 ∷ e.Join 1 13 2 ∷ e.End 1 5 ∷ []) }
@@ -518,7 +520,7 @@ abbrev pub program_r11 : Source
 program_r11 = record { words = (record { name = (codes "x"); cells = None; first = (pos 0) } ∷ []); mutexes = []; semas = []; funcs = (record { name = (codes "f"); line = 2; params = []; body = (simple 3 (set (codes "x") (Right.value (num (pos 1)))) (simple 4 (tree.print (bin o.Div (num (pos 1)) (num (pos 0)))) (simple 5 (set (codes "x") (Right.value (num (pos 2)))) tree.end))) } ∷ record { name = (codes "main"); line = 7; params = []; body = (simple 8 (Simple.call (codes "f") []) tree.end) } ∷ []) }
 
 abbrev pub commands_r11 : List Command
-commands_r11 = (record { trigger = control.at 0; name = (codes "a"); action = install (means (plan_of program_r11 ((Clause.exclusive ((Region.between (record { file = (codes "e.lm"); line = 3; test = None } ∷ []) (record { file = (codes "e.lm"); line = 5; test = None } ∷ [])) ∷ [])) ∷ (Clause.exclusive ((Region.whole (codes "f") None) ∷ [])) ∷ []))) } ∷ record { trigger = control.at 0; name = (codes "b"); action = install (means (plan_of program_r11 ((Clause.unilateral (Region.between (record { file = (codes "e.lm"); line = 4; test = None } ∷ []) (record { file = (codes "e.lm"); line = 4; test = None } ∷ []))) ∷ []))) } ∷ [])
+commands_r11 = (record { trigger = script.at 0; name = (codes "a"); action = install (means (plan_of program_r11 ((Clause.exclusive ((Region.between (record { file = (codes "e.lm"); line = 3; test = None } ∷ []) (record { file = (codes "e.lm"); line = 5; test = None } ∷ [])) ∷ [])) ∷ (Clause.exclusive ((Region.whole (codes "f") None) ∷ [])) ∷ []))) } ∷ record { trigger = script.at 0; name = (codes "b"); action = install (means (plan_of program_r11 ((Clause.unilateral (Region.between (record { file = (codes "e.lm"); line = 4; test = None } ∷ []) (record { file = (codes "e.lm"); line = 4; test = None } ∷ []))) ∷ []))) } ∷ [])
 
 abbrev pub own_r11_1 : Own
 own_r11_1 = record { thread = 1; func = 1; args = []; versions = (record { number = 2; active = (1 ∷ 2 ∷ []) } ∷ []); entries = (e.Begin 1 7 ∷ e.Enter 1 2 1 2 ∷ e.At 1 2 1 (3 ∷ []) ∷ e.Enter 1 3 1 1 ∷ e.At 1 3 1 (1 ∷ []) ∷ e.Write 1 3 0 (pos 1) ∷ e.Past 1 3 1 (1 ∷ []) ∷ e.Enter 1 4 2 1 ∷ e.At 1 4 2 (1 ∷ 2 ∷ []) ∷ e.Trap 1 4 1 ∷ e.Leave 1 4 1 1 ∷ e.Leave 1 4 1 2 ∷ e.Leave 1 4 2 1 ∷ e.End 1 7 ∷ []) }
@@ -571,7 +573,7 @@ abbrev pub program_r12 : Source
 program_r12 = record { words = (record { name = (codes "x"); cells = None; first = (pos 0) } ∷ []); mutexes = []; semas = []; funcs = (record { name = (codes "f"); line = 2; params = []; body = (simple 3 (set (codes "x") (Right.value (num (pos 1)))) (simple 4 (tree.return (Some (var (codes "x")))) tree.end)) } ∷ record { name = (codes "main"); line = 6; params = []; body = (simple 7 (tree.print (num (pos 1))) (simple 8 (Simple.call (codes "f") []) tree.end)) } ∷ []) }
 
 abbrev pub commands_r12 : List Command
-commands_r12 = (record { trigger = control.at 0; name = (codes "a"); action = install (means (plan_of program_r12 ((Clause.exclusive ((Region.whole (codes "f") None) ∷ [])) ∷ (Clause.exclusive ((Region.between (record { file = (codes "e.lm"); line = 3; test = None } ∷ []) (record { file = (codes "e.lm"); line = 4; test = None } ∷ [])) ∷ [])) ∷ []))) } ∷ record { trigger = control.at 0; name = (codes "b"); action = install (means (plan_of program_r12 ((Clause.exclusive ((Region.between (record { file = (codes "e.lm"); line = 3; test = None } ∷ []) (record { file = (codes "e.lm"); line = 3; test = (Some (num (pos 0))) } ∷ [])) ∷ [])) ∷ (Clause.unilateral (Region.whole (codes "f") None)) ∷ []))) } ∷ [])
+commands_r12 = (record { trigger = script.at 0; name = (codes "a"); action = install (means (plan_of program_r12 ((Clause.exclusive ((Region.whole (codes "f") None) ∷ [])) ∷ (Clause.exclusive ((Region.between (record { file = (codes "e.lm"); line = 3; test = None } ∷ []) (record { file = (codes "e.lm"); line = 4; test = None } ∷ [])) ∷ [])) ∷ []))) } ∷ record { trigger = script.at 0; name = (codes "b"); action = install (means (plan_of program_r12 ((Clause.exclusive ((Region.between (record { file = (codes "e.lm"); line = 3; test = None } ∷ []) (record { file = (codes "e.lm"); line = 3; test = (Some (num (pos 0))) } ∷ [])) ∷ [])) ∷ (Clause.unilateral (Region.whole (codes "f") None)) ∷ []))) } ∷ [])
 
 abbrev pub own_r12_1 : Own
 own_r12_1 = record { thread = 1; func = 1; args = []; versions = (record { number = 2; active = (1 ∷ 2 ∷ []) } ∷ []); entries = (e.Begin 1 6 ∷ e.Print 1 7 (pos 1) ∷ e.Enter 1 2 1 1 ∷ e.At 1 2 1 (1 ∷ []) ∷ e.Enter 1 2 2 2 ∷ e.At 1 2 2 (3 ∷ []) ∷ e.Enter 1 3 1 2 ∷ e.At 1 3 1 (2 ∷ []) ∷ e.Enter 1 3 2 1 ∷ e.At 1 3 2 (1 ∷ []) ∷ e.Write 1 3 0 (pos 1) ∷ e.Past 1 3 1 (2 ∷ []) ∷ e.Past 1 3 2 (1 ∷ []) ∷ e.At 1 4 1 (3 ∷ []) ∷ e.Read 1 4 0 (pos 1) ∷ e.Past 1 4 1 (3 ∷ []) ∷ e.Leave 1 4 1 2 ∷ e.Back 1 2 ∷ e.Leave 1 2 1 1 ∷ e.Leave 1 2 2 1 ∷ e.Leave 1 2 2 2 ∷ e.End 1 6 ∷ []) }
@@ -615,7 +617,7 @@ abbrev pub program_r13 : Source
 program_r13 = record { words = (record { name = (codes "x"); cells = None; first = (pos 0) } ∷ []); mutexes = []; semas = []; funcs = (record { name = (codes "main"); line = 2; params = []; body = (simple 3 (set (codes "x") (Right.value (num (pos 1)))) (simple 4 (set (codes "x") (Right.value (num (pos 2)))) (simple 5 (set (codes "x") (Right.value (num (pos 3)))) tree.end))) } ∷ []) }
 
 abbrev pub commands_r13 : List Command
-commands_r13 = (record { trigger = control.at 0; name = (codes "a"); action = install (means (plan_of program_r13 ((Clause.order (record { event = record { file = (codes "e.lm"); line = 3; test = None }; count = 1 } ∷ record { event = record { file = (codes "e.lm"); line = 5; test = None }; count = 1 } ∷ [])) ∷ (Clause.exclusive ((Region.between (record { file = (codes "e.lm"); line = 4; test = None } ∷ []) (record { file = (codes "e.lm"); line = 5; test = None } ∷ [])) ∷ [])) ∷ (Clause.order (record { event = record { file = (codes "e.lm"); line = 4; test = None }; count = 1 } ∷ record { event = record { file = (codes "e.lm"); line = 5; test = None }; count = 1 } ∷ [])) ∷ (Clause.unilateral (Region.between (record { file = (codes "e.lm"); line = 5; test = None } ∷ []) (record { file = (codes "e.lm"); line = 5; test = None } ∷ []))) ∷ []))) } ∷ [])
+commands_r13 = (record { trigger = script.at 0; name = (codes "a"); action = install (means (plan_of program_r13 ((Clause.order (record { event = record { file = (codes "e.lm"); line = 3; test = None }; count = 1 } ∷ record { event = record { file = (codes "e.lm"); line = 5; test = None }; count = 1 } ∷ [])) ∷ (Clause.exclusive ((Region.between (record { file = (codes "e.lm"); line = 4; test = None } ∷ []) (record { file = (codes "e.lm"); line = 5; test = None } ∷ [])) ∷ [])) ∷ (Clause.order (record { event = record { file = (codes "e.lm"); line = 4; test = None }; count = 1 } ∷ record { event = record { file = (codes "e.lm"); line = 5; test = None }; count = 1 } ∷ [])) ∷ (Clause.unilateral (Region.between (record { file = (codes "e.lm"); line = 5; test = None } ∷ []) (record { file = (codes "e.lm"); line = 5; test = None } ∷ []))) ∷ []))) } ∷ [])
 
 abbrev pub own_r13_1 : Own
 own_r13_1 = record { thread = 1; func = 0; args = []; versions = (record { number = 1; active = (1 ∷ []) } ∷ []); entries = (e.Begin 1 2 ∷ e.At 1 3 1 (1 ∷ []) ∷ e.Write 1 3 0 (pos 1) ∷ e.Past 1 3 1 (1 ∷ []) ∷ e.Post 1 3 1 1 ∷ e.Enter 1 4 1 2 ∷ e.At 1 4 1 (3 ∷ 5 ∷ []) ∷ e.Write 1 4 0 (pos 2) ∷ e.Past 1 4 1 (3 ∷ 5 ∷ []) ∷ e.Post 1 4 1 5 ∷ e.Wait 1 5 1 2 ∷ e.Wait 1 5 1 6 ∷ e.Enter 1 5 1 4 ∷ e.At 1 5 1 (2 ∷ 4 ∷ 6 ∷ 7 ∷ 8 ∷ []) ∷ e.Write 1 5 0 (pos 3) ∷ e.Past 1 5 1 (2 ∷ 4 ∷ 6 ∷ 7 ∷ 8 ∷ []) ∷ e.Leave 1 5 1 2 ∷ e.Leave 1 5 1 4 ∷ e.End 1 2 ∷ []) }

@@ -7,8 +7,9 @@ use Rattle.loom_trace.specs.declared.entry.Ending.TheVariants as k
 use Rattle.loom_lang.specs.Trace.{Locals, begin, end, read, write, spawn, join, print, made, begins, done, enter, out, Finished, IsTrace}
 use Rattle.loom_event.proofs.Shown.{adds}
 use Rattle.loom_event.proofs.Runs.{next, given}
-use Rattle.loom_law.specs.Filter.{Region, Clause, Filter, plan_of}
-use Rattle.loom_law.specs.Filter as filters
+use Rattle.loom_command.specs.Filter.{Region, Clause, Filter}
+use Rattle.loom_law.specs.Filter.{plan_of}
+use Rattle.loom_command.specs.Filter as filters
 use Rattle.loom_law.specs.Walk.{Version, Operation, enters, past, leave, blocked, Step, goes, makes, items, told}
 use Rattle.loom_law.specs.Walk as walk
 use Rattle.loom_command.specs.Script as script

@@ -4,7 +4,8 @@ use Rattle.std.specs.List.{Contains}
 use Rattle.std.proofs.lemmas.List.Elements.{Contains-append_left, Contains-append_right, Contains-append_cases}
 use Rattle.loom_tree.specs.Tree.{Source, Body, simple, if_, while_, Function}
 use Rattle.loom_tree.specs.Tree as tree
-use Rattle.loom_law.specs.Filter.{LineEvent, OrderStep, Region, Clause, Filter, statement, function, Watch, Range, Plan, watch_of, watches_of_region, watches_of_clause, numbers, range_from, ranges_from, ruling_from, rulings_from, plan_of, ranges_of}
+use Rattle.loom_command.specs.Filter.{LineEvent, OrderStep, Region, Clause, Filter}
+use Rattle.loom_law.specs.Filter.{statement, function, Watch, Range, Plan, watch_of, watches_of_region, watches_of_clause, numbers, range_from, ranges_from, ruling_from, rulings_from, plan_of, ranges_of}
 use Rattle.loom_law.specs.View.{all_ranges}
 use Rattle.loom_law.specs.Paths.{watch_at, Node, node_places, places_in, places_of, IsReached, IsReachedAt, IsUnsafe}
 use Rattle.loom_law.specs.Paths as path

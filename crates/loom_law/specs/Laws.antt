@@ -7,7 +7,8 @@ use Rattle.loom_trace.specs.declared.entry.Entry.TheVariants as e
 use Rattle.loom_trace.specs.declared.entry.Ending.{Ending}
 use Rattle.loom_lang.specs.Places.{Place, nowhere}
 use Rattle.loom_lang.specs.Trace.{end, made}
-use Rattle.loom_law.specs.Filter.{Plan, before_in, has, Filter, plan_of}
+use Rattle.loom_command.specs.Filter.{Filter}
+use Rattle.loom_law.specs.Filter.{Plan, before_in, has, plan_of}
 use Rattle.loom_law.specs.Walk.{Version, Plans, Operation, leave, entry_of_operation, Step, goes, makes, holds, unborn, told, filter_of, Owes}
 use Rattle.loom_law.specs.Part.{Own, led, IsPart, Point, IsPlaceOf, HasMoved, KeepsAway, IsInside}
 use Rattle.loom_law.specs.View.{IsClear, view_behind}

@@ -318,7 +318,7 @@ other_act p plans z (s ∷ ss) m b a like free h = (
 )
 
 -- what comes next is an act that is answered the same
-next_act : (i : Item) (l : ℕ) (a : Act) → AreAlike i (made l a) → (b : Act) × ((i ≡ made l b) × AnswerTheSame b a)
+pub next_act : (i : Item) (l : ℕ) (a : Act) → AreAlike i (made l a) → (b : Act) × ((i ≡ made l b) × AnswerTheSame b a)
 next_act (made m b) l a h = (b, (ap (λ n. made n b) h.0, h.1))
 next_act (begins m env) l a h = cc
 next_act (done m) l a h = cc

@@ -48,12 +48,12 @@ op_no_begin t l (cross y n m) = refl
 op_no_begin t l (blocked what) = refl
 
 -- the part that ends with the operation
-record OpPart (p : Source) (plans : Plans) (x : Own) (l : ℕ) (o : Op) : Type 0 where
-  part : IsPart p plans x
-  before : List Step
-  last : part.steps ≡ before ++ makes l o ∷ []
+pub record OpPart (p : Source) (plans : Plans) (x : Own) (l : ℕ) (o : Op) : Type 0 where
+  pub part : IsPart p plans x
+  pub before : List Step
+  pub last : part.steps ≡ before ++ makes l o ∷ []
 
-cut_part : (p : Source) (plans : Plans) (x : Own) (es : List Entry) (l : ℕ) (o : Op) → x.entries ≡ es ++ entry_of_op x.thread l o ∷ [] → IsPart p plans x → OpPart p plans x l o
+pub cut_part : (p : Source) (plans : Plans) (x : Own) (es : List Entry) (l : ℕ) (o : Op) → x.entries ≡ es ++ entry_of_op x.thread l o ∷ [] → IsPart p plans x → OpPart p plans x l o
 cut_part p plans x es l o is h =
     let t : ℕ = x.thread in
     let c : BeforeOp t h.steps es l o = before_op t h.steps es l o (h.tells ∙ is) in

@@ -467,7 +467,7 @@ before_op t (goes (edge m) ∷ ss) es l o h = with_mark t (goes (edge m)) ss es 
 before_op t (goes (enter f env) ∷ ss) es l o h = with_mark t (goes (enter f env)) ss es l o (λ us. refl) (before_op t ss es l o h)
 before_op t (goes (out f) ∷ ss) es l o h = with_mark t (goes (out f)) ss es l o (λ us. refl) (before_op t ss es l o h)
 
-stands_there : (p : Source) (plans : Plans) (z : Walk) (before : List Step) (s : Step) (behind : List Step) (ahead : List Item) → AreWoven p plans z (before ++ s ∷ behind) ahead
+pub stands_there : (p : Source) (plans : Plans) (z : Walk) (before : List Step) (s : Step) (behind : List Step) (ahead : List Item) → AreWoven p plans z (before ++ s ∷ behind) ahead
     → MayStand p (walked p plans z before) s (items behind ++ ahead)
 stands_there p plans z [] s behind ahead h = h.0
 stands_there p plans z (u ∷ before) s behind ahead h = stands_there p plans (after p plans z u) before s behind ahead h.1

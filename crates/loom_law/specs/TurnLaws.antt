@@ -9,7 +9,7 @@ use Rattle.loom_trace.specs.declared.entry.What.TheVariants as w
 use Rattle.loom_trace.specs.declared.request.Request.{Request}
 use Rattle.loom_trace.specs.declared.request.Request.TheVariants as r
 use Rattle.loom_lang.specs.Trace.{made}
-use Rattle.loom_lang.specs.Acts.{Deed}
+use Rattle.loom_lang.specs.Acts.{Deed, IsAlike}
 use Rattle.loom_event.specs.Answer.{granted, trapped}
 use Rattle.loom_event.specs.Event.{Event, entry_by}
 use Rattle.loom_event.specs.Replay.{Spawned, start, thread_at, replay, IsAllowed}
@@ -103,3 +103,26 @@ request_of l (w.Wait k n) = None
 abbrev pub HasBlocks : Type 0
 HasBlocks = (p : Source) (plans : Plans) (x : Own) (q : Request) (l : ℕ) (what : What) → AsksToAct p plans x q → request_of l what ≡ Some q
     → ends_blocked x.entries ≡ false → AsksToMake p plans x l (blocked what)
+
+-- What a thread asks for is one
+
+-- an operation that a filter or a limit makes a thread owe
+abbrev pub is_owed : Op → Bool
+is_owed (cross x v n) = false
+is_owed (blocked what) = false
+is_owed _ = true
+
+-- Two acts for which a thread asks answer the same. (Shown.)
+abbrev pub HasOneRequest : Type 0
+HasOneRequest = (p : Source) (plans : Plans) (x : Own) (q q' : Request) (d d' : Deed) → AsksToAct p plans x q → IsAnswered q d → AsksToAct p plans x q' → IsAnswered q' d'
+    → IsAlike d d'
+
+-- Where it asks for an act it owes no operation. (Shown.)
+abbrev pub HasNoSplit : Type 0
+HasNoSplit = (p : Source) (plans : Plans) (x : Own) (q : Request) (d : Deed) (l : ℕ) (o : Op) → AsksToAct p plans x q → IsAnswered q d → is_owed o ≡ true
+    → AsksToMake p plans x l o → ⊥
+
+-- It owes one operation at a time. (Shown.)
+abbrev pub HasOneOperation : Type 0
+HasOneOperation = (p : Source) (plans : Plans) (x : Own) (l l' : ℕ) (o o' : Op) → is_owed o ≡ true → is_owed o' ≡ true → AsksToMake p plans x l o
+    → AsksToMake p plans x l' o' → (l ≡ l') × (o ≡ o')

@@ -4,6 +4,7 @@ use Rattle.std.specs.Prelude.{flat_map}
 use Rattle.std.proofs.lemmas.List.{append-nil}
 use Rattle.loom_tree.specs.declared.item.Word.{Word}
 use Rattle.loom_tree.specs.Tree.{Item, word, mutex, sema, func, Source}
+use Rattle.loom_lang.specs.Limits.{cell_limit}
 use Rattle.loom_lang.specs.Rules.{cell_count}
 use Rattle.loom_lang.specs.Gathered.{words_in, mutexes_in, semas_in, funcs_in, source_of_items, nothing, with_item, gathered}
 
@@ -34,7 +35,7 @@ cell_count-append [] ys = omega arith
 cell_count-append (x ∷ xs) ys = omega (arith, cell_count-append xs ys)
 
 -- where all have few cells, one item has
-pub few_cells : (p : Source) (i : Item) (is all : List Item) → gathered p (i ∷ is) ≡ gathered nothing all → cell_count (source_of_items all).words ≤ 1024 → cell_count (words_in i) ≤ 1024
+pub few_cells : (p : Source) (i : Item) (is all : List Item) → gathered p (i ∷ is) ≡ gathered nothing all → cell_count (source_of_items all).words ≤ cell_limit → cell_count (words_in i) ≤ cell_limit
 few_cells p i is all e h =
     let a : cell_count (p.words ++ (words_in i ++ flat_map words_in is)) ≡ cell_count p.words + (cell_count (words_in i) + cell_count (flat_map words_in is)) = cell_count-append p.words (words_in i ++ flat_map words_in is) ∙ ap (λ z. cell_count p.words + z) (cell_count-append (words_in i) (flat_map words_in is)) in
     let b : cell_count (p.words ++ (words_in i ++ flat_map words_in is)) ≡ cell_count (source_of_items all).words = ap (λ (z : Source). cell_count z.words) (sym (gathered-joined p (i ∷ is)) ∙ e ∙ gathered-all all) in

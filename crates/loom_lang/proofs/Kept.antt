@@ -1,14 +1,15 @@
 -- Each rule is kept where its reason stands at no line.
-use Rattle.std.proofs.Common.{ℕ, ◌+◌, suc, ◌≤◌, ◌≡◌, Bool, true, false, not, ◌&&◌, ◌||◌, cond, nat_lt, List, [], ◌∷◌, ◌++◌, length, take, drop, map, refl, ap, ◌∙◌, arith, length-append, length-drop}
+use Rattle.std.proofs.Common.{ℕ, ◌+◌, suc, ◌≤◌, ◌≡◌, Bool, true, false, not, ◌&&◌, ◌||◌, cond, nat_lt, List, [], ◌∷◌, ◌++◌, length, take, drop, map, refl, ap, sym, ◌∙◌, arith, length-append, length-drop}
 use Rattle.std.specs.Prelude.{◌==◌, flat_map}
-use Rattle.std.specs.Cmp.Lexicographic.{pointwise}
+use Rattle.std.specs.Cmp.Lexicographic.{pointwise, same_text}
 use Rattle.std.proofs.lemmas.Bool.{le-ltb, ltb-false}
 use Rattle.std.proofs.lemmas.List.{length-map, nil_from_length}
 use Rattle.loom_tree.specs.declared.item.Word.{Word}
 use Rattle.loom_tree.specs.declared.item.Sema.{Sema}
 use Rattle.loom_tree.specs.Tree.{Body, end, simple, if_, while_, Function, Item, word, mutex, sema, func, Source}
 use Rattle.loom_lang.specs.declared.local.Local.{Local}
-use Rattle.loom_lang.specs.Rules.{is_function, takes, knows, knows_simple, knows_body, counts_simple, counts_body, locals_of, is_ascending, shared_names, cells_of, cell_count}
+use Rattle.loom_lang.specs.Limits.{cell_limit}
+use Rattle.loom_lang.specs.Rules.{is_in, is_distinct, is_function, takes, knows, knows_simple, knows_body, counts_simple, counts_body, locals_of, is_ascending, shared_names, cells_of, cell_count}
 use Rattle.loom_lang.specs.Gathered.{source_of_items}
 use Rattle.loom_lang.specs.Refusal.{line_if, second_lines, unknown_lines, miscounted_lines, locals_at, over, shared_lines, cells_over}
 use Rattle.loom_lang.proofs.Empty.{is_empty, empty_append, empty_line_if}
@@ -50,18 +51,6 @@ miscounted_empty p (if_ l e a b rest) =
     empty_append A (B ++ R) ∙ ap (λ z. z && is_empty (B ++ R)) (miscounted_empty p a) ∙ ap (λ z. counts_body p a && z) (empty_append B R ∙ ap (λ z. z && is_empty R) (miscounted_empty p b) ∙ ap (λ z. counts_body p b && z) (miscounted_empty p rest))
 miscounted_empty p (while_ l e a rest) = empty_append (miscounted_lines p a) (miscounted_lines p rest) ∙ ap (λ z. z && is_empty (miscounted_lines p rest)) (miscounted_empty p a) ∙ ap (λ z. counts_body p a && z) (miscounted_empty p rest)
 
--- `main`, t telling whether one without parameters is there
-pub main_empty : (name : List ℕ) (t : Bool) (fs : List Function) → is_empty (flat_map (λ (f : Function). line_if (pointwise ◌==◌ f.name name && not t) f.line) fs) ≡ (t || not (is_function fs name))
-main_empty name true [] = refl
-main_empty name false [] = refl
-main_empty name t (f ∷ fs) =
-    let here : List ℕ = line_if (pointwise ◌==◌ f.name name && not t) f.line in
-    let rest : List ℕ = flat_map (λ (f : Function). line_if (pointwise ◌==◌ f.name name && not t) f.line) fs in
-    let a : is_empty (here ++ rest) ≡ (is_empty here && is_empty rest) = empty_append here rest in
-    let b : is_empty here ≡ not (pointwise ◌==◌ f.name name && not t) = empty_line_if _ f.line in
-    let c : is_empty rest ≡ (t || not (is_function fs name)) = main_empty name t fs in
-    grind arith
-
 pub takes_function : (fs : List Function) (x : List ℕ) (n : ℕ) → takes fs x n ≡ true → is_function fs x ≡ true
 takes_function [] x n h = cc
 takes_function (f ∷ fs) x n h = go (pointwise ◌==◌ f.name x) (length f.params == n) (takes fs x n) (is_function fs x) h (takes_function fs x n)
@@ -69,6 +58,54 @@ takes_function (f ∷ fs) x n h = go (pointwise ◌==◌ f.name x) (length f.par
     go : (a b t i : Bool) → ((a && b) || t) ≡ true → (t ≡ true → i ≡ true) → (a || i) ≡ true
     go true b t i k g = refl
     go false b t i k g = g k
+
+-- the functions of a name with another number of parameters
+abbrev pub misfits : List ℕ → ℕ → List Function → List ℕ
+misfits x n fs = flat_map (λ (f : Function). line_if (pointwise ◌==◌ f.name x && not (length f.params == n)) f.line) fs
+
+one_misfit : (x : List ℕ) (n : ℕ) (f : Function) (fs : List Function) → is_empty (misfits x n (f ∷ fs)) ≡ (not (pointwise ◌==◌ f.name x && not (length f.params == n)) && is_empty (misfits x n fs))
+one_misfit x n f fs =
+    let test : Bool = pointwise ◌==◌ f.name x && not (length f.params == n) in
+    empty_append (line_if test f.line) (misfits x n fs) ∙ ap (λ z. z && is_empty (misfits x n fs)) (empty_line_if test f.line)
+
+-- where a function has the name and none is a misfit, one has that many parameters
+pub fit_taken : (x : List ℕ) (n : ℕ) (fs : List Function) → is_empty (misfits x n fs) ≡ true → is_function fs x ≡ true → takes fs x n ≡ true
+fit_taken x n [] h i = cc
+fit_taken x n (f ∷ fs) h i = go (pointwise ◌==◌ f.name x) (length f.params == n) (is_empty (misfits x n fs)) (is_function fs x) (takes fs x n) (sym (one_misfit x n f fs) ∙ h) i (fit_taken x n fs)
+  where
+    go : (p q e i t : Bool) → (not (p && not q) && e) ≡ true → (p || i) ≡ true → (e ≡ true → i ≡ true → t ≡ true) → ((p && q) || t) ≡ true
+    go true true e i t a b g = refl
+    go true false e i t a b g = cc
+    go false q e i t a b g = g a b
+
+-- where no function has the name, none is a misfit
+unnamed_fit : (x : List ℕ) (n : ℕ) (fs : List Function) → is_function fs x ≡ false → is_empty (misfits x n fs) ≡ true
+unnamed_fit x n [] h = refl
+unnamed_fit x n (f ∷ fs) h = one_misfit x n f fs ∙ go (pointwise ◌==◌ f.name x) (length f.params == n) (is_function fs x) (is_empty (misfits x n fs)) h (unnamed_fit x n fs)
+  where
+    go : (p q i e : Bool) → (p || i) ≡ false → (i ≡ false → e ≡ true) → (not (p && not q) && e) ≡ true
+    go true q i e a g = cc
+    go false q i e a g = g a
+
+named_in : (x : List ℕ) (fs : List Function) → is_in x (map (λ (f : Function). f.name) fs) ≡ is_function fs x
+named_in x [] = refl
+named_in x (f ∷ fs) = ap (λ z. pointwise ◌==◌ f.name x || z) (named_in x fs)
+
+-- where names are declared once and one function of the name has that many parameters, none is a misfit
+pub taken_fit : (x : List ℕ) (n : ℕ) (fs : List Function) → is_distinct (map (λ (f : Function). f.name) fs) ≡ true → takes fs x n ≡ true → is_empty (misfits x n fs) ≡ true
+taken_fit x n [] d h = refl
+taken_fit x n (f ∷ fs) d h =
+    one_misfit x n f fs ∙ go (pointwise ◌==◌ f.name x) (length f.params == n) (takes fs x n) (is_function fs x) (is_empty (misfits x n fs)) (is_distinct (map (λ (g : Function). g.name) fs)) (is_in f.name (map (λ (g : Function). g.name) fs)) d h
+    (λ e. ap (λ z. is_in z (map (λ (g : Function). g.name) fs)) (same_text f.name x (sym e)) ∙ named_in x fs) (takes_function fs x n) (unnamed_fit x n fs) (taken_fit x n fs)
+  where
+    go : (p q t i e d m : Bool) → (not m && d) ≡ true → ((p && q) || t) ≡ true → (p ≡ true → m ≡ i) → (t ≡ true → i ≡ true) → (i ≡ false → e ≡ true) → (d ≡ true → t ≡ true → e ≡ true) → (not (p && not q) && e) ≡ true
+    go p q t i e d true a b same named unnamed rest = cc
+    go true true t true e d false a b same named unnamed rest = absurd (let s : false ≡ true = same refl in cc)
+    go true true t false e d false a b same named unnamed rest = unnamed refl
+    go true false true true e d false a b same named unnamed rest = absurd (let s : false ≡ true = same refl in cc)
+    go true false true false e d false a b same named unnamed rest = absurd (let s : false ≡ true = named refl in cc)
+    go true false false i e d false a b same named unnamed rest = cc
+    go false q t i e d false a b same named unnamed rest = rest a b
 
 -- limits
 
@@ -100,21 +137,21 @@ shared_count (sema l s ∷ is) =
     omega (arith, shared_count is, length-append W (p.mutexes ++ S), length-append p.mutexes S, length-append W (p.mutexes ++ (s.name ∷ S)), length-append p.mutexes (s.name ∷ S))
 shared_count (func f ∷ is) = shared_count is
 
-pub cells_kept : (before : ℕ) (items : List Item) → before ≤ 1024 → is_empty (cells_over before items) ≡ true → before + cell_count (source_of_items items).words ≤ 1024
+pub cells_kept : (before : ℕ) (items : List Item) → before ≤ cell_limit → is_empty (cells_over before items) ≡ true → before + cell_count (source_of_items items).words ≤ cell_limit
 cells_kept before [] b h = omega arith
-cells_kept before (word l w ∷ is) b h = go (nat_lt 1024 (before + cells_of w)) refl h (cells_kept (before + cells_of w) is)
+cells_kept before (word l w ∷ is) b h = go (nat_lt cell_limit (before + cells_of w)) refl h (cells_kept (before + cells_of w) is)
   where
-    go : (t : Bool) → nat_lt 1024 (before + cells_of w) ≡ t → is_empty (cond t (l ∷ []) (cells_over (before + cells_of w) is)) ≡ true → (before + cells_of w ≤ 1024 → is_empty (cells_over (before + cells_of w) is) ≡ true → before + cells_of w + cell_count (source_of_items is).words ≤ 1024) → before + (cells_of w + cell_count (source_of_items is).words) ≤ 1024
+    go : (t : Bool) → nat_lt cell_limit (before + cells_of w) ≡ t → is_empty (cond t (l ∷ []) (cells_over (before + cells_of w) is)) ≡ true → (before + cells_of w ≤ cell_limit → is_empty (cells_over (before + cells_of w) is) ≡ true → before + cells_of w + cell_count (source_of_items is).words ≤ cell_limit) → before + (cells_of w + cell_count (source_of_items is).words) ≤ cell_limit
     go true e k g = cc
-    go false e k g = let r : before + cells_of w + cell_count (source_of_items is).words ≤ 1024 = g (ltb-false 1024 (before + cells_of w) e) k in omega arith
+    go false e k g = let r : before + cells_of w + cell_count (source_of_items is).words ≤ cell_limit = g (ltb-false cell_limit (before + cells_of w) e) k in omega arith
 cells_kept before (mutex l x ∷ is) b h = cells_kept before is b h
 cells_kept before (sema l s ∷ is) b h = cells_kept before is b h
 cells_kept before (func f ∷ is) b h = cells_kept before is b h
 
-pub kept_cells : (before : ℕ) (items : List Item) → before + cell_count (source_of_items items).words ≤ 1024 → is_empty (cells_over before items) ≡ true
+pub kept_cells : (before : ℕ) (items : List Item) → before + cell_count (source_of_items items).words ≤ cell_limit → is_empty (cells_over before items) ≡ true
 kept_cells before [] h = refl
 kept_cells before (word l w ∷ is) h =
-    ap (λ t. is_empty (cond t (l ∷ []) (cells_over (before + cells_of w) is))) (le-ltb 1024 (before + cells_of w) (omega arith)) ∙ kept_cells (before + cells_of w) is (omega arith)
+    ap (λ t. is_empty (cond t (l ∷ []) (cells_over (before + cells_of w) is))) (le-ltb cell_limit (before + cells_of w) (omega arith)) ∙ kept_cells (before + cells_of w) is (omega arith)
 kept_cells before (mutex l x ∷ is) h = kept_cells before is h
 kept_cells before (sema l s ∷ is) h = kept_cells before is h
 kept_cells before (func f ∷ is) h = kept_cells before is h

@@ -9,6 +9,7 @@ use Rattle.loom_lang.specs.declared.local.Local.{Local}
 use Rattle.loom_lang.specs.declared.refusal.Which.TheVariants as which
 use Rattle.loom_lang.specs.declared.refusal.Reason.{Reason}
 use Rattle.loom_lang.specs.declared.refusal.Reason.TheVariants as reason
+use Rattle.loom_lang.specs.Limits.{function_limit, param_limit, local_limit, name_limit, cell_limit, statement_limit}
 use Rattle.loom_lang.specs.Rules.{is_in, is_function, takes, knows, knows_simple, counts_simple, let_names, locals_of, lines_of, cells_of}
 use Rattle.loom_lang.specs.Gathered.{source_of_items}
 use Rattle.loom_lang.specs.Program.{IsText}
@@ -37,9 +38,9 @@ miscounted_lines p (simple l s rest) = line_if (not (counts_simple p s)) l ++ mi
 miscounted_lines p (if_ l e a b rest) = miscounted_lines p a ++ (miscounted_lines p b ++ miscounted_lines p rest)
 miscounted_lines p (while_ l e a rest) = miscounted_lines p a ++ miscounted_lines p rest
 
--- and `main` has parameters
+-- and each `main` that has parameters
 abbrev pub main_lines : Source → List ℕ
-main_lines p = flat_map (λ (f : Function). line_if (pointwise ◌==◌ f.name (codes "main") && not (takes p.funcs (codes "main") 0)) f.line) p.funcs
+main_lines p = flat_map (λ (f : Function). line_if (pointwise ◌==◌ f.name (codes "main") && not (length f.params == 0)) f.line) p.funcs
 
 -- names that are declared at this line
 abbrev pub at_line : ℕ → List (List ℕ) → List Local
@@ -85,7 +86,7 @@ shared_lines (func f ∷ is) = shared_lines is
 -- the first word or array with which there are more cells than there may be, so many being before it
 abbrev pub cells_over : ℕ → List Item → List ℕ
 cells_over before [] = []
-cells_over before (word l w ∷ is) = cond (nat_lt 1024 (before + cells_of w)) (l ∷ []) (cells_over (before + cells_of w) is)
+cells_over before (word l w ∷ is) = cond (nat_lt cell_limit (before + cells_of w)) (l ∷ []) (cells_over (before + cells_of w) is)
 cells_over before (_ ∷ is) = cells_over before is
 
 -- The lines at which a reason stands in the items of a file that ends on this line. Where the grammar is left is told by the tokens.
@@ -96,12 +97,12 @@ lines_of_reason items last reason.UnknownName = flat_map (λ (f : Function). unk
 lines_of_reason items last reason.NameTwice = twice_lines [] [] items
 lines_of_reason items last reason.WrongCount = main_lines (source_of_items items) ++ flat_map (λ (f : Function). miscounted_lines (source_of_items items) f.body) (source_of_items items).funcs
 lines_of_reason items last reason.NoMain = line_if (not (is_function (source_of_items items).funcs (codes "main"))) last
-lines_of_reason items last (reason.TooMany which.Functions) = over 64 (map (λ (f : Function). f.line) (source_of_items items).funcs)
-lines_of_reason items last (reason.TooMany which.Params) = flat_map (λ (f : Function). line_if (nat_lt 4 (length f.params)) f.line) (source_of_items items).funcs
-lines_of_reason items last (reason.TooMany which.Locals) = flat_map (λ (f : Function). over 32 (map (λ (d : Local). d.line) (locals_at f))) (source_of_items items).funcs
-lines_of_reason items last (reason.TooMany which.Names) = over 64 (shared_lines items)
+lines_of_reason items last (reason.TooMany which.Functions) = over function_limit (map (λ (f : Function). f.line) (source_of_items items).funcs)
+lines_of_reason items last (reason.TooMany which.Params) = flat_map (λ (f : Function). line_if (nat_lt param_limit (length f.params)) f.line) (source_of_items items).funcs
+lines_of_reason items last (reason.TooMany which.Locals) = flat_map (λ (f : Function). over local_limit (map (λ (d : Local). d.line) (locals_at f))) (source_of_items items).funcs
+lines_of_reason items last (reason.TooMany which.Names) = over name_limit (shared_lines items)
 lines_of_reason items last (reason.TooMany which.Cells) = cells_over 0 items
-lines_of_reason items last (reason.TooMany which.Statements) = over 4096 (lines_of (source_of_items items))
+lines_of_reason items last (reason.TooMany which.Statements) = over statement_limit (lines_of (source_of_items items))
 
 -- The order of the reasons, and of what there is too much of. It is an order only: `TooMany` is the seventh reason whatever there is too much of.
 abbrev pub rank : Reason → ℕ

@@ -1,11 +1,11 @@
 //! Calls and spawns with another number of arguments than their function has parameters.
-ghost use Rattle.std.specs.Prelude.{◌≡◌, ◌==◌, ◌&&◌, not, flat_map, codes};
+ghost use Rattle.std.specs.Prelude.{◌≡◌, ◌==◌, ◌&&◌, not, flat_map, length, codes};
 ghost use Rattle.std.specs.Cmp.Lexicographic.{pointwise};
 ghost use Rattle.loom_tree.specs.Tree.{Function, expressions_of, right_of, body_of, behind, end, item_of, items_of};
 ghost use Rattle.loom_lang.specs.declared.refusal.Reason.TheVariants as reason;
 ghost use Rattle.loom_lang.specs.Rules.{counts_call, counts_right};
 ghost use Rattle.loom_lang.specs.Gathered.{funcs_in, source_of_items};
-ghost use Rattle.loom_lang.specs.Refusal.{line_if, miscounted_lines, lines_of_reason};
+ghost use Rattle.loom_lang.specs.Refusal.{line_if, main_lines, miscounted_lines, lines_of_reason};
 ghost use Rattle.loom_lang.specs.Noted.{counts_head, noted};
 
 use crate::names;
@@ -87,32 +87,32 @@ fn note_calls(items: &[Item], first: &mut Option<LangRefusal>)
     }
 }
 
-/// Notes a function `main`, where none of that name is without parameters.
-fn note_main_in(item: &Item, is_right: bool, first: &mut Option<LangRefusal>)
-    ensures { first.new ≡ noted first.old reason.WrongCount (flat_map (λ (f : Function). line_if (pointwise ◌==◌ f.name (codes "main") && not is_right) f.line) (funcs_in (item_of item.now))) }
+/// Notes a function `main` that has parameters.
+fn note_main_in(item: &Item, first: &mut Option<LangRefusal>)
+    ensures { first.new ≡ noted first.old reason.WrongCount (flat_map (λ (f : Function). line_if (pointwise ◌==◌ f.name (codes "main") && not (length f.params == 0)) f.line) (funcs_in (item_of item.now))) }
 {
     if let Item::Func(f) = item {
         note_if(
             first,
-            names::is_same(&f.name, b"main") && !is_right,
+            names::is_same(&f.name, b"main") && f.params.0.len() != 0,
             f.line,
             Reason::WrongCount,
         );
     }
 }
 
-fn note_main(items: &[Item], is_right: bool, first: &mut Option<LangRefusal>)
-    ensures { first.new ≡ noted first.old reason.WrongCount (flat_map (λ (f : Function). line_if (pointwise ◌==◌ f.name (codes "main") && not is_right) f.line) (source_of_items (items_of items.now)).funcs) }
+fn note_main(items: &[Item], first: &mut Option<LangRefusal>)
+    ensures { first.new ≡ noted first.old reason.WrongCount (main_lines (source_of_items (items_of items.now))) }
 {
     'scan: for item in items {
-        note_main_in(item, is_right, first);
+        note_main_in(item, first);
     }
 }
 
-/// Notes the wrong numbers of arguments, and a `main` with parameters.
+/// Notes the wrong numbers of arguments, and each `main` with parameters.
 pub fn note_counts(items: &[Item], first: &mut Option<LangRefusal>)
     ensures { first.new ≡ noted first.old reason.WrongCount (lines_of_reason (items_of items.now) 0 reason.WrongCount) }
 {
-    note_main(items, names::takes(items, b"main", 0), first);
+    note_main(items, first);
     note_calls(items, first);
 }

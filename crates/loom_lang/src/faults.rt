@@ -7,7 +7,8 @@ ghost use Rattle.loom_lang.specs.Refusal.{second_lines, lines_of_reason, IsFault
 ghost use Rattle.loom_lang.specs.Noted.{noted, noted_all, reasons};
 
 use crate::counts::note_counts;
-use crate::limits::{note_limits, note_over};
+use crate::excess::{note_limits, note_over};
+use crate::limits::STATEMENT_LIMIT;
 use crate::names;
 use crate::note::note_if;
 use crate::refusal::{LangRefusal, Reason, Which};
@@ -38,7 +39,12 @@ fn note_statements(
 {
     let lines = statement_lines(alloc, items)?;
     note_second(&lines, first);
-    note_over(first, 4096, &lines, Reason::TooMany(Which::Statements));
+    note_over(
+        first,
+        STATEMENT_LIMIT,
+        &lines,
+        Reason::TooMany(Which::Statements),
+    );
     Ok(())
 }
 

@@ -1,6 +1,7 @@
 //! From the items of a file to what it declares.
 ghost use Rattle.std.specs.Prelude.{◌≡◌, ◌≤◌, OnOk, IfOk, MatchOption};
 ghost use Rattle.loom_tree.specs.Tree.{item_of, items_of};
+ghost use Rattle.loom_lang.specs.Limits.{cell_limit};
 ghost use Rattle.loom_lang.specs.Rules.{cell_count};
 ghost use Rattle.loom_lang.specs.Gathered.{source_of_items, nothing, with_item, words_in};
 
@@ -11,7 +12,7 @@ use std::alloc::Global;
 
 /// How many cells an array has, which aren't more than a program may have.
 fn few_cells(cells: Option<u64>) -> Option<u32>
-    requires { MatchOption cells (Unit {0}) (λ n. n ≤ 1024) }
+    requires { MatchOption cells (Unit {0}) (λ n. n ≤ cell_limit) }
     ensures { result ≡ cells }
 {
     match cells {
@@ -33,7 +34,7 @@ fn nothing(alloc: Global) -> Declarations
 
 /// Puts an item behind those of its kind. An `Err` is want of memory.
 fn put(p: &mut Declarations, item: Item) -> Result<(), NoMemory>
-    requires { cell_count (words_in (item_of item)) ≤ 1024 }
+    requires { cell_count (words_in (item_of item)) ≤ cell_limit }
     ensures { OnOk result (p.new ≡ with_item p.old (item_of item)) }
 {
     match item {
@@ -59,7 +60,7 @@ fn put(p: &mut Declarations, item: Item) -> Result<(), NoMemory>
 
 /// What the items declare, which have no more cells than a program may have. An `Err` is want of memory.
 pub fn gather(alloc: Global, items: Items) -> Result<Declarations, NoMemory>
-    requires { cell_count (source_of_items (items_of items)).words ≤ 1024 }
+    requires { cell_count (source_of_items (items_of items)).words ≤ cell_limit }
     ensures { IfOk result (λ p. p ≡ source_of_items (items_of items)) }
 {
     let mut p = nothing(alloc);

@@ -3,10 +3,11 @@
 
 mod counts;
 mod declarations;
+mod excess;
 mod faults;
 mod gather;
 pub mod laws;
-mod limits;
+pub mod limits;
 mod local;
 pub mod locals;
 mod names;

@@ -2,6 +2,7 @@
 ghost use Rattle.std.specs.Prelude.{ℕ, ◌≡◌, ◌≤◌, length, IfOk};
 ghost use Rattle.loom_tree.specs.Tree.{Source};
 ghost use Rattle.loom_lang.specs.declared.refusal.Reason.{Reason};
+ghost use Rattle.loom_lang.specs.Limits.{source_limit};
 ghost use Rattle.loom_lang.specs.Program.{IsProgram};
 ghost use Rattle.loom_lang.specs.Refusal.{IsRefusedProgram};
 
@@ -33,7 +34,7 @@ impl From<NoMemory> for LangError {
 
 /// The program that the bytes of a file are. `Refused` comes exactly where they are none, and memory didn't run out.
 pub fn parse_program(alloc: Global, bytes: &[u8]) -> Result<Program, LangError>
-    requires { length bytes.now ≤ 65536 }
+    requires { length bytes.now ≤ source_limit }
     ensures program { IfOk result (λ p. IsProgram bytes.now p) }
     ensures refused { result ≡ Err LangError.Refused → (p : Source) → IsProgram bytes.now p → ⊥ }
     ensures told { result ≡ Err LangError.Refused → (line : ℕ) × (why : Reason) × IsRefusedProgram bytes.now line why }

@@ -1,6 +1,7 @@
 //! From the bytes of a file to the items of its program.
 ghost use Rattle.std.specs.Prelude.{ℕ, ◌≡◌, ◌≤◌, List, length, slice_get};
 ghost use Rattle.loom_syntax.specs.View.{places};
+ghost use Rattle.loom_lang.specs.Limits.{source_limit};
 ghost use Rattle.loom_lang.specs.Refusal.{line_at};
 ghost use Rattle.loom_lang.specs.Reading.{IsReading};
 
@@ -45,7 +46,7 @@ fn line_at(tokens: &[Token], n: usize, last_line: u32) -> u32
 
 /// The items of the program that the bytes of a file are, or their refusal.
 pub fn read(alloc: Global, bytes: &[u8]) -> Result<Items, ReadError>
-    requires { length bytes.now ≤ 65536 }
+    requires { length bytes.now ≤ source_limit }
     ensures { IsReading bytes.now result }
 {
     let tokens = tokenize(alloc, bytes)?;

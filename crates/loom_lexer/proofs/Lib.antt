@@ -3,3 +3,4 @@ pub mod Spelled
 pub mod Unique
 pub mod Told
 pub mod Words
+pub mod Proper

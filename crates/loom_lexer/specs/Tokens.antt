@@ -48,9 +48,12 @@ abbrev pub value_from : ℕ → List ℕ → ℕ
 value_from v [] = v
 value_from v (d ∷ ds) = value_from (10 * v + (d - 48)) ds
 
+abbrev pub largest_number : ℕ
+largest_number = 9223372036854775807
+
 -- a number, or nothing where it is too large
 abbrev pub number_of : ℕ → TokenKind
-number_of v = if nat_le v 9223372036854775807 then t.Number v else t.Bad
+number_of v = if nat_le v largest_number then t.Number v else t.Bad
 
 abbrev pub signs : List (List ℕ × TokenKind)
 signs =

@@ -2,6 +2,7 @@ use Rattle.std.proofs.Common.{◌≡◌, map}
 use Rattle.loom_tree.specs.Token.{placed_of}
 use Rattle.loom_tree.specs.Tree.{items_of}
 use Rattle.loom_lexer.specs.Tokens.{AreTokens}
+use Rattle.loom_lang.specs.Program.{IsText}
 use Rattle.loom_lang.specs.Refusal.{IsFaultless}
 use Rattle.loom_lang.proofs.Lawful.{faultless_lawful}
 use Rattle.loom_lang.proofs.read.read.Goals as goal
@@ -12,4 +13,5 @@ returns-in-None c =
     let lexed : AreTokens c.args.bytes.now (map (placed_of c.args.bytes.now) c.deref.result.now) = rw (← same) c.in_ok-tokens.ensures.tokens in
     let theirs : c.in-Ok.items ≡ c.deref-in-Ok.result.now = cc in
     let none : IsFaultless (items_of c.in-Ok.items) c.last_line-last_line.result = rw theirs (rw c.in-None.is at c.in_ok-first_fault-in-Ok.ensures) in
-    (record { tokens = map (placed_of c.args.bytes.now) c.deref.result.now; lexed = lexed; file = c.in-Ok.ensures }, faultless_lawful (items_of c.in-Ok.items) c.last_line-last_line.result none)
+    let text : IsText c.args.bytes.now (items_of c.in-Ok.items) = record { tokens = map (placed_of c.args.bytes.now) c.deref.result.now; lexed = lexed; file = c.in-Ok.ensures } in
+    (text, faultless_lawful c.args.bytes.now (items_of c.in-Ok.items) c.last_line-last_line.result text none)

@@ -5,17 +5,17 @@ use Rattle.loom_tree.specs.declared.item.Word.{Word}
 use Rattle.loom_tree.specs.declared.item.Sema.{Sema}
 use Rattle.loom_tree.specs.declared.token.Keyword.{Keyword}
 use Rattle.loom_tree.specs.declared.token.Keyword.TheVariants as w
-use Rattle.loom_tree.specs.Token.{Token, Placed}
+use Rattle.loom_tree.specs.Token.{Token, LineToken}
 use Rattle.loom_tree.specs.Tree as tree
 use Rattle.loom_tree.specs.Tree.{Right, Simple, Body, Function, Source}
 use Rattle.loom_lexer.specs.Name.{IsName, IsProper}
 use Rattle.loom_lexer.proofs.Proper.{AreProper, tokens_proper}
-use Rattle.loom_expression.specs.Written as expression
-use Rattle.loom_expression.specs.Written.{Text, tokens, most, IsWritten}
-use Rattle.loom_syntax.specs.Written.{Mark, on, at, Fits, Spells, Block, end, simple, if_, if_else, while_, none, plus, minus, Declaration, Item, declared, func, behind_commas, with_commas, in_parens, right_tokens, simple_tokens, test_tokens, declaration_tokens, head_tokens, begun, ended, in_braces, block_marks, item_marks, deepest_block, IsRight, IsSimple, IsBlock, IsDeclaration, IsItem, right_tree, simple_tree, block_tree, declaration_tree, item_tree, IsFile}
+use Rattle.loom_expression.specs.Text as expression
+use Rattle.loom_expression.specs.Text.{Text, tokens, node_limit, IsWritten}
+use Rattle.loom_syntax.specs.File.{Mark, on, at, FitsMark, FitMarks, Block, end, simple, if_, if_else, while_, none, plus, minus, Declaration, ItemForm, declared, func, behind_commas, with_commas, in_parens, right_tokens, simple_tokens, test_tokens, declaration_tokens, head_tokens, begun, ended, in_braces, block_marks, item_marks, block_limit, IsRight, IsSimple, IsBlock, IsDeclaration, IsItem, right_tree, simple_tree, block_tree, declaration_tree, item_tree, IsFile}
 use Rattle.loom_lang.specs.WellFormed.{node_count, HasProperNumbers, IsWellFormed, IsWellFormedRight, IsWellFormedStatement, IsWellFormedBlock, IsWellFormedWord, IsWellFormedSema}
 use Rattle.loom_lang.specs.Rules.{let_names, lets, locals_of, file_names}
-use Rattle.loom_lang.specs.Gathered.{source_of_items}
+use Rattle.loom_lang.specs.FileItems.{source_of_items}
 use Rattle.loom_lang.specs.Program.{IsText}
 
 -- lists
@@ -43,11 +43,11 @@ IsProperMark m = IsProper (token_of m)
 abbrev AreProperMarks : List Mark → Type 0
 AreProperMarks ms = AllByRecursion IsProperMark ms
 
-mark_proper : (m : Mark) (p : Placed) → Fits m p → IsProper p.token → IsProperMark m
+mark_proper : (m : Mark) (p : LineToken) → FitsMark m p → IsProper p.token → IsProperMark m
 mark_proper (on t) p h a = subst IsProper h a
 mark_proper (at l t) p h a = subst IsProper h.0 a
 
-marks_proper : (ms : List Mark) (ps : List Placed) → Spells ms ps → AreProper ps → AreProperMarks ms
+marks_proper : (ms : List Mark) (ps : List LineToken) → FitMarks ms ps → AreProper ps → AreProperMarks ms
 marks_proper [] [] h a = tt
 marks_proper [] (p ∷ ps) h a = absurd h
 marks_proper (m ∷ ms) [] h a = absurd h
@@ -91,7 +91,7 @@ numbers_proper (Text.bin o b c) a = let s = parts IsProper (tokens b) (Token.op 
 numbers_proper (Text.paren b) a = numbers_proper b (parts IsProper (tokens b) _ a.1).0
 
 expression_formed : (t : Text) → IsWritten t → AreProperTokens (tokens t) → IsWellFormed (expression.tree t)
-expression_formed t h a = record { nodes = subst (λ n. n ≤ most) (sym (tree_nodes t)) h.small; numbers = numbers_proper t a }
+expression_formed t h a = record { nodes = subst (λ n. n ≤ node_limit) (sym (tree_nodes t)) h.small; numbers = numbers_proper t a }
 
 behind_formed : (ts : List Text) → AllByRecursion IsWritten ts → AreProperTokens (behind_commas (map tokens ts)) → AllByRecursion IsWellFormed (map expression.tree ts)
 behind_formed [] h a = tt
@@ -195,11 +195,11 @@ pub record IsFormedFunction (f : Function) : Type 0 where
   pub names : AllByRecursion IsName (locals_of f)
   pub form : IsWellFormedBlock 1 f.body
 
-abbrev IsFormedItem : tree.Item → Type 0
-IsFormedItem (tree.Item.word l x) = IsName x.name × IsWellFormedWord x
-IsFormedItem (tree.Item.mutex l x) = IsName x
-IsFormedItem (tree.Item.sema l s) = IsName s.name × IsWellFormedSema s
-IsFormedItem (tree.Item.func f) = IsName f.name × IsFormedFunction f
+abbrev IsFormedItem : tree.FileItem → Type 0
+IsFormedItem (tree.FileItem.word l x) = IsName x.name × IsWellFormedWord x
+IsFormedItem (tree.FileItem.mutex l x) = IsName x
+IsFormedItem (tree.FileItem.sema l s) = IsName s.name × IsWellFormedSema s
+IsFormedItem (tree.FileItem.func f) = IsName f.name × IsFormedFunction f
 
 declaration_formed : (l : ℕ) (d : Declaration) → IsDeclaration d → AreProperTokens (declaration_tokens d) → IsFormedItem (declaration_tree l d)
 declaration_formed l (Declaration.word x none) h a = (a.1.0, zero-le)
@@ -219,7 +219,7 @@ params_named : (xs : List (List ℕ)) → AreProperTokens (with_commas (map (λ 
 params_named [] a = tt
 params_named (x ∷ xs) a = (a.0, names_behind xs a.1)
 
-item_formed : (i : Item) → IsItem i → AreProperMarks (item_marks i) → IsFormedItem (item_tree i)
+item_formed : (i : ItemForm) → IsItem i → AreProperMarks (item_marks i) → IsFormedItem (item_tree i)
 item_formed (declared l d) h a = declaration_formed l d h (ended_proper l (declaration_tokens d) a)
 item_formed (func l f params body) h a =
     let m = parts IsProperMark (begun l (head_tokens f params)) (in_braces (block_marks body)) a in
@@ -228,7 +228,7 @@ item_formed (func l f params body) h a =
     let own : AllByRecursion IsName params = params_named params (parens_proper (with_commas (map (λ x. Token.name x ∷ []) params)) head.1.1) in
     (head.1.0, record { names = joined IsName params (lets (block_tree body)) own b.names; form = b.form })
 
-items_formed : (is : List Item) → AllByRecursion IsItem is → AreProperMarks (flat_map item_marks is) → AllByRecursion IsFormedItem (map item_tree is)
+items_formed : (is : List ItemForm) → AllByRecursion IsItem is → AreProperMarks (flat_map item_marks is) → AllByRecursion IsFormedItem (map item_tree is)
 items_formed [] h a = tt
 items_formed (i ∷ is) h a = let m = parts IsProperMark (item_marks i) (flat_map item_marks is) a in (item_formed i h.0 m.0, items_formed is h.1 m.1)
 
@@ -242,18 +242,18 @@ record HasKinds (p : Source) : Type 0 where
   pub semas : AllByRecursion IsWellFormedSema p.semas
   pub functions : AllByRecursion IsFormedFunction p.funcs
 
-kinds_of : (items : List tree.Item) → AllByRecursion IsFormedItem items → HasKinds (source_of_items items)
+kinds_of : (items : List tree.FileItem) → AllByRecursion IsFormedItem items → HasKinds (source_of_items items)
 kinds_of [] h = record { word_names = tt; mutex_names = tt; sema_names = tt; function_names = tt; words = tt; semas = tt; functions = tt }
-kinds_of (tree.Item.word l x ∷ is) h =
+kinds_of (tree.FileItem.word l x ∷ is) h =
     let k = kinds_of is h.1 in
     record { word_names = (h.0.0, k.word_names); mutex_names = k.mutex_names; sema_names = k.sema_names; function_names = k.function_names; words = (h.0.1, k.words); semas = k.semas; functions = k.functions }
-kinds_of (tree.Item.mutex l x ∷ is) h =
+kinds_of (tree.FileItem.mutex l x ∷ is) h =
     let k = kinds_of is h.1 in
     record { word_names = k.word_names; mutex_names = (h.0, k.mutex_names); sema_names = k.sema_names; function_names = k.function_names; words = k.words; semas = k.semas; functions = k.functions }
-kinds_of (tree.Item.sema l s ∷ is) h =
+kinds_of (tree.FileItem.sema l s ∷ is) h =
     let k = kinds_of is h.1 in
     record { word_names = k.word_names; mutex_names = k.mutex_names; sema_names = (h.0.0, k.sema_names); function_names = k.function_names; words = k.words; semas = (h.0.1, k.semas); functions = k.functions }
-kinds_of (tree.Item.func f ∷ is) h =
+kinds_of (tree.FileItem.func f ∷ is) h =
     let k = kinds_of is h.1 in
     record { word_names = k.word_names; mutex_names = k.mutex_names; sema_names = k.sema_names; function_names = (h.0.0, k.function_names); words = k.words; semas = k.semas; functions = (h.0.1, k.functions) }
 
@@ -276,7 +276,7 @@ form_of p k =
       functions = k.functions;
     }
 
-pub text_formed : (bytes : List ℕ) (items : List tree.Item) → IsText bytes items → HasForm (source_of_items items)
+pub text_formed : (bytes : List ℕ) (items : List tree.FileItem) → IsText bytes items → HasForm (source_of_items items)
 text_formed bytes items h =
     let f : IsFile h.tokens items = h.file in
     let marks : AreProperMarks (flat_map item_marks f.written) = marks_proper _ h.tokens f.spelled (tokens_proper bytes h.tokens h.lexed) in

@@ -5,8 +5,8 @@ use Rattle.loom_tree.specs.declared.item.Word.{Word}
 use Rattle.loom_tree.specs.declared.item.Sema.{Sema}
 use Rattle.loom_tree.specs.Tree.{Expression, num, var, cell, neg, inverse, bin, Right, Simple, let_, set, set_cell, return, lock, unlock, down, up, join, print, skip, Body, end, simple, if_, while_}
 use Rattle.loom_lexer.specs.Tokens.{largest_number}
-use Rattle.loom_expression.specs.Written.{most}
-use Rattle.loom_syntax.specs.Written.{deepest_block, largest_count}
+use Rattle.loom_expression.specs.Text.{node_limit}
+use Rattle.loom_syntax.specs.File.{block_limit, largest_count}
 
 -- Expressions
 
@@ -32,7 +32,7 @@ HasProperNumbers (bin o a b) = HasProperNumbers a × HasProperNumbers b
 -- Operators before an operand and cells nest less deep than there are nodes, and parentheses aren't in the tree: their
 -- nesting needs no limit here.
 pub record IsWellFormed (e : Expression) : Type 0 where
-  pub nodes : node_count e ≤ most
+  pub nodes : node_count e ≤ node_limit
   pub numbers : HasProperNumbers e
 
 -- Statements
@@ -61,8 +61,8 @@ IsWellFormedStatement skip = Unit {0}
 abbrev pub IsWellFormedBlock : ℕ → Body → Type 0
 IsWellFormedBlock n end = Unit {0}
 IsWellFormedBlock n (simple l s rest) = IsWellFormedStatement s × IsWellFormedBlock n rest
-IsWellFormedBlock n (if_ l e a b rest) = (IsWellFormed e × (n < deepest_block) × IsWellFormedBlock (suc n) a × IsWellFormedBlock (suc n) b) × IsWellFormedBlock n rest
-IsWellFormedBlock n (while_ l e a rest) = (IsWellFormed e × (n < deepest_block) × IsWellFormedBlock (suc n) a) × IsWellFormedBlock n rest
+IsWellFormedBlock n (if_ l e a b rest) = (IsWellFormed e × (n < block_limit) × IsWellFormedBlock (suc n) a × IsWellFormedBlock (suc n) b) × IsWellFormedBlock n rest
+IsWellFormedBlock n (while_ l e a rest) = (IsWellFormed e × (n < block_limit) × IsWellFormedBlock (suc n) a) × IsWellFormedBlock n rest
 
 -- Items
 

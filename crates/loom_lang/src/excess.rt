@@ -6,17 +6,17 @@ ghost use Rattle.loom_lang.specs.declared.refusal.Reason.TheVariants as reason;
 ghost use Rattle.loom_lang.specs.declared.refusal.Which.TheVariants as which;
 ghost use Rattle.loom_lang.specs.Limits.{param_limit, local_limit};
 ghost use Rattle.loom_lang.specs.Rules.{cell_count};
-ghost use Rattle.loom_lang.specs.Gathered.{funcs_in, words_in, source_of_items};
+ghost use Rattle.loom_lang.specs.FileItems.{funcs_in, words_in, source_of_items};
 ghost use Rattle.loom_lang.specs.Refusal.{line_if, locals_at, over, shared_lines, lines_of_reason};
-ghost use Rattle.loom_lang.specs.Noted.{noted, noted_all};
+ghost use Rattle.loom_lang.specs.Fault.{noted, noted_all};
 
+use crate::fault::{note, note_if};
 use crate::limits::{CELL_LIMIT, FUNCTION_LIMIT, LOCAL_LIMIT, NAME_LIMIT, PARAM_LIMIT};
 use crate::local::Local;
 use crate::names::line_of;
-use crate::note::{note, note_if};
 use crate::refusal::{LangRefusal, Reason, Which};
 use crate::walk::put_locals;
-use loom_tree::item::Item;
+use loom_tree::item::FileItem;
 use loom_tree::name::NoMemory;
 use std::alloc::Global;
 
@@ -29,16 +29,16 @@ pub fn note_over(first: &mut Option<LangRefusal>, most: usize, lines: &[u32], re
     }
 }
 
-fn put_function_line(lines: &mut Vec<u32>, item: &Item) -> Result<(), NoMemory>
+fn put_function_line(lines: &mut Vec<u32>, item: &FileItem) -> Result<(), NoMemory>
     ensures { OnOk result (lines.new.items ≡ lines.old.items ++ map (λ (f : Function). f.line) (funcs_in (item_of item.now))) }
 {
-    if let Item::Func(f) = item {
+    if let FileItem::Func(f) = item {
         lines.push(f.line)?;
     }
     Ok(())
 }
 
-fn function_lines(alloc: Global, items: &[Item]) -> Result<Vec<u32>, NoMemory>
+fn function_lines(alloc: Global, items: &[FileItem]) -> Result<Vec<u32>, NoMemory>
     ensures { IfOk result (λ ls. ls.items ≡ map (λ (f : Function). f.line) (source_of_items (items_of items.now)).funcs) }
 {
     let mut lines = Vec::new(alloc);
@@ -48,19 +48,19 @@ fn function_lines(alloc: Global, items: &[Item]) -> Result<Vec<u32>, NoMemory>
     Ok(lines)
 }
 
-fn put_shared_line(lines: &mut Vec<u32>, item: &Item) -> Result<(), NoMemory>
+fn put_shared_line(lines: &mut Vec<u32>, item: &FileItem) -> Result<(), NoMemory>
     ensures { OnOk result (lines.new.items ≡ lines.old.items ++ shared_lines (item_of item.now ∷ [])) }
 {
     match item {
-        Item::Word { line, .. } => lines.push(*line)?,
-        Item::Mutex { line, .. } => lines.push(*line)?,
-        Item::Sema { line, .. } => lines.push(*line)?,
-        Item::Func(_) => {}
+        FileItem::Word { line, .. } => lines.push(*line)?,
+        FileItem::Mutex { line, .. } => lines.push(*line)?,
+        FileItem::Sema { line, .. } => lines.push(*line)?,
+        FileItem::Func(_) => {}
     }
     Ok(())
 }
 
-fn shared_lines(alloc: Global, items: &[Item]) -> Result<Vec<u32>, NoMemory>
+fn shared_lines(alloc: Global, items: &[FileItem]) -> Result<Vec<u32>, NoMemory>
     ensures { IfOk result (λ ls. ls.items ≡ shared_lines (items_of items.now)) }
 {
     let mut lines = Vec::new(alloc);
@@ -70,10 +70,10 @@ fn shared_lines(alloc: Global, items: &[Item]) -> Result<Vec<u32>, NoMemory>
     Ok(lines)
 }
 
-fn note_params_in(item: &Item, first: &mut Option<LangRefusal>)
+fn note_params_in(item: &FileItem, first: &mut Option<LangRefusal>)
     ensures { first.new ≡ noted first.old (reason.TooMany which.Params) (flat_map (λ (f : Function). line_if (nat_lt param_limit (length f.params)) f.line) (funcs_in (item_of item.now))) }
 {
-    if let Item::Func(f) = item {
+    if let FileItem::Func(f) = item {
         note_if(
             first,
             PARAM_LIMIT < f.params.0.len(),
@@ -83,7 +83,7 @@ fn note_params_in(item: &Item, first: &mut Option<LangRefusal>)
     }
 }
 
-fn note_params(items: &[Item], first: &mut Option<LangRefusal>)
+fn note_params(items: &[FileItem], first: &mut Option<LangRefusal>)
     ensures { first.new ≡ noted first.old (reason.TooMany which.Params) (lines_of_reason (items_of items.now) 0 (reason.TooMany which.Params)) }
 {
     'scan: for item in items {
@@ -105,12 +105,12 @@ fn note_locals_of(locals: &[Local], first: &mut Option<LangRefusal>)
 
 fn note_locals_in(
     alloc: Global,
-    item: &Item,
+    item: &FileItem,
     first: &mut Option<LangRefusal>,
 ) -> Result<(), NoMemory>
     ensures { OnOk result (first.new ≡ noted first.old (reason.TooMany which.Locals) (flat_map (λ (f : Function). over local_limit (map (λ (d : local.Local). d.line) (locals_at f))) (funcs_in (item_of item.now)))) }
 {
-    if let Item::Func(f) = item {
+    if let FileItem::Func(f) = item {
         let mut locals = Vec::new(alloc);
         put_locals(alloc, &mut locals, f)?;
         note_locals_of(&locals, first);
@@ -120,7 +120,7 @@ fn note_locals_in(
 
 fn note_locals(
     alloc: Global,
-    items: &[Item],
+    items: &[FileItem],
     first: &mut Option<LangRefusal>,
 ) -> Result<(), NoMemory>
     ensures { OnOk result (first.new ≡ noted first.old (reason.TooMany which.Locals) (lines_of_reason (items_of items.now) 0 (reason.TooMany which.Locals))) }
@@ -132,22 +132,22 @@ fn note_locals(
 }
 
 /// How many cells an item has, a plain word one.
-fn cells_in(item: &Item) -> u64
+fn cells_in(item: &FileItem) -> u64
     ensures { result ≡ cell_count (words_in (item_of item.now)) }
 {
     match item {
-        Item::Word { cells: None, .. } => 1,
-        Item::Word {
+        FileItem::Word { cells: None, .. } => 1,
+        FileItem::Word {
             cells: Some(cells),
             ..
         } => *cells,
-        Item::Mutex { .. } => 0,
-        Item::Sema { .. } => 0,
-        Item::Func(_) => 0,
+        FileItem::Mutex { .. } => 0,
+        FileItem::Sema { .. } => 0,
+        FileItem::Func(_) => 0,
     }
 }
 
-fn note_cells(items: &[Item], first: &mut Option<LangRefusal>)
+fn note_cells(items: &[FileItem], first: &mut Option<LangRefusal>)
     ensures { first.new ≡ noted first.old (reason.TooMany which.Cells) (lines_of_reason (items_of items.now) 0 (reason.TooMany which.Cells)) }
 {
     let mut left = CELL_LIMIT as u64;
@@ -164,7 +164,7 @@ fn note_cells(items: &[Item], first: &mut Option<LangRefusal>)
 /// Notes more functions, parameters, locals, names and cells than there may be. An `Err` is want of memory.
 pub fn note_limits(
     alloc: Global,
-    items: &[Item],
+    items: &[FileItem],
     first: &mut Option<LangRefusal>,
 ) -> Result<(), NoMemory>
     ensures { OnOk result (first.new ≡ noted_all (items_of items.now) 0 first.old (reason.TooMany which.Functions ∷ reason.TooMany which.Params ∷ reason.TooMany which.Locals ∷ reason.TooMany which.Names ∷ reason.TooMany which.Cells ∷ [])) }

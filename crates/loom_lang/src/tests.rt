@@ -1,8 +1,7 @@
 //! Programs that are accepted, and texts that are refused, each at its line and for its reason.
 
 use crate::limits::SOURCE_LIMIT;
-use crate::parse::{LangError, parse_program};
-use crate::read::{ReadError, read};
+use crate::parse::{LangError, ReadError, parse_program, read};
 use crate::refusal::{LangRefusal, Reason, Which};
 use std::alloc::{AllocError, Global};
 use std::test::Fail;
@@ -113,11 +112,20 @@ fn refuses(rt: HostRuntime) {
             Reason::TooMany(Which::Params),
         ),
     ];
-    for (text, line, reason) in texts {
-        assert_eq!(rt; error_of(rt.alloc(), text), Some(LangError::Refused));
+    for (row, (text, line, reason)) in texts.iter().enumerate() {
+        let refusal = LangRefusal {
+            line: *line,
+            reason: *reason,
+        };
+        assert_eq!(rt;
+            error_of(rt.alloc(), text),
+            Some(LangError::Refused),
+            "row {row}"
+        );
         assert_eq!(rt;
             refusal_of(rt.alloc(), text),
-            Ok(Some(LangRefusal { line, reason }))
+            Ok(Some(refusal)),
+            "row {row}"
         );
     }
 }
@@ -201,11 +209,20 @@ fn refuses_names(rt: HostRuntime) {
             Reason::SecondOnLine,
         ),
     ];
-    for (text, line, reason) in texts {
-        assert_eq!(rt; error_of(rt.alloc(), text), Some(LangError::Refused));
+    for (row, (text, line, reason)) in texts.iter().enumerate() {
+        let refusal = LangRefusal {
+            line: *line,
+            reason: *reason,
+        };
+        assert_eq!(rt;
+            error_of(rt.alloc(), text),
+            Some(LangError::Refused),
+            "row {row}"
+        );
         assert_eq!(rt;
             refusal_of(rt.alloc(), text),
-            Ok(Some(LangRefusal { line, reason }))
+            Ok(Some(refusal)),
+            "row {row}"
         );
     }
 }

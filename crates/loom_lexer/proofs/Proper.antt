@@ -5,11 +5,11 @@ use Rattle.std.proofs.lemmas.Bool.{leb-true}
 use Rattle.loom_tree.specs.declared.token.Keyword.{Keyword}
 use Rattle.loom_tree.specs.declared.token.TokenKind.{TokenKind}
 use Rattle.loom_tree.specs.declared.token.TokenKind.TheVariants as t
-use Rattle.loom_tree.specs.Token.{Placed, token_by}
+use Rattle.loom_tree.specs.Token.{LineToken, token_by}
 use Rattle.loom_lexer.specs.declared.lexeme.Class.{Class}
 use Rattle.loom_lexer.specs.declared.lexeme.Class.TheVariants as c
-use Rattle.loom_lexer.specs.declared.lexeme.Kind.{Kind}
-use Rattle.loom_lexer.specs.declared.lexeme.Kind.TheVariants as k
+use Rattle.loom_lexer.specs.declared.lexeme.LexemeKind.{LexemeKind}
+use Rattle.loom_lexer.specs.declared.lexeme.LexemeKind.TheVariants as k
 use Rattle.loom_lexer.specs.Lexeme.{is_letter, is_digit, is_white, is_single, is_comparison, is_part, class_of, Each, Spells, Lexeme, IsLexed}
 use Rattle.loom_lexer.specs.Tokens.{keyword_of, word_of, value_from, largest_number, number_of, signs, beside, kind_of, placed, line_ends, tokens_from, AreTokens}
 use Rattle.loom_lexer.specs.Name.{IsName, IsProper}
@@ -72,11 +72,11 @@ signs_plain = search rules
 sign_proper : (text : List ℕ) → IsProper (token_by (beside signs text) text)
 sign_proper text = plain_proper (beside signs text) text (beside_plain signs text signs_plain)
 
-abbrev pub AreProper : List Placed → Type 0
-AreProper ps = AllByRecursion (λ (p : Placed). IsProper p.token) ps
+abbrev pub AreProper : List LineToken → Type 0
+AreProper ps = AllByRecursion (λ (p : LineToken). IsProper p.token) ps
 
 -- the token of a lexeme, before others
-one_proper : (kind : Kind) (text rest : List ℕ) (line : ℕ) (ps : List Placed) → Spells kind text rest → AreProper ps → AreProper (placed (kind_of kind text) text line ++ ps)
+one_proper : (kind : LexemeKind) (text rest : List ℕ) (line : ℕ) (ps : List LineToken) → Spells kind text rest → AreProper ps → AreProper (placed (kind_of kind text) text line ++ ps)
 one_proper kind [] rest line ps h all = absurd h
 one_proper k.White (b ∷ bs) rest line ps h all = all
 one_proper k.Comment (b ∷ bs) rest line ps h all = all
@@ -90,5 +90,5 @@ all_proper : (ls : List Lexeme) (bytes : List ℕ) (line : ℕ) → IsLexed ls b
 all_proper [] bytes line h = tt
 all_proper (p ∷ ps) bytes line h = one_proper p.kind p.text h.0 line (tokens_from (line + line_ends p.text) ps) h.2 (all_proper ps h.0 (line + line_ends p.text) h.3)
 
-pub tokens_proper : (bytes : List ℕ) (ps : List Placed) → AreTokens bytes ps → AreProper ps
+pub tokens_proper : (bytes : List ℕ) (ps : List LineToken) → AreTokens bytes ps → AreProper ps
 tokens_proper bytes ps h = subst AreProper (sym h.theirs) (all_proper h.lexemes bytes 1 h.lexed)

@@ -1,6 +1,6 @@
 use Rattle.std.proofs.Common.{◌≡◌, ◌++◌, drop, map}
 use Rattle.loom_tree.specs.Tree.{Function, items_of}
-use Rattle.loom_lang.specs.Gathered.{source_of_items}
+use Rattle.loom_lang.specs.FileItems.{source_of_items}
 use Rattle.loom_lang.proofs.excess.function_lines.Given as goal
 
 abbrev pub invariant-gather : goal.invariant-gather

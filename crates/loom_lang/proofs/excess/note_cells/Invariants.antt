@@ -4,7 +4,7 @@ use Rattle.loom_lang.specs.Limits.{cell_limit}
 use Rattle.loom_lang.specs.declared.refusal.Reason.TheVariants as reason
 use Rattle.loom_lang.specs.declared.refusal.Which.TheVariants as which
 use Rattle.loom_lang.specs.Refusal.{cells_over}
-use Rattle.loom_lang.specs.Noted.{noted}
+use Rattle.loom_lang.specs.Fault.{noted}
 use Rattle.loom_lang.proofs.excess.note_cells.Given as goal
 
 abbrev pub invariant-scan : goal.invariant-scan

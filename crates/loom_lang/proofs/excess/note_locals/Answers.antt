@@ -5,7 +5,7 @@ use Rattle.loom_lang.specs.declared.local.Local.{Local}
 use Rattle.loom_lang.specs.declared.refusal.Reason.TheVariants as reason
 use Rattle.loom_lang.specs.declared.refusal.Which.TheVariants as which
 use Rattle.loom_lang.specs.Refusal.{locals_at, over}
-use Rattle.loom_lang.proofs.Noted.{functions_step}
+use Rattle.loom_lang.proofs.Faults.{functions_step}
 use Rattle.loom_lang.proofs.excess.note_locals.Goals as goal
 
 pub scan-preserved : goal.scan-preserved

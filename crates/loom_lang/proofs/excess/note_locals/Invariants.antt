@@ -3,7 +3,7 @@ use Rattle.loom_tree.specs.Tree.{items_of}
 use Rattle.loom_lang.specs.declared.refusal.Reason.TheVariants as reason
 use Rattle.loom_lang.specs.declared.refusal.Which.TheVariants as which
 use Rattle.loom_lang.specs.Refusal.{lines_of_reason}
-use Rattle.loom_lang.specs.Noted.{noted}
+use Rattle.loom_lang.specs.Fault.{noted}
 use Rattle.loom_lang.proofs.excess.note_locals.Given as goal
 
 abbrev pub invariant-scan : goal.invariant-scan

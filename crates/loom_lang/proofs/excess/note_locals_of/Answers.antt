@@ -3,8 +3,8 @@ use Rattle.loom_lang.specs.Limits.{local_limit}
 use Rattle.loom_lang.specs.declared.local.Local.{Local}
 use Rattle.loom_lang.specs.declared.refusal.Reason.TheVariants as reason
 use Rattle.loom_lang.specs.declared.refusal.Which.TheVariants as which
-use Rattle.loom_lang.specs.Noted.{noted}
-use Rattle.loom_lang.proofs.Passed.{over_more, over_none}
+use Rattle.loom_lang.specs.Fault.{noted}
+use Rattle.loom_lang.proofs.BeyondLimit.{over_more, over_none}
 use Rattle.loom_lang.proofs.excess.note_locals_of.Goals as goal
 
 pub returns-then-locals-gt-LOCAL_LIMIT : goal.returns-then-locals-gt-LOCAL_LIMIT

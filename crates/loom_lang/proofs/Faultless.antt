@@ -1,5 +1,5 @@
 -- Items are without a fault exactly where they keep the rules.
-use Rattle.std.proofs.Common.{ℕ, ◌+◌, ◌≤◌, ◌≡◌, Bool, true, false, not, ◌&&◌, ◌||◌, nat_lt, List, [], ◌∷◌, length, map, zero-le, refl, ap, sym, ◌∙◌, arith}
+use Rattle.std.proofs.Common.{ℕ, ◌+◌, ◌≤◌, ◌≡◌, Bool, true, false, not, ◌&&◌, nat_lt, List, [], ◌∷◌, length, map, zero-le, refl, ap, sym, ◌∙◌, arith}
 use Rattle.std.specs.Prelude.{flat_map, codes}
 use Rattle.std.specs.List.{AllByRecursion}
 use Rattle.std.proofs.lemmas.Bool.{le-ltb, ltb-false}
@@ -10,7 +10,7 @@ use Rattle.loom_lang.specs.declared.refusal.Which.TheVariants as which
 use Rattle.loom_lang.specs.declared.refusal.Reason.{Reason}
 use Rattle.loom_lang.specs.declared.refusal.Reason.TheVariants as reason
 use Rattle.loom_lang.specs.Limits.{function_limit, param_limit, local_limit, name_limit, cell_limit, statement_limit}
-use Rattle.loom_lang.specs.Rules.{is_function, takes, is_distinct, is_apart, locals_of, lines_of, cell_count, shared_names, file_names, KeepsRules, FunctionKeepsRules, FunctionsKeepRules}
+use Rattle.loom_lang.specs.Rules.{is_distinct, is_apart, locals_of, lines_of, cell_count, shared_names, file_names, KeepsRules, FunctionKeepsRules, FunctionsKeepRules}
 use Rattle.loom_lang.specs.FileItems.{source_of_items}
 use Rattle.loom_lang.specs.Refusal.{line_if, unknown_lines, miscounted_lines, main_lines, locals_at, over, shared_lines, lines_of_reason, IsFaultless}
 use Rattle.loom_lang.specs.Program.{IsText}

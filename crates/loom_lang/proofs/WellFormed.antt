@@ -1,5 +1,5 @@
 -- The items of a text have the form that the grammar asks for.
-use Rattle.std.proofs.Common.{ℕ, zero, suc, ◌+◌, ◌≤◌, ◌≡◌, List, [], ◌∷◌, ◌++◌, map, flat_map, Option, Some, None, zero-le, refl, sym, ap, subst, ◌∙◌}
+use Rattle.std.proofs.Common.{ℕ, zero, suc, ◌+◌, ◌≤◌, ◌≡◌, List, [], ◌∷◌, ◌++◌, map, flat_map, Some, None, zero-le, refl, sym, ap, subst, ◌∙◌}
 use Rattle.std.specs.List.{AllByRecursion}
 use Rattle.loom_tree.specs.declared.item.Word.{Word}
 use Rattle.loom_tree.specs.declared.item.Sema.{Sema}
@@ -12,7 +12,7 @@ use Rattle.loom_lexer.specs.Name.{IsName, IsProper}
 use Rattle.loom_lexer.proofs.Proper.{AreProper, tokens_proper}
 use Rattle.loom_expression.specs.Text as expression
 use Rattle.loom_expression.specs.Text.{Text, tokens, node_limit, IsWritten}
-use Rattle.loom_syntax.specs.File.{Mark, on, at, FitsMark, FitMarks, Block, end, simple, if_, if_else, while_, none, plus, minus, Declaration, ItemForm, declared, func, behind_commas, with_commas, in_parens, right_tokens, simple_tokens, test_tokens, declaration_tokens, head_tokens, begun, ended, in_braces, block_marks, item_marks, block_limit, IsRight, IsSimple, IsBlock, IsDeclaration, IsItem, right_tree, simple_tree, block_tree, declaration_tree, item_tree, IsFile}
+use Rattle.loom_syntax.specs.File.{Mark, on, at, FitsMark, FitMarks, Block, end, simple, if_, if_else, while_, none, plus, minus, Declaration, ItemForm, declared, func, behind_commas, with_commas, in_parens, right_tokens, simple_tokens, test_tokens, declaration_tokens, head_tokens, begun, ended, in_braces, block_marks, item_marks, IsRight, IsSimple, IsBlock, IsDeclaration, IsItem, right_tree, simple_tree, block_tree, declaration_tree, item_tree, IsFile}
 use Rattle.loom_lang.specs.WellFormed.{node_count, HasProperNumbers, IsWellFormed, IsWellFormedRight, IsWellFormedStatement, IsWellFormedBlock, IsWellFormedWord, IsWellFormedSema}
 use Rattle.loom_lang.specs.Rules.{let_names, lets, locals_of, file_names}
 use Rattle.loom_lang.specs.FileItems.{source_of_items}

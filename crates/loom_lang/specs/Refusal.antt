@@ -10,7 +10,7 @@ use Rattle.loom_lang.specs.declared.refusal.Which.TheVariants as which
 use Rattle.loom_lang.specs.declared.refusal.Reason.{Reason}
 use Rattle.loom_lang.specs.declared.refusal.Reason.TheVariants as reason
 use Rattle.loom_lang.specs.Limits.{function_limit, param_limit, local_limit, name_limit, cell_limit, statement_limit}
-use Rattle.loom_lang.specs.Rules.{is_in, is_function, takes, knows, knows_simple, counts_simple, let_names, locals_of, lines_of, cells_of}
+use Rattle.loom_lang.specs.Rules.{is_in, is_function, knows, knows_simple, counts_simple, let_names, locals_of, lines_of, cells_of}
 use Rattle.loom_lang.specs.FileItems.{source_of_items}
 use Rattle.loom_lang.specs.Program.{IsText}
 

@@ -1,18 +1,17 @@
 -- The names and numbers among the tokens of a text are names and numbers of the language.
-use Rattle.std.proofs.Common.{ℕ, ◌+◌, ◌≡◌, ◌≤◌, Bool, true, false, cond, nat_le, nat_eq, if◌then◌else◌, List, [], ◌∷◌, ◌++◌, Option, Some, None, bytes_eq, refl, subst, sym, rules}
+use Rattle.std.proofs.Common.{ℕ, ◌+◌, ◌≡◌, Bool, true, false, cond, nat_le, nat_eq, if◌then◌else◌, List, [], ◌∷◌, ◌++◌, Option, Some, None, bytes_eq, refl, subst, sym, rules}
 use Rattle.std.specs.List.{AllByRecursion}
 use Rattle.std.proofs.lemmas.Bool.{leb-true}
 use Rattle.loom_tree.specs.declared.token.Keyword.{Keyword}
 use Rattle.loom_tree.specs.declared.token.TokenKind.{TokenKind}
 use Rattle.loom_tree.specs.declared.token.TokenKind.TheVariants as t
 use Rattle.loom_tree.specs.Token.{LineToken, token_by}
-use Rattle.loom_lexer.specs.declared.lexeme.Class.{Class}
 use Rattle.loom_lexer.specs.declared.lexeme.Class.TheVariants as c
 use Rattle.loom_lexer.specs.declared.lexeme.LexemeKind.{LexemeKind}
 use Rattle.loom_lexer.specs.declared.lexeme.LexemeKind.TheVariants as k
 use Rattle.loom_lexer.specs.Lexeme.{is_letter, is_digit, is_white, is_single, is_comparison, is_part, class_of, Each, Spells, Lexeme, IsLexed}
 use Rattle.loom_lexer.specs.Tokens.{keyword_of, word_of, value_from, largest_number, number_of, signs, beside, kind_of, placed, line_ends, tokens_from, AreTokens}
-use Rattle.loom_lexer.specs.Name.{IsName, IsProper}
+use Rattle.loom_lexer.specs.Name.{IsProper}
 
 -- a byte of the class of letters is one
 letter_told : (b : ℕ) → class_of b ≡ c.Letter → is_letter b ≡ true

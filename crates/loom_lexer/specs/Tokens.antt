@@ -1,5 +1,5 @@
 -- The tokens of a text, and their lines.
-use Rattle.std.specs.Prelude.{ℕ, ◌+◌, ◌-◌, ◌*◌, ◌≡◌, ◌≤◌, nat_le, nat_eq, List, [], ◌∷◌, ◌++◌, length, count_by, find, bytes_eq, codes, if◌then◌else◌, Option, Some, None}
+use Rattle.std.specs.Prelude.{ℕ, ◌+◌, ◌-◌, ◌*◌, ◌≡◌, nat_le, nat_eq, List, [], ◌∷◌, ◌++◌, count_by, find, bytes_eq, codes, if◌then◌else◌, Option, Some, None}
 use Rattle.loom_tree.specs.declared.expression.Op.TheVariants as o
 use Rattle.loom_tree.specs.declared.token.Keyword.{Keyword}
 use Rattle.loom_tree.specs.declared.token.Keyword.TheVariants as w

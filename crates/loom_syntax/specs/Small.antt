@@ -1,5 +1,4 @@
 -- Tokens that a text may have.
-use Rattle.std.specs.Prelude.{ℕ}
 use Rattle.std.specs.Coded.{Unit-prop, le_prop}
 use Rattle.loom_tree.specs.declared.token.TokenKind.{TokenKind}
 use Rattle.loom_tree.specs.declared.token.TokenKind.TheVariants as k

@@ -1,0 +1,4 @@
+pub mod Lock
+pub mod TicketRule
+pub mod Steps
+pub mod Seat

@@ -1,0 +1,34 @@
+-- What clauses say of a lock's seats.
+use Rattle.std.specs.Prelude.{◌≡◌, ℕ, List, [], ◌∷◌, ◌<◌, Option, Some, None, All, sum_by}
+use Rattle.atomic_table.specs.declared.shared.Seat as shared
+use Rattle.atomic_table.specs.Seated.{TableId}
+use Rattle.loom_turn.specs.declared.view.SeatView.{SeatView}
+use Rattle.loom_turn.specs.declared.view.SeatStage.TheVariants.{Idle}
+use Rattle.loom_turn.specs.Lock.{IsAtTurn}
+
+abbrev pub Seat : Type 0 → Type 0 → Type 0
+Seat T L = shared.Seat (Option T) (SeatView L)
+
+module _ {T L : Type 0} where
+  -- a seat of the lock whose table has this id, which carries this label
+  abbrev pub IsSeatOf : TableId → L → Seat T L → Type 0
+  IsSeatOf id l s = (s.table_id ≡ id) × (0 < s.me.0.parts) × (s.me.0.label ≡ Some l)
+
+  -- it has no ticket, and not the slot
+  abbrev pub IsIdle : Seat T L → Type 0
+  IsIdle s = (s.me.0.stage ≡ Idle) × (s.me.1 ≡ [])
+
+  -- its ticket is served, and it has the slot, which is empty
+  abbrev pub HasTurn : Seat T L → Type 0
+  HasTurn s = IsAtTurn s.me.0.stage × (s.me.1 ≡ (0, None) ∷ [])
+
+  -- a seat of the same lock, with the same label and as many parts
+  abbrev pub IsSameSeat : Seat T L → Seat T L → Type 0
+  IsSameSeat s s' = (s'.table_id ≡ s.table_id) × (s'.me.0.parts ≡ s.me.0.parts) × (s'.me.0.label ≡ s.me.0.label)
+
+  abbrev pub parts_of : Seat T L → ℕ
+  parts_of s = s.me.0.parts
+
+  -- all seats of the lock, idle
+  abbrev pub AreSeatsOf : TableId → L → List (Seat T L) → Type 0
+  AreSeatsOf id l seats = All (λ (s : Seat T L). IsSeatOf id l s × IsIdle s) seats × (sum_by parts_of seats ≡ 256)

@@ -11,7 +11,7 @@ use Rattle.loom_turn.specs.declared.view.SeatView.{SeatView}
 use Rattle.loom_turn.specs.declared.view.SeatStage.TheVariants.{Idle}
 use Rattle.loom_turn.specs.Lock.{seat_view}
 use Rattle.loom_turn.specs.TicketRule.{TicketRule}
-use Rattle.loom_turn.specs.Seat.{Seat, IsSeatOf, IsIdle, IsSameSeat, parts_of}
+use Rattle.loom_turn.specs.Seat.{Seat, IsSeatAt, IsIdle, IsSameSeat, parts_of}
 use Rattle.loom_turn.proofs.Tables.{ends}
 
 module _ {A : Type 0} (P : A → Type 0) where
@@ -36,24 +36,24 @@ module _ {T L : Type 0} where
 
 module _ {T L : Type 0} (id : TableId) (l : L) where
   abbrev pub Good : Seat T L → Type 0
-  Good s = IsSeatOf id l s × IsIdle s
+  Good s = IsSeatAt id l s × IsIdle s
 
-  pub pops : (xs ys : List (Seat T L)) (x : Seat T L) → xs ≡ ys ++ x ∷ [] → All Good xs → All Good ys × IsSeatOf id l x × IsIdle x
+  pub pops : (xs ys : List (Seat T L)) (x : Seat T L) → xs ≡ ys ++ x ∷ [] → All Good xs → All Good ys × IsSeatAt id l x × IsIdle x
   pops xs ys x e h = let a = subst (All Good) e h in let b = all_last Good ys x a in (all_front Good ys (x ∷ []) a, b.0, b.1)
 
-  pub pushes : (xs : List (Seat T L)) (x : Seat T L) → All Good xs → IsSeatOf id l x → IsIdle x → All Good (xs ++ x ∷ [])
+  pub pushes : (xs : List (Seat T L)) (x : Seat T L) → All Good xs → IsSeatAt id l x → IsIdle x → All Good (xs ++ x ∷ [])
   pushes xs x h p q = all_more Good xs x h (p, q)
 
   -- seat `a` takes in the parts of seat `x`
-  pub joined : (a x b : Seat T L) → IsSeatOf id l a → IsIdle a → b.table_id ≡ a.table_id → b.me ≡ (seat_view (a.me.0.parts + x.me.0.parts) Idle a.me.0.label, a.me.1)
-      → IsSeatOf id l b × IsIdle b × (b.me.0.parts ≡ a.me.0.parts + x.me.0.parts)
+  pub joined : (a x b : Seat T L) → IsSeatAt id l a → IsIdle a → b.table_id ≡ a.table_id → b.me ≡ (seat_view (a.me.0.parts + x.me.0.parts) Idle a.me.0.label, a.me.1)
+      → IsSeatAt id l b × IsIdle b × (b.me.0.parts ≡ a.me.0.parts + x.me.0.parts)
   joined a x b h i t e = let p = ap (λ m. m.0.parts) e in let q = h.1 in
       ((t ∙ h.0, omega arith, ap (λ m. m.0.label) e ∙ h.2), (ap (λ m. m.0.stage) e, ap (λ m. m.1) e ∙ i.1), p)
 
   -- seat `a` is split
-  pub parted : (a b c : Seat T L) → IsSeatOf id l a → IsIdle a → 1 < a.me.0.parts → b.table_id ≡ a.table_id → b.me ≡ (seat_view (a.me.0.parts - 1) Idle a.me.0.label, a.me.1)
+  pub parted : (a b c : Seat T L) → IsSeatAt id l a → IsIdle a → 1 < a.me.0.parts → b.table_id ≡ a.table_id → b.me ≡ (seat_view (a.me.0.parts - 1) Idle a.me.0.label, a.me.1)
       → c.table_id ≡ a.table_id → c.me ≡ (seat_view 1 Idle a.me.0.label, [])
-      → IsSeatOf id l b × IsIdle b × (b.me.0.parts + 1 ≡ a.me.0.parts) × Good c × (c.me.0.parts ≡ 1)
+      → IsSeatAt id l b × IsIdle b × (b.me.0.parts + 1 ≡ a.me.0.parts) × Good c × (c.me.0.parts ≡ 1)
   parted a b c h i more t e t' e' = let p = ap (λ m. m.0.parts) e in let p' = ap (λ m. m.0.parts) e' in (
     (t ∙ h.0, omega arith, ap (λ m. m.0.label) e ∙ h.2),
     (ap (λ m. m.0.stage) e, ap (λ m. m.1) e ∙ i.1),
@@ -62,7 +62,7 @@ module _ {T L : Type 0} (id : TableId) (l : L) where
     p',
   )
 
-  pub still_good : (s s' : Seat T L) → IsSeatOf id l s → IsIdle s' → IsSameSeat s s' → Good s'
+  pub still_good : (s s' : Seat T L) → IsSeatAt id l s → IsIdle s' → IsSameSeat s s' → Good s'
   still_good s s' h i k = let p = h.1 in let q = k.1 in ((k.0 ∙ h.0, omega arith, k.2 ∙ h.2), i)
 
 module _ {T L : Type 0} (label : T → L) (l : L) where

@@ -3,6 +3,7 @@
 //! The machine behind it, with its rule, stands in `specs/Lock.antt`.
 #![tactic(auto)]
 
+mod calls;
 #[cfg(test)]
 mod tests;
 pub mod turn;

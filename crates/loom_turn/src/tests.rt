@@ -21,7 +21,7 @@ impl Fits for Count {
 
 // Takes the turn, adds 1 and gives the turn back, and tells what was found.
 fn add_one<R: Wait>(rt: &R, turn: &Turn<Count>, seat: &mut Seat<Count>) -> u32
-    requires seat { IsSeatOf turn.now.table.shared.table_id turn.now.table.shared.key.value.label seat.old }
+    requires seat { IsSeatOf (λ c. c.label) turn.now seat.old }
     requires idle { IsIdle seat.old }
     ensures idle { IsIdle seat.new }
     ensures same { IsSameSeat seat.old seat.new }
@@ -34,7 +34,7 @@ fn add_one<R: Wait>(rt: &R, turn: &Turn<Count>, seat: &mut Seat<Count>) -> u32
 }
 
 fn add_times<R: Wait>(rt: &R, turn: &Turn<Count>, seat: &mut Seat<Count>, times: u32)
-    requires seat { IsSeatOf turn.now.table.shared.table_id turn.now.table.shared.key.value.label seat.old }
+    requires seat { IsSeatOf (λ c. c.label) turn.now seat.old }
     requires idle { IsIdle seat.old }
     ensures idle { IsIdle seat.new }
     ensures same { IsSameSeat seat.old seat.new }
@@ -51,19 +51,19 @@ fn both_add<R: Threads + Wait + Sync>(
     two: &mut Seat<Count>,
     times: u32,
 )
-    requires one { IsSeatOf turn.now.table.shared.table_id turn.now.table.shared.key.value.label one.old × IsIdle one.old }
-    requires two { IsSeatOf turn.now.table.shared.table_id turn.now.table.shared.key.value.label two.old × IsIdle two.old }
+    requires one { IsSeatOf (λ c. c.label) turn.now one.old × IsIdle one.old }
+    requires two { IsSeatOf (λ c. c.label) turn.now two.old × IsIdle two.old }
     ensures one { IsIdle one.new × IsSameSeat one.old one.new }
     ensures two { IsIdle two.new × IsSameSeat two.old two.new }
 {
     join_mut(
         rt,
         &mut ||
-            requires { IsSync R.row × IsSeatOf turn.now.table.shared.table_id turn.now.table.shared.key.value.label one.now × IsIdle one.now }
+            requires { IsSync R.row × IsSeatOf (λ c. c.label) turn.now one.now × IsIdle one.now }
             ensures { IsIdle one.exit.now × IsSameSeat one.entry.now one.exit.now }
         { add_times(rt, turn, one, times) },
         &mut ||
-            requires { IsSync R.row × IsSeatOf turn.now.table.shared.table_id turn.now.table.shared.key.value.label two.now × IsIdle two.now }
+            requires { IsSync R.row × IsSeatOf (λ c. c.label) turn.now two.now × IsIdle two.now }
             ensures { IsIdle two.exit.now × IsSameSeat two.entry.now two.exit.now }
         { add_times(rt, turn, two, times) },
     );

@@ -1,5 +1,5 @@
 -- The lock's steps keep its rule. No table here.
-use Rattle.std.proofs.Common.{◌≡◌, ◌≢◌, ℕ, zero, suc, ◌+◌, ◌<◌, ◌≤◌, lt_of_not-le, sym, refl, ap, ◌∙◌, subst, arith, Option, Some, None}
+use Rattle.std.proofs.Common.{◌≡◌, ◌≢◌, ℕ, suc, ◌+◌, ◌<◌, ◌≤◌, lt_of_not-le, sym, refl, ap, ◌∙◌, subst, arith, Option, Some, None}
 use mathlib.Core.Logic.{dite}
 use native.Mathlib.Decide.{dec_le}
 use Rattle.atomic_table.proofs.Lists.{one_turn}
@@ -7,7 +7,7 @@ use Rattle.std.proofs.lemmas.Option.{same_Some, none-some}
 use Rattle.loom_turn.specs.declared.view.SeatView.{SeatView}
 use Rattle.loom_turn.specs.declared.view.SeatStage.{SeatStage}
 use Rattle.loom_turn.specs.declared.view.SeatStage.TheVariants.{Idle, Waits, AtTurn}
-use Rattle.loom_turn.specs.Lock.{seat_view, blank, at_stage, changed, sum_below, ticket_count, ticket_of, HasTicket, IsAtTurn, StageFits, Lock, draw, admit, serve, HomeFits, IsOrderly, IsWhole}
+use Rattle.loom_turn.specs.Lock.{seat_view, blank, at_stage, changed, ticket_count, ticket_of, HasTicket, IsAtTurn, StageFits, Lock, draw, admit, serve, HomeFits, IsOrderly, IsWhole}
 use Rattle.loom_turn.specs.TicketRule.{wrap}
 use Rattle.loom_turn.proofs.Changes.{changed_here, changed_else, changed_all, sum_changed, sum_le, sum_two}
 
@@ -155,6 +155,9 @@ module _ {T L : Type 0} (label : T → L) (l : L) where
       let c = k.count in
       let e : ticket_count (m.views m.seats).stage ≡ 0 = ap (λ (v : SeatView L). ticket_count v.stage) (k.others m.seats (omega arith)) in
       record { count = omega arith; tickets = k.tickets; apart = k.apart; home = k.home; labels = k.labels; others = λ i le. k.others i (omega arith) }
+
+  pub one_at_turn : (m : Lock T L) → IsOrderly label l m → (i j : ℕ) → IsAtTurn (m.views i).stage → IsAtTurn (m.views j).stage → i ≡ j
+  one_at_turn m k i j a b = k.apart i j m.served (at_turn m.served m.drawn (m.views i).stage (k.tickets i) a).0 (at_turn m.served m.drawn (m.views j).stage (k.tickets j) b).0
 
   -- where a seat has all parts and no ticket, no seat is at its turn
   pub no_turn : (m : Lock T L) → IsOrderly label l m → IsWhole m → (i : ℕ) → i < m.seats → (m.views i).stage ≡ Idle → (m.views i).parts ≡ 256 → (j : ℕ) → IsAtTurn (m.views j).stage → ⊥

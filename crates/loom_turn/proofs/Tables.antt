@@ -1,5 +1,5 @@
 -- The lock in its table: each kind of step, split and join keeps the table's rule.
-use Rattle.std.proofs.Common.{◌≡◌, ◌≢◌, ℕ, zero, suc, ◌+◌, ◌-◌, ◌%◌, ◌<◌, ◌≤◌, ◌==◌, eq-eqb, ne_eqb, Bool, List, [], ◌∷◌, ◌++◌, get_or, set, sym, refl, ap, ◌∙◌, subst, arith, Option, Some, None, MatchBool}
+use Rattle.std.proofs.Common.{◌≡◌, ◌≢◌, ℕ, suc, ◌+◌, ◌-◌, ◌%◌, ◌<◌, ◌≤◌, eq-eqb, ne_eqb, Bool, List, [], ◌∷◌, get_or, set, sym, refl, ap, ◌∙◌, subst, arith, Option, Some, None, MatchBool}
 use mathlib.Core.Option as maybe
 use mathlib.Core.Option.{some, none, some-ne-none}
 use mathlib.Core.Logic.{dite}
@@ -8,9 +8,8 @@ use lib.ListN.{get_elem?}
 use Rattle.atomic_table.specs.Table.{rest, put_back, State, step, keeps, takes, gives, Allows, Splits, Joins}
 use Rattle.atomic_table.proofs.Lists.{set_again, set_else}
 use Rattle.loom_turn.specs.declared.view.SeatView.{SeatView}
-use Rattle.loom_turn.specs.declared.view.SeatStage.{SeatStage}
 use Rattle.loom_turn.specs.declared.view.SeatStage.TheVariants.{Idle, Waits, AtTurn}
-use Rattle.loom_turn.specs.Lock.{seat_view, blank, at_stage, changed, ticket_count, ticket_of, IsAtTurn, Lock, draw, admit, serve}
+use Rattle.loom_turn.specs.Lock.{seat_view, blank, at_stage, changed, ticket_count, ticket_of, IsAtTurn, draw, admit, serve}
 use Rattle.loom_turn.specs.TicketRule.{wrap, slot_of, AreViews, TicketRule}
 use Rattle.loom_turn.specs.Steps.{Holder, Draws, Admits, Loads, Serves}
 use Rattle.loom_turn.proofs.Changes.{is_seat, views_changed, views_more}

@@ -80,12 +80,17 @@ module _ {T L : Type 0} (label : T → L) (l : L) where
 
   -- The rule that each step keeps. A ticket is a seat's from its draw to its serve.
   pub record IsOrderly (m : Lock T L) : Type 0 where
-    -- the tickets served, with those that seats have, are all that were drawn
+    -- the tickets served to the end, and those that seats have, are all that were drawn
     pub count : m.served + sum_below m.seats (λ i. ticket_count (m.views i).stage) ≡ m.drawn
+    -- each seat's ticket was drawn and isn't past
     pub tickets : (i : ℕ) → StageFits m.served m.drawn (m.views i).stage
+    -- no two seats have one ticket
     pub apart : (i j t : ℕ) → HasTicket t (m.views i).stage → HasTicket t (m.views j).stage → i ≡ j
+    -- the value is at home, or out with the seat at its turn
     pub home : HomeFits m.views m.home
+    -- each label that a seat carries is the value's
     pub labels : (i : ℕ) (k : L) → (m.views i).label ≡ Some k → k ≡ l
+    -- a seat that isn't made yet says nothing
     pub others : (i : ℕ) → m.seats ≤ i → m.views i ≡ blank
 
 -- The parts of all seats are 256, and a seat with a ticket has one.

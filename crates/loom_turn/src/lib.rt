@@ -4,6 +4,7 @@
 #![tactic(auto)]
 
 mod calls;
+pub mod laws;
 #[cfg(test)]
 mod tests;
 pub mod turn;

@@ -14,8 +14,8 @@ pub trait Fits {
     ghost label: { Self → Self.Label };
 }
 
-/// The rule of the lock's table: two words, which count tickets drawn and tickets served, and one slot for the value.
-pub struct Tickets;
+// The rule of the lock's table: two words, which count tickets drawn and tickets served, and one slot for the value.
+pub(crate) struct Tickets;
 
 impl<T: Fits> TableRule<Option<T>, SeatView<T::Label>, Snapshot<T>> for Tickets {
     ghost use Rattle.loom_turn.specs.Lock.{seat_view};

@@ -12,7 +12,7 @@ pub enum SeatStage {
 
 /// What a seat knows.
 pub struct SeatView<L> {
-    /// Its share of the lock's 256 parts. Who has them all has the only seat.
+    /// Its share of the 256 parts that a lock's seats have in all. A seat with a ticket has one at least.
     pub parts: u64,
     /// How far it is with its turn.
     pub stage: SeatStage,

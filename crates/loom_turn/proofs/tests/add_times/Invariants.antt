@@ -1,4 +1,3 @@
-use Rattle.std.proofs.Common.{◌≡◌}
 use Rattle.loom_turn.specs.Seat.{IsSeatOf, IsIdle, IsSameSeat}
 use Rattle.loom_turn.proofs.tests.add_times.Given as goal
 

@@ -1,4 +1,4 @@
-use Rattle.std.proofs.Common.{rules, ◌≡◌, ℕ, ◌+◌, ◌<◌, [], ◌∷◌, ◌++◌, length, ap, arith, ◌∙◌, sym, Some}
+use Rattle.std.proofs.Common.{rules, ◌≡◌, [], ◌++◌, ap, arith, ◌∙◌, sym}
 use Rattle.std.specs.Prelude.{option_to_list, sum_by}
 use Rattle.std.proofs.lemmas.Option.{same_Some, none-some}
 use Rattle.loom_turn.specs.Seat.{parts_of}

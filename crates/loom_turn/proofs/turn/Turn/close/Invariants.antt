@@ -1,4 +1,4 @@
-use Rattle.std.proofs.Common.{◌≡◌, ℕ, ◌+◌, ◌<◌, length, All}
+use Rattle.std.proofs.Common.{◌≡◌, ◌+◌, length, All}
 use Rattle.std.specs.Prelude.{sum_by}
 use Rattle.loom_turn.specs.Seat.{IsSeatAt, IsIdle, parts_of}
 use Rattle.loom_turn.proofs.turn.Turn.close.Given as goal

@@ -1,4 +1,4 @@
-use Rattle.std.proofs.Common.{rules, ◌≡◌, ◌<◌, [], ◌∷◌, length, ap, arith, ◌∙◌, sym}
+use Rattle.std.proofs.Common.{ap, arith, ◌∙◌}
 use Rattle.loom_turn.proofs.Tables.{serves_at, puts}
 use Rattle.loom_turn.proofs.turn.Turn.give.Goals as goal
 

@@ -1,5 +1,5 @@
-use Rattle.std.proofs.Common.{rules, ◌≡◌, ◌<◌, [], ◌∷◌, length, ap, arith, ◌∙◌, sym}
-use Rattle.loom_turn.proofs.Tables.{draws_at, loads_at, admitted, waits_on, has_slot}
+use Rattle.std.proofs.Common.{rules, ◌≡◌, ap, arith, ◌∙◌}
+use Rattle.loom_turn.proofs.Tables.{draws_at, loads_at, admitted, has_slot}
 use Rattle.loom_turn.proofs.turn.Turn.take.Goals.{in-None, in-Some+then-found-ticket}
 use Rattle.loom_turn.proofs.turn.Turn.take.Goals as goal
 

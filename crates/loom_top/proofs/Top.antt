@@ -18,7 +18,7 @@ use Rattle.loom_lang.specs.Program.{IsProgram}
 use Rattle.loom_lang.specs.Laws.{HasOneProgram}
 use Rattle.loom_top.specs.declared.status.Status.{Status}
 use Rattle.loom_top.specs.declared.status.Status.TheVariants as status
-use Rattle.loom_top.specs.Built.{is_built}
+use Rattle.loom_top.specs.Runnable.{is_runnable}
 use Rattle.loom_top.specs.Code.{code, ended_as}
 use Rattle.loom_top.specs.Command.{Command, IsPlain, IsLimited, IsCommand}
 use Rattle.loom_top.specs.Answers.{CanRun, CanEnd, IsRunOf, Call, FileOwes, CanBe, IsFileOf, Owes, Answers, IsValid, IsMissing, Put, FileEnds, source_limit}
@@ -161,10 +161,10 @@ only_fault s words status.Refused h v = absurd (none_told s words v h.1.0 h.1.1 
 only_fault s words status.TooLong h v = absurd (none_told s words v h.1.0 h.1.1 h.1.2 h.1.3)
 
 -- a program that the bytes are is the only one
-pub not_built : (one : HasOneProgram) (file : List ℕ) (p q : Source) → IsProgram file p → is_built p ≡ false → CanRun file q → ⊥
+pub not_built : (one : HasOneProgram) (file : List ℕ) (p q : Source) → IsProgram file p → is_runnable p ≡ false → CanRun file q → ⊥
 not_built one file p q h unbuilt c =
     let same : p ≡ q = one file p q h c.program in
-    let e : is_built p ≡ true = ap is_built same ∙ c.built in
+    let e : is_runnable p ≡ true = ap is_runnable same ∙ c.runnable in
     cc
 
 pub none_runs : (file : List ℕ) → ((p : Source) → IsProgram file p → ⊥) → (p : Source) → CanRun file p → ⊥

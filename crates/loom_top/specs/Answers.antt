@@ -1,5 +1,5 @@
 -- What the top call answers, and what it writes.
-use Rattle.std.specs.Prelude.{ℕ, ◌<◌, ◌≤◌, ◌≡◌, ◌≢◌, ◌⊎◌, Bool, true, false, List, ◌++◌, codes, length, Option}
+use Rattle.std.specs.Prelude.{ℕ, ◌<◌, ◌≤◌, ◌≡◌, ◌≢◌, ◌⊎◌, Bool, true, false, List, [], ◌++◌, codes, length, Option}
 use Rattle.std.specs.Io.KnownBytes.{Appends}
 use Rattle.loom_io.specs.Fault.{Rose}
 use Rattle.loom_io.specs.Shelf.{FileState, Untold, Missing, Present}
@@ -10,11 +10,13 @@ use Rattle.loom_trace.specs.declared.entry.Ending.{Ending}
 use Rattle.loom_trace.specs.declared.entry.Ending.TheVariants as k
 use Rattle.loom_trace.specs.Text.{journal_text}
 use Rattle.loom_lang.specs.Program.{IsProgram}
-use Rattle.loom_law.specs.Lawful.{IsLawful, IsFinished}
+use Rattle.loom_event.specs.Entries.{IsFinished}
+use Rattle.loom_law.specs.Lawful.{Setting, IsLawful}
+use Rattle.loom_law.specs.Promises.{Promises}
 use Rattle.loom_top.specs.declared.status.Status.{Status}
 use Rattle.loom_top.specs.declared.status.Status.TheVariants as status
 use Rattle.loom_top.specs.Command.{Command, IsCommand}
-use Rattle.loom_top.specs.Built.{is_built}
+use Rattle.loom_top.specs.Runnable.{is_runnable}
 
 -- Files and programs
 
@@ -25,19 +27,25 @@ source_limit = 65536
 -- The bytes are a program, of the forms that can be run so far.
 pub record CanRun (file : List ℕ) (p : Source) : Type 0 where
   pub program : IsProgram file p
-  pub built : is_built p ≡ true
+  pub runnable : is_runnable p ≡ true
 
 -- No stop test is given.
-abbrev pub never : Entry → Bool
-never x = false
+abbrev pub never : List Entry → Bool
+never es = false
+
+-- A run of the program without commands, of at most so many thread entries.
+abbrev pub plain : Source → ℕ → Setting
+plain p limit = record { program = p; commands = []; limit = limit; stop = never }
 
 -- A run of one thread ends as done or at its limit.
 abbrev pub CanEnd : Ending → Type 0
 CanEnd kind = (kind ≡ k.Done) ⊎ (kind ≡ k.Limit)
 
--- The journal of a run: finished in this way, and lawful for the program and the limit of thread entries. There is no stop test.
+-- The journal of a run: finished in this way, and lawful for the program and the limit of thread entries. There are no commands, and there is no
+-- stop test. So it keeps what is promised of every journal.
 pub record IsRunOf (p : Source) (limit : ℕ) (kind : Ending) (journal : List Entry) : Type 0 where
-  pub lawful : IsLawful p limit never journal
+  pub lawful : IsLawful (plain p limit) journal
+  pub promises : Promises (plain p limit) journal lawful
   pub finished : IsFinished journal kind
   pub ends : CanEnd kind
 

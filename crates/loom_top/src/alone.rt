@@ -9,7 +9,7 @@ ghost use Rattle.loom_top.specs.declared.status.Status.{Status};
 ghost use Rattle.loom_top.specs.Code.{code, ended_as};
 ghost use Rattle.loom_top.specs.Answers.{CanRun, IsRunOf, Put, FileEnds, call_of, Answers, IsValid, IsMissing};
 
-use crate::built::is_built;
+use crate::runnable::is_runnable;
 use crate::code::{code_of, status_of};
 use crate::command::command_of;
 use crate::run::run;
@@ -81,7 +81,7 @@ fn run_of(alloc: Global, file: &[u8], limit: u32) -> Result<(Journal, Ending), L
 {
     match parse_program(alloc, file) {
         Ok(program) => {
-            if is_built(&program) {
+            if is_runnable(&program) {
                 let flow = lower(alloc, &program)?;
                 Ok(run(alloc, &flow, limit)?)
             } else {

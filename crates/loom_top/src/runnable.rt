@@ -2,7 +2,7 @@
 ghost use Rattle.std.specs.Prelude.{◌≡◌};
 ghost use Rattle.loom_tree.specs.Tree.{body_of, behind, end, right_of, functions_of};
 ghost use Rattle.loom_strand.specs.Alone.{right_alone, body_alone, functions_alone};
-ghost use Rattle.loom_top.specs.Built.{is_built};
+ghost use Rattle.loom_top.specs.Runnable.{is_runnable};
 
 use loom_lang::program::Program;
 use loom_tree::statement::{Func, Kind, Right, Stmts};
@@ -64,8 +64,8 @@ fn functions_alone(funcs: &[Func]) -> bool
 }
 
 /// Whether a program has no form but those that can be run so far.
-pub fn is_built(program: &Program) -> bool
-    ensures { result ≡ is_built program.now }
+pub fn is_runnable(program: &Program) -> bool
+    ensures { result ≡ is_runnable program.now }
 {
     program.mutexes().0.is_empty()
         && (program.semas().0.is_empty() && functions_alone(program.funcs().0.as_slice()))

@@ -1,7 +1,7 @@
 use Rattle.std.proofs.Common.{◌≡◌, drop}
 use Rattle.loom_tree.specs.Tree.{functions_of}
 use Rattle.loom_strand.specs.Alone.{functions_alone}
-use Rattle.loom_top.proofs.built.functions_alone.Given as goal
+use Rattle.loom_top.proofs.runnable.functions_alone.Given as goal
 
 -- the functions that are left tell
 abbrev pub invariant-scan : goal.invariant-scan

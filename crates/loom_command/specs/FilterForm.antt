@@ -13,30 +13,30 @@ use Rattle.loom_command.specs.Filter as tree
 use Rattle.loom_command.specs.Filter.{Filter}
 
 -- an expression: its bytes, and the tree that they are
-pub record Test : Type 0 where
+pub record TestForm : Type 0 where
   pub bytes : List ℕ
   pub tree : Expression
 
 -- a number is its digits
-pub record Event : Type 0 where
+pub record EventForm : Type 0 where
   pub file : List ℕ
   pub line : List ℕ
-  pub test : Option Test
+  pub test : Option TestForm
 
-pub record Step : Type 0 where
-  pub event : Event
+pub record StepForm : Type 0 where
+  pub event : EventForm
   pub count : Option (List ℕ)
 
-pub data Region : Type 0 where
-  between : List Step → List Step → Region
-  whole : List ℕ → Option Test → Region
+pub data RegionForm : Type 0 where
+  between : List StepForm → List StepForm → RegionForm
+  whole : List ℕ → Option TestForm → RegionForm
 
-pub data Clause : Type 0 where
+pub data ClauseForm : Type 0 where
   -- the first step, the second, and the others
-  order : Step → Step → List Step → Clause
+  order : StepForm → StepForm → List StepForm → ClauseForm
   -- the first region, and the others
-  exclusive : Region → List Region → Clause
-  unilateral : Region → Clause
+  exclusive : RegionForm → List RegionForm → ClauseForm
+  unilateral : RegionForm → ClauseForm
 
 -- What may stand where
 
@@ -68,18 +68,18 @@ is_comment k.Comment = true
 is_comment _ = false
 
 -- the bytes are an expression of the language, on one line and without a comment
-pub record IsTest (x : Test) : Type 0 where
+pub record IsTest (x : TestForm) : Type 0 where
   pub lexemes : List Lexeme
   pub lexed : IsLexed lexemes x.bytes
   pub one_line : Each (λ b. not (nat_eq b 10)) x.bytes
   pub no_comment : AllByRecursion (λ (l : Lexeme). is_comment l.kind ≡ false) lexemes
   pub is : IsExpression (map (λ (t : Placed). t.token) (tokens_from 1 lexemes)) x.tree
 
-abbrev pub IsTestIf : Option Test → Type 0
+abbrev pub IsTestIf : Option TestForm → Type 0
 IsTestIf None = Unit {0}
 IsTestIf (Some x) = IsTest x
 
-pub record IsEvent (x : Event) : Type 0 where
+pub record IsEvent (x : EventForm) : Type 0 where
   pub file : IsFile x.file
   pub line : IsNumber x.line
   pub test : IsTestIf x.test
@@ -88,7 +88,7 @@ abbrev pub IsCountIf : Option (List ℕ) → Type 0
 IsCountIf None = Unit {0}
 IsCountIf (Some digits) = IsNumber digits
 
-pub record IsStep (x : Step) : Type 0 where
+pub record IsStep (x : StepForm) : Type 0 where
   pub event : IsEvent x.event
   pub count : IsCountIf x.count
 
@@ -96,42 +96,42 @@ abbrev pub IsSome : {A : Type 0} → List A → Type 0
 IsSome [] = ⊥
 IsSome (x ∷ xs) = Unit {0}
 
-abbrev pub IsRegion : Region → Type 0
+abbrev pub IsRegion : RegionForm → Type 0
 IsRegion (between es xs) = IsSome es × AllByRecursion IsStep es × IsSome xs × AllByRecursion IsStep xs
 IsRegion (whole f test) = IsName f × IsTestIf test
 
-abbrev pub IsClause : Clause → Type 0
+abbrev pub IsClause : ClauseForm → Type 0
 IsClause (order a b ss) = IsStep a × IsStep b × AllByRecursion IsStep ss
 IsClause (exclusive r rs) = IsRegion r × AllByRecursion IsRegion rs
 IsClause (unilateral r) = IsRegion r
 
 -- The tree that a written filter is. A step without a count has the count 1; those of a region count nothing.
 
-abbrev pub test_tree : Option Test → Option Expression
+abbrev pub test_tree : Option TestForm → Option Expression
 test_tree None = None
 test_tree (Some x) = Some x.tree
 
-abbrev pub event_tree : Event → tree.Event
+abbrev pub event_tree : EventForm → tree.LineEvent
 event_tree x = record { file = x.file; line = value_from 0 x.line; test = test_tree x.test }
 
 abbrev pub count_value : Option (List ℕ) → ℕ
 count_value None = 1
 count_value (Some digits) = value_from 0 digits
 
-abbrev pub step_tree : Step → tree.Step
+abbrev pub step_tree : StepForm → tree.OrderStep
 step_tree x = record { event = event_tree x.event; count = count_value x.count }
 
-abbrev pub events_tree : List Step → List tree.Event
-events_tree ss = map (λ (s : Step). event_tree s.event) ss
+abbrev pub events_tree : List StepForm → List tree.LineEvent
+events_tree ss = map (λ (s : StepForm). event_tree s.event) ss
 
-abbrev pub region_tree : Region → tree.Region
+abbrev pub region_tree : RegionForm → tree.Region
 region_tree (between es xs) = tree.between (events_tree es) (events_tree xs)
 region_tree (whole f test) = tree.whole f (test_tree test)
 
-abbrev pub clause_tree : Clause → tree.Clause
+abbrev pub clause_tree : ClauseForm → tree.Clause
 clause_tree (order a b ss) = tree.order (step_tree a ∷ step_tree b ∷ map step_tree ss)
 clause_tree (exclusive r rs) = tree.exclusive (region_tree r ∷ map region_tree rs)
 clause_tree (unilateral r) = tree.unilateral (region_tree r)
 
-abbrev pub filter_tree : List Clause → Filter
+abbrev pub filter_tree : List ClauseForm → Filter
 filter_tree cs = map clause_tree cs

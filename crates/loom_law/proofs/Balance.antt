@@ -10,7 +10,7 @@ use Rattle.loom_law.specs.Filter.{has}
 use Rattle.loom_law.specs.Walk.{Version, holds, without_clause}
 use Rattle.loom_law.specs.Control.{Command, have_one_name, Holder, Control, first_control, without_holder, left_by, after_entry, controlled}
 use Rattle.loom_law.specs.Lawful.{is_held_by, is_installed}
-use Rattle.loom_law.proofs.Held.{or_cases, or_left, or_right, either_of, pick, same_number}
+use Rattle.loom_law.proofs.Holdings.{or_cases, or_left, or_right, either_of, pick, same_number}
 
 -- Tests
 

@@ -10,13 +10,13 @@ use Rattle.loom_trace.specs.declared.entry.What.{What}
 use Rattle.loom_trace.specs.declared.entry.What.TheVariants as w
 use Rattle.loom_lang.specs.Places.{Place, nowhere, line_of_place}
 use Rattle.loom_event.specs.Event.{Event, entry_of, targets}
-use Rattle.loom_event.specs.Replay.{Spawned, Store, start, thread_at, replay, IsDisabled, AllEnded, thread_limit}
+use Rattle.loom_event.specs.Replay.{ThreadState, Store, start, thread_at, replay, IsDisabled, AllEnded, thread_limit}
 use Rattle.loom_event.specs.Run.{AreRun}
 use Rattle.loom_event.specs.Entries.{thread_of, thread_entries, last_of_thread, is_stopped, is_over, is_at_limit}
 use Rattle.loom_law.specs.Filter.{Plan, numbers, is_alone, before_in, has}
-use Rattle.loom_law.specs.Walk.{Version, Plans, Step, place_number, unborn}
+use Rattle.loom_law.specs.Walk.{Version, Plans, Step, place_number}
 use Rattle.loom_law.specs.Part.{Own, led, IsPart, Point, IsPlaceOf, ComesTo, HasMoved, KeepsAway, IsInside}
-use Rattle.loom_law.specs.Watch.{nothing_seen, seen_from, where_all_made, IsClear}
+use Rattle.loom_law.specs.View.{IsClear, view_behind}
 use Rattle.loom_law.specs.Paths.{IsUnsafe}
 use Rattle.loom_command.specs.Script.{Trigger, at, stall}
 use Rattle.loom_law.specs.Control.{Judgement, refused, means, Action, install, remove, Command, command_at, plans_of, have_one_name, Holder, Control, control, taken, entries_of, listed, since_asked, is_post, is_past}
@@ -25,8 +25,10 @@ use Rattle.loom_law.specs.Control.{Judgement, refused, means, Action, install, r
 pub record Setting : Type 0 where
   pub program : Source
   pub commands : List Command
+  -- how many entries threads may make
   pub limit : ℕ
-  pub stop : Entry → Bool
+  -- the stop test, of the entries so far
+  pub stop : List Entry → Bool
 
 -- The end of a journal: its entries, the events that they tell, and what they say of commands.
 pub record Front : Type 0 where
@@ -37,35 +39,37 @@ pub record Front : Type 0 where
 abbrev pub front_of : Setting → List Entry → List Event → Front
 front_of s es xs = record { entries = es; store = replay (start s.program) xs; control = control s.commands es }
 
+-- the end of the front of a journal that tells these events
+abbrev pub front_at : Setting → List Event → List Entry → Front
+front_at s xs es = front_of s es (take (length (targets es)) xs)
+
 abbrev pub plans : Setting → Plans
 plans s = plans_of s.commands
 
 -- Threads
 
-abbrev pub own : Setting → List Entry → ℕ → Spawned → Own
+abbrev pub own : Setting → List Entry → ℕ → ThreadState → Own
 own s es t x = record { thread = t; func = x.func; args = x.args; versions = taken s.commands t es; entries = entries_of t es }
 
-abbrev pub HasPart : Setting → List Entry → ℕ → Option Spawned → Type 0
+abbrev pub HasPart : Setting → List Entry → ℕ → Option ThreadState → Type 0
 HasPart s es t None = entries_of t es ≡ []
 HasPart s es t (Some x) = IsPart s.program (plans s) (own s es t x)
 
-abbrev pub is_running : Spawned → Bool
-is_running x = x.begun && not x.ended
+-- the thread, if it has begun and not ended
+abbrev pub running : Option ThreadState → Option ThreadState
+running None = None
+running (Some x) = if x.begun && not x.ended then Some x else None
 
 -- where a thread stands: at place 0 before its begin and behind its end
-abbrev pub StandsAs : Setting → List Entry → ℕ → Spawned → Bool → Place → Type 0
-StandsAs s es t x false y = y ≡ nowhere
-StandsAs s es t x true y = ComesTo s.program (plans s) (own s es t x) y
-
-abbrev pub StandsIf : Setting → List Entry → ℕ → Option Spawned → Place → Type 0
-StandsIf s es t None y = y ≡ nowhere
-StandsIf s es t (Some x) y = StandsAs s es t x (is_running x) y
+abbrev pub StandsAs : Setting → List Entry → ℕ → Option ThreadState → Place → Type 0
+StandsAs s es t None y = y ≡ nowhere
+StandsAs s es t (Some x) y = ComesTo s.program (plans s) (own s es t x) y
 
 abbrev pub StandsAt : Setting → Front → ℕ → Place → Type 0
-StandsAt s f t y = StandsIf s f.entries t (thread_at f.store t) y
+StandsAt s f t y = StandsAs s f.entries t (running (thread_at f.store t)) y
 
 pub record Lives (s : Store) (t : ℕ) : Type 0 where
-  pub state : Spawned
+  pub state : ThreadState
   pub is : thread_at s t ≡ Some state
   pub not_ended : state.ended ≡ false
 
@@ -76,13 +80,13 @@ abbrev pub Lacks : Front → ℕ → Option (ℕ × ℕ) → Type 0
 Lacks f k None = ⊥
 Lacks f k (Some a) = count_by (is_post k a.0) f.entries < a.1
 
-pub record IsHeld (f : Front) (k c t : ℕ) : Type 0 where
+pub record IsHeldByOther (f : Front) (k c t : ℕ) : Type 0 where
   pub by : ℕ
   pub other : (by == t) ≡ false
   pub holds : list_any (λ (h : Holder). (h.filter == k) && ((h.clause == c) && (h.thread == by))) f.control.holders ≡ true
 
 abbrev pub IsDisabledFor : Setting → Front → ℕ → What → Type 0
-IsDisabledFor s f t (w.Enter k c) = IsHeld f k c t
+IsDisabledFor s f t (w.Enter k c) = IsHeldByOther f k c t
 IsDisabledFor s f t (w.Wait k n) = Lacks f k (before_in n (Plan.rulings (plans s k)))
 IsDisabledFor s f t what = IsDisabled f.store what
 
@@ -91,7 +95,7 @@ pub record IsHeldOff (s : Setting) (f : Front) (t : ℕ) : Type 0 where
   pub filter : ℕ
   pub clause : ℕ
   pub alone : is_alone (plans s filter) clause ≡ true
-  pub held : IsHeld f filter clause t
+  pub held : IsHeldByOther f filter clause t
 
 -- its last entry is `Blocked`, for what is still disabled, and it owes no `Cross`
 abbrev pub IsBlockedBy : Setting → Front → ℕ → Option Entry → Type 0
@@ -161,18 +165,14 @@ pub record IsDue (s : Setting) (f : Front) : Type 0 where
 
 -- The answers
 
--- the thread stands at this place, which is flagged, and at each point at which it may stand there the filter sees nothing of it
+-- At each point behind the thread's last entry at which it may stand at this place, the filter sees nothing of it.
 abbrev pub SeesNothing : Setting → Own → Plan → Place → Type 0
-SeesNothing s x g y = (h : Point s.program (plans s) x) → IsPlaceOf s.program (plans s) x h y
-    → IsClear (where_all_made g (led s.program (plans s) x h.steps).owed (seen_from s.program (plans s) g (unborn x.versions) nothing_seen h.steps))
+SeesNothing s x g y = (h : Point s.program (plans s) x) → IsPlaceOf s.program (plans s) x h y → IsClear (view_behind s.program (plans s) g x.versions h.steps)
 
-abbrev pub IsOutsideAs : Setting → Own → Bool → Plan → Place → Type 0
-IsOutsideAs s x false g y = Unit {0}
-IsOutsideAs s x true g y = SeesNothing s x g y
-
-abbrev pub IsOutside : Setting → List Entry → ℕ → Option Spawned → Plan → Place → Type 0
+-- so it is with a thread that runs; of one that doesn't there is nothing to see
+abbrev pub IsOutside : Setting → List Entry → ℕ → Option ThreadState → Plan → Place → Type 0
 IsOutside s es t None g y = Unit {0}
-IsOutside s es t (Some x) g y = IsOutsideAs s (own s es t x) (is_running x) g y
+IsOutside s es t (Some x) g y = SeesNothing s (own s es t x) g y
 
 -- the row lists for each thread a flagged place at which it stands
 pub record Lists (s : Setting) (f : Front) (k : ℕ) (row : List ℕ) : Type 0 where
@@ -191,7 +191,7 @@ pub record MayInstall (s : Setting) (f : Front) (k v : ℕ) (row : List ℕ) : T
   pub not_refused : refusal s f.control k ≡ None
   pub version : v ≡ suc (Version.number f.control.version)
   pub lists : Lists s f k row
-  pub outside : (t : ℕ) → IsOutside s f.entries t (thread_at f.store t) plan (lists.place t)
+  pub outside : (t : ℕ) → IsOutside s f.entries t (running (thread_at f.store t)) plan (lists.place t)
 
 pub record MayRemove (s : Setting) (f : Front) (k v : ℕ) (row : List ℕ) : Type 0 where
   pub command : Command
@@ -255,7 +255,7 @@ pub record KeptAway (s : Setting) (x : Own) (k : ℕ) : Type 0 where
   pub moved : HasMoved s.program (plans s) x steps
   pub away : KeepsAway (IsFlagged s k) (led s.program (plans s) x steps)
 
-abbrev pub Parks : Setting → List Entry → ℕ → ℕ → Option Spawned → Type 0
+abbrev pub Parks : Setting → List Entry → ℕ → ℕ → Option ThreadState → Type 0
 Parks s es k t None = ⊥
 Parks s es k t (Some x) = KeptAway s (own s es t x) k
 
@@ -281,14 +281,14 @@ pub record MayMove (s : Setting) (f : Front) (t : ℕ) (x : Entry) : Type 0 wher
   pub crosses : is_cross x ≡ owes_cross x (listed t f.entries)
   pub parked : IsParked s f t x f.control.asked
 
--- events of an order: each begins behind as many completions of the one before it as are asked for
-abbrev pub Follows : List Entry → ℕ → Option (ℕ × ℕ) → Type 0
-Follows es k None = Unit {0}
-Follows es k (Some a) = a.1 ≤ count_by (is_past k a.0) es
+-- An event of an order begins where the one before it was complete often enough, and a wait is over where it was posted so often.
+abbrev pub HasCompletions : List Entry → ℕ → Option (ℕ × ℕ) → Type 0
+HasCompletions es k None = Unit {0}
+HasCompletions es k (Some a) = a.1 ≤ count_by (is_past k a.0) es
 
-abbrev pub Posted : List Entry → ℕ → Option (ℕ × ℕ) → Type 0
-Posted es k None = ⊥
-Posted es k (Some a) = a.1 ≤ count_by (is_post k a.0) es
+abbrev pub HasPosts : List Entry → ℕ → Option (ℕ × ℕ) → Type 0
+HasPosts es k None = ⊥
+HasPosts es k (Some a) = a.1 ≤ count_by (is_post k a.0) es
 
 abbrev pub is_held_by : Control → ℕ → ℕ → ℕ → Bool
 is_held_by c k n t = list_any (λ (h : Holder). (h.filter == k) && ((h.clause == n) && (h.thread == t))) c.holders
@@ -296,56 +296,40 @@ is_held_by c k n t = list_any (λ (h : Holder). (h.filter == k) && ((h.clause ==
 abbrev pub is_installed : Control → ℕ → Bool
 is_installed c k = has c.version.active k
 
--- What else an entry of a thread needs: of versions, of who holds what, of posts, and of the meaning of orders.
-abbrev pub Keeps : Setting → Front → Entry → Type 0
-Keeps s f (e.Cross t l x v n) = (v ≡ Version.number f.control.version) × AllByRecursion (λ y. y ≡ x) (listed t f.entries)
-Keeps s f (e.Blocked t l what) = IsDisabledFor s f t what
-Keeps s f (e.Enter t l k c) =
-    (is_installed f.control k ≡ true) × (list_any (λ (h : Holder). (h.filter == k) && (h.clause == c)) f.control.holders ≡ false)
-Keeps s f (e.Leave t l k c) = is_held_by f.control k c t ≡ true
-Keeps s f (e.Wait t l k n) = (is_installed f.control k ≡ true) × Posted f.entries k (before_in n (Plan.rulings (plans s k)))
-Keeps s f (e.Post t l k n) = is_installed f.control k ≡ true
-Keeps s f (e.At t l k ns) = (is_installed f.control k ≡ true) × AllByRecursion (λ n. Follows f.entries k (before_in n (Plan.rulings (plans s k)))) ns
-Keeps s f (e.Past t l k ns) = is_installed f.control k ≡ true
-Keeps s f (e.End t l) = list_any (λ (h : Holder). h.thread == t) f.control.holders ≡ false
-Keeps s f _ = Unit {0}
+-- What an entry of a thread asks of the entries before it: the place of a `Cross` is the one that was listed, what blocks a thread is disabled, a
+-- clause that is entered is free, and orders are kept. Nothing else is asked: the thread's part gives the rest.
+abbrev pub Permits : Setting → Front → Entry → Type 0
+Permits s f (e.Cross t l x v n) = AllByRecursion (λ y. y ≡ x) (listed t f.entries)
+Permits s f (e.Blocked t l what) = IsDisabledFor s f t what
+Permits s f (e.Enter t l k c) = list_any (λ (h : Holder). (h.filter == k) && (h.clause == c)) f.control.holders ≡ false
+Permits s f (e.Wait t l k n) = HasPosts f.entries k (before_in n (Plan.rulings (plans s k)))
+Permits s f (e.At t l k ns) = AllByRecursion (λ n. HasCompletions f.entries k (before_in n (Plan.rulings (plans s k)))) ns
+Permits s f _ = Unit {0}
 
--- What stands at the end of the front, with `rest` behind it.
-abbrev pub Stands : Setting → Front → Entry → List Entry → Type 0
-Stands s f (e.Asked k) rest = IsDue s f × (k ≡ f.control.next)
-Stands s f (e.Refused k n c) rest = (f.control.asked ≡ Some k) × (refusal s f.control k ≡ Some (n, c))
-Stands s f (e.Installed k v row) rest = (over s f ≡ false) × MayInstall s f k v row
-Stands s f (e.Removed k v row) rest = (over s f ≡ false) × MayRemove s f k v row
-Stands s f (e.Stalled k t l) rest = (over s f ≡ false) × MayStall s f k t l
-Stands s f (e.Cut k) rest = (over s f ≡ true) × (f.control.asked ≡ Some k)
-Stands s f (e.Unreached k) rest = (f.control.asked ≡ None) × ((k ≡ f.control.next) × ((k ≤ length s.commands) × EndsSo s f))
-Stands s f (e.Finish kind) rest = (rest ≡ []) × ((f.control.asked ≡ None) × ((length s.commands < f.control.next) × Ends s f kind))
-Stands s f (e.Begin t l) rest = MayMove s f t (e.Begin t l) × Keeps s f (e.Begin t l)
-Stands s f (e.End t l) rest = MayMove s f t (e.End t l) × Keeps s f (e.End t l)
-Stands s f (e.Trap t l r) rest = MayMove s f t (e.Trap t l r)
-Stands s f (e.Read t l x v) rest = MayMove s f t (e.Read t l x v)
-Stands s f (e.Write t l x v) rest = MayMove s f t (e.Write t l x v)
-Stands s f (e.Lock t l m) rest = MayMove s f t (e.Lock t l m)
-Stands s f (e.Unlock t l m) rest = MayMove s f t (e.Unlock t l m)
-Stands s f (e.Down t l x) rest = MayMove s f t (e.Down t l x)
-Stands s f (e.Up t l x) rest = MayMove s f t (e.Up t l x)
-Stands s f (e.Spawn t l c g vs) rest = MayMove s f t (e.Spawn t l c g vs)
-Stands s f (e.Join t l c) rest = MayMove s f t (e.Join t l c)
-Stands s f (e.Print t l v) rest = MayMove s f t (e.Print t l v)
-Stands s f (e.Tick t l y) rest = MayMove s f t (e.Tick t l y)
-Stands s f (e.Blocked t l y) rest = MayMove s f t (e.Blocked t l y) × Keeps s f (e.Blocked t l y)
-Stands s f (e.At t l k ns) rest = MayMove s f t (e.At t l k ns) × Keeps s f (e.At t l k ns)
-Stands s f (e.Past t l k ns) rest = MayMove s f t (e.Past t l k ns) × Keeps s f (e.Past t l k ns)
-Stands s f (e.Back t l) rest = MayMove s f t (e.Back t l)
-Stands s f (e.Enter t l k c) rest = MayMove s f t (e.Enter t l k c) × Keeps s f (e.Enter t l k c)
-Stands s f (e.Leave t l k c) rest = MayMove s f t (e.Leave t l k c) × Keeps s f (e.Leave t l k c)
-Stands s f (e.Post t l k n) rest = MayMove s f t (e.Post t l k n) × Keeps s f (e.Post t l k n)
-Stands s f (e.Wait t l k n) rest = MayMove s f t (e.Wait t l k n) × Keeps s f (e.Wait t l k n)
-Stands s f (e.Cross t l y v n) rest = MayMove s f t (e.Cross t l y v n) × Keeps s f (e.Cross t l y v n)
+-- Behind the entries of the front this control entry may stand, with `rest` behind it.
+abbrev pub MayControl : Setting → Front → Entry → List Entry → Type 0
+MayControl s f (e.Asked k) rest = IsDue s f × (k ≡ f.control.next)
+MayControl s f (e.Refused k n c) rest = (f.control.asked ≡ Some k) × (refusal s f.control k ≡ Some (n, c))
+MayControl s f (e.Installed k v row) rest = (over s f ≡ false) × MayInstall s f k v row
+MayControl s f (e.Removed k v row) rest = (over s f ≡ false) × MayRemove s f k v row
+MayControl s f (e.Stalled k t l) rest = (over s f ≡ false) × MayStall s f k t l
+MayControl s f (e.Cut k) rest = (over s f ≡ true) × (f.control.asked ≡ Some k)
+MayControl s f (e.Unreached k) rest = (f.control.asked ≡ None) × ((k ≡ f.control.next) × ((k ≤ length s.commands) × EndsSo s f))
+MayControl s f (e.Finish kind) rest = (rest ≡ []) × ((f.control.asked ≡ None) × ((length s.commands < f.control.next) × Ends s f kind))
+MayControl s f _ rest = ⊥
+
+-- an entry of a thread, or of none
+abbrev pub MayFollowBy : Setting → Front → Entry → List Entry → Option ℕ → Type 0
+MayFollowBy s f x rest None = MayControl s f x rest
+MayFollowBy s f x rest (Some t) = MayMove s f t x × Permits s f x
+
+-- Behind the entries of the front this entry may stand, with `rest` behind it.
+abbrev pub MayFollow : Setting → Front → Entry → List Entry → Type 0
+MayFollow s f x rest = MayFollowBy s f x rest (thread_of x)
 
 -- Filters are obeyed
 
-abbrev pub IsInsideIf : Setting → List Entry → ℕ → Option Spawned → ℕ → ℕ → Type 0
+abbrev pub IsInsideIf : Setting → List Entry → ℕ → Option ThreadState → ℕ → ℕ → Type 0
 IsInsideIf s es t None k c = ⊥
 IsInsideIf s es t (Some x) k c = IsInside s.program (plans s) (own s es t x) k c
 
@@ -367,6 +351,5 @@ pub record IsLawful (s : Setting) (es : List Entry) : Type 0 where
   pub run : AreRun s.program events
   -- each thread has its full part
   pub parts : (t : ℕ) → HasPart s es t (thread_at (replay (start s.program) events) t)
-  -- each entry stands rightly behind those before it
-  pub stands : (front : List Entry) (x : Entry) (rest : List Entry) → es ≡ front ++ x ∷ rest
-      → Stands s (front_of s front (take (length (targets front)) events)) x rest
+  -- each entry follows those before it
+  pub follows : (front : List Entry) (x : Entry) (rest : List Entry) → es ≡ front ++ x ∷ rest → MayFollow s (front_at s events front) x rest

@@ -4,9 +4,9 @@ use Rattle.std.specs.List.{Contains}
 use Rattle.loom_tree.specs.Tree.{Expression, num, var, cell, neg, inverse, bin, Body, Function, Source}
 use Rattle.loom_lang.specs.Numbers.{function_number}
 use Rattle.loom_lang.specs.Rules.{is_in, locals_of}
-use Rattle.loom_command.specs.Filter.{Event, Step, Region, between, whole, Clause, order, exclusive, unilateral, Filter}
+use Rattle.loom_command.specs.Filter.{LineEvent, OrderStep, Region, between, whole, Clause, order, exclusive, unilateral, Filter}
 use Rattle.loom_command.specs.FilterFault.{Fault, IsBefore}
-use Rattle.loom_law.specs.Filter.{Watch, statement, function, Range, Ruling, Plan, entries_of, ranges_of}
+use Rattle.loom_law.specs.Filter.{Watch, statement, function, Range, Ruling, Plan, entry_events, ranges_of}
 use Rattle.loom_law.specs.Filter as plan
 use Rattle.loom_law.specs.Paths.{Node, begins, links_of, IsStatement, statements_of, Reaches, watch_at, Comes}
 
@@ -45,20 +45,20 @@ IsForeign xs None = ⊥
 IsForeign xs (Some e) = names_only xs e ≡ false
 
 -- An event is of another file; no statement begins on its line; its test names something else than a local.
-abbrev pub HasEventFault : Source → List ℕ → Event → ℕ → Type 0
+abbrev pub HasEventFault : Source → List ℕ → LineEvent → ℕ → Type 0
 HasEventFault p file x number =
     ((number ≡ 2) × (x.file ≡ file → ⊥))
     ⊎ (((number ≡ 3) × ((x.file ≡ file) × ((g : ℕ) → HasStatement p x.line g → ⊥)))
     ⊎ ((number ≡ 4) × ((xs : List (List ℕ)) × (AreLocalsAt p x.line xs × IsForeign xs x.test))))
 
-abbrev pub HasEventFaults : Source → List ℕ → List Event → ℕ → Type 0
+abbrev pub HasEventFaults : Source → List ℕ → List LineEvent → ℕ → Type 0
 HasEventFaults p file [] number = ⊥
 HasEventFaults p file (x ∷ xs) number = HasEventFault p file x number ⊎ HasEventFaults p file xs number
 
 -- Two events of a region stand in different functions.
-pub record IsSplit (p : Source) (xs : List Event) : Type 0 where
-  pub one : Event
-  pub other : Event
+pub record IsSplit (p : Source) (xs : List LineEvent) : Type 0 where
+  pub one : LineEvent
+  pub other : LineEvent
   pub has_one : Contains xs one
   pub has_other : Contains xs other
   pub first : ℕ
@@ -77,7 +77,7 @@ HasRegionFaults p file [] number = ⊥
 HasRegionFaults p file (r ∷ rs) number = HasRegionFault p file r number ⊎ HasRegionFaults p file rs number
 
 abbrev pub HasClauseFault : Source → List ℕ → Clause → ℕ → Type 0
-HasClauseFault p file (order ss) number = HasEventFaults p file (map (λ (s : Step). s.event) ss) number
+HasClauseFault p file (order ss) number = HasEventFaults p file (map (λ (s : OrderStep). s.event) ss) number
 HasClauseFault p file (exclusive rs) number = HasRegionFaults p file rs number
 HasClauseFault p file (unilateral r) number = HasRegionFault p file r number
 
@@ -141,7 +141,7 @@ BeginsInside p f r n =
     ⊎ ((g : ℕ) × (IsWholeOf f n g × (AreWholeOf f r n g ⊎ CallsFrom p f r g)))
 
 abbrev pub Nests : Source → Plan → Range → Range → Type 0
-Nests p f r s = (n : ℕ) × (Contains (entries_of s) n × BeginsInside p f r n)
+Nests p f r s = (n : ℕ) × (Contains (entry_events s) n × BeginsInside p f r n)
 
 -- an entry event of one can begin inside another
 abbrev pub NestsAmong : Source → Plan → Range → List Range → Type 0

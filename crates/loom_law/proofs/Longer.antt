@@ -16,10 +16,10 @@ use Rattle.loom_event.specs.Entries.{thread_of, is_thread}
 use Rattle.loom_event.specs.Replay.{ThreadState, Store, new_thread, main_thread, start, thread_at, IsAllowedAct, IsAllowed, with_thread, after_act, replay, AreAllowed, thread_limit}
 use Rattle.loom_event.specs.Replay as law
 use Rattle.loom_event.specs.Run.{IsTraced, IsThreadTraced, AreRun}
-use Rattle.loom_law.specs.Walk.{Version, Plans, Operation, wait, enters, at, past, post, leave, back, tick, cross, blocked, Step, goes, makes, items, told, entry_of_operation, Walk, unborn, holds, without_first, taking, entered_journal, crossing, filter_of, after, walked, Owes, first_number, MayCross, MayStand, AreWoven}
+use Rattle.loom_law.specs.Walk.{Version, Plans, Operation, wait, enters, at, past, post, leave, back, tick, cross, blocked, Step, goes, makes, items, told, entry_of_operation, Walk, unborn, holds, without_first, taking, behind_entry, crossing, filter_of, after, walked, Owes, first_number, MayCross, MayStand, AreWoven}
 use Rattle.loom_law.specs.Part.{Own, led, IsPart, HasMoved}
 use Rattle.loom_law.specs.Control.{Command, Holder, Control, control, first_control, controlled, takes, taken, entries_of, listed}
-use Rattle.loom_law.specs.Lawful.{Setting, Front, front_of, plans, own, HasPart, owes_cross, KeptAway, Parks, IsParked, MayMove, is_held_by, is_installed, front_at, Permits, MayFollow, MayFollowBy}
+use Rattle.loom_law.specs.Lawful.{Setting, Front, front_of, plans, own, HasPart, owes_cross, StaysAway, Parks, IsParked, MayMove, is_held_by, is_installed, front_at, Permits, MayFollow, MayFollowBy}
 use Rattle.loom_law.proofs.Strict.{Stands, IsStrict, StandsBy}
 use Rattle.loom_law.specs.Laws.{IsUnfinished, with_newest, own_with, MayTurn, HasEmptyEnds}
 use Rattle.loom_law.proofs.OnePart.{same_op, act_is_no_op, told_append, append_none, same_front, never_empty, same_act}
@@ -235,7 +235,6 @@ no_target _ h = refl
 pub control_turns : (s : Setting) (es : List Entry) (h : IsStrict s es) → IsUnfinished es
     → (x : Entry) → thread_of x ≡ None → MayFollow s (front_of s es h.events) x []
     → (h' : IsStrict s (es ++ x ∷ [])) × (h'.events ≡ h.events)
-
 control_turns s es h open_ x none follows =
     let f : Front = front_of s es h.events in
     let control_ : MayFollowBy s f x [] None = subst (MayFollowBy s f x []) none follows in

@@ -18,7 +18,7 @@ use Rattle.loom_event.specs.Run.{IsTraced, IsThreadTraced, AreRun}
 use Rattle.loom_law.specs.Walk.{Version, Plans, Operation, wait, enters, at, past, post, leave, back, tick, cross, blocked, Step, goes, makes, items, told, entry_of_operation, Queue, Walk, unborn, behind_entry, crossing, after, walked, place_of_item, place_of_next, Acts, AsksFor, MayCross, MayBlock, MayStand, AreWoven}
 use Rattle.loom_law.specs.Part.{Own, IsPart}
 use Rattle.loom_law.specs.Control.{Command, Control, first_control, after_entry, controlled, takes, taken_from, taken, entries_of}
-use Rattle.loom_law.specs.Lawful.{Setting, Front, front_of, plans, own, HasPart, front_at}
+use Rattle.loom_law.specs.Lawful.{Setting, Front, front_of, plans, own, HasPart}
 use Rattle.loom_law.proofs.Strict.{Stands, IsStrict}
 
 -- Lists

@@ -1,5 +1,5 @@
 -- The laws of lawful journals.
-use Rattle.std.proofs.Common.{ℕ, ◌≡◌, List, [], ◌∷◌, ◌++◌, sym, ap, subst, ◌∙◌}
+use Rattle.std.proofs.Common.{◌≡◌, List, [], ◌∷◌, ◌++◌, sym, ap, subst, ◌∙◌}
 use Rattle.loom_trace.specs.declared.entry.Entry.{Entry}
 use Rattle.loom_lang.specs.Trace.{made}
 use Rattle.loom_event.specs.Event.{Event, entry_of}

@@ -1,17 +1,16 @@
 -- In a lawful journal a thread holds what the journal says, and installed filters are obeyed.
-use Rattle.std.proofs.Common.{ℕ, ◌≡◌, ◌==◌, Bool, true, false, List, [], ◌∷◌, ◌++◌, length, take, Option, Some, None, refl, sym, ap, subst, ◌∙◌, if◌then◌else◌, arith}
+use Rattle.std.proofs.Common.{ℕ, ◌≡◌, ◌==◌, Bool, true, false, List, [], ◌∷◌, ◌++◌, Option, Some, None, refl, sym, ap, subst, ◌∙◌, if◌then◌else◌, arith}
 use Rattle.loom_tree.specs.Tree.{Source}
 use Rattle.loom_trace.specs.declared.entry.Entry.{Entry}
 use Rattle.loom_trace.specs.declared.entry.Entry.TheVariants as e
 use Rattle.loom_lang.specs.Trace.{begin, end, trap, read, write, lock, unlock, down, up, spawn, join, print, made, begins, done, edge, enter, out}
-use Rattle.loom_event.specs.Event.{targets}
 use Rattle.loom_event.specs.Entries.{thread_of}
 use Rattle.loom_event.specs.Replay.{ThreadState, thread_at}
 use Rattle.loom_law.specs.Filter.{is_alone}
 use Rattle.loom_law.specs.Walk.{Version, Plans, wait, enters, at, past, post, leave, back, tick, cross, blocked, Step, goes, makes, told, Walk, unborn, holds, without_clause, without_first, taking, behind_entry, crossing, after, walked}
 use Rattle.loom_law.specs.Part.{led, IsPart, IsInside}
 use Rattle.loom_law.specs.Control.{Command, Control, first_control, after_entry, controlled, control, taken_from, taken, entries_of}
-use Rattle.loom_law.specs.Lawful.{Setting, Front, front_of, plans, own, MayMove, IsHeldOff, is_held_by, is_installed, IsInsideIf, front_at, IsObeyed}
+use Rattle.loom_law.specs.Lawful.{Setting, Front, plans, own, MayMove, IsHeldOff, is_held_by, is_installed, IsInsideIf, front_at, IsObeyed}
 use Rattle.loom_law.proofs.Strict.{Stands, IsStrict, StandsBy}
 use Rattle.loom_law.proofs.Inside.{inside_is_held}
 use Rattle.loom_law.proofs.Balance.{held_in, Says, AreSaid, IsSound, first_sound, sound_along, held_from, IsBalanced, first_balanced, balanced_along}

@@ -12,7 +12,7 @@ use Rattle.loom_law.specs.View as view
 use Rattle.loom_law.specs.View.{FrameView, View, nothing_seen, settled, seen_item, seen_step, seen_from, IsClear}
 use Rattle.loom_law.specs.Paths.{Node, statements, Begins, places_in, places_of, IsUnsafe, Halts, node_places}
 use Rattle.loom_law.specs.Paths as path
-use Rattle.loom_law.specs.Part.{Own, led, Point, IsPlaceOf}
+use Rattle.loom_law.specs.Part.{led}
 use Rattle.loom_law.specs.Laws.{IsSound}
 use Rattle.loom_law.proofs.Course.{Level, Course, no_frames, AreNone, OnFirst, Follows, IsWithin, Acts, IsNested, AllReturn, IsLoop, moved, at_level, Runs, IsCourse, contains_first, contains_later, trace_is_course}
 use Rattle.loom_law.proofs.Sight.{IsWellSited, FitsNode, IsGood, AreGood, AreGone, AreFit, AreKnown, IsFresh, AreLeaving, Sees, begun_fits, none_here, known_again, one_line, loop_begins, begins_seen, done_seen, edge_seen, enter_seen, out_seen}

@@ -1,5 +1,5 @@
 -- Laws of full parts and of journals.
-use Rattle.std.specs.Prelude.{ℕ, ◌⊎◌, suc, ◌<◌, ◌≡◌, ◌==◌, ◌&&◌, true, false, List, [], ◌++◌, ◌∷◌, length, take, Some, None, map, Option}
+use Rattle.std.specs.Prelude.{ℕ, ◌⊎◌, suc, ◌<◌, ◌≡◌, ◌==◌, true, false, List, [], ◌++◌, ◌∷◌, Some, None}
 use Rattle.std.specs.List.{list_any, count_by}
 use Rattle.loom_tree.specs.Tree.{Source}
 use Rattle.loom_trace.specs.declared.entry.Entry.{Entry}
@@ -7,17 +7,16 @@ use Rattle.loom_trace.specs.declared.entry.Entry.TheVariants as e
 use Rattle.loom_trace.specs.declared.entry.Ending.{Ending}
 use Rattle.loom_lang.specs.Places.{Place, nowhere}
 use Rattle.loom_lang.specs.Trace.{end, made}
-use Rattle.loom_law.specs.Filter.{Plan, before_in, has, Filter, plan_of}
-use Rattle.loom_law.specs.Walk.{Version, Plans, Operation, leave, entry_of_operation, Step, goes, makes, holds, unborn, told, filter_of, Owes}
+use Rattle.loom_law.specs.Filter.{Plan, has, Filter, plan_of}
+use Rattle.loom_law.specs.Walk.{Version, Plans, Operation, leave, entry_of_operation, Step, goes, makes, holds, told, filter_of, Owes}
 use Rattle.loom_law.specs.Part.{Own, led, IsPart, Point, IsPlaceOf, HasMoved, KeepsAway, IsInside}
 use Rattle.loom_law.specs.View.{IsClear, view_behind}
 use Rattle.loom_law.specs.Paths.{IsUnsafe}
-use Rattle.loom_event.specs.Event.{Event, entry_of, targets}
+use Rattle.loom_event.specs.Event.{Event, entry_of}
 use Rattle.loom_event.specs.Replay.{ThreadState, start, thread_at, replay, IsAllowed, thread_limit}
-use Rattle.loom_event.specs.Run.{AreRun}
 use Rattle.loom_event.specs.Entries.{thread_of, IsFinished}
 use Rattle.loom_law.specs.Control.{Holder, Control, control, taken, entries_of, listed, since_asked, is_post, is_past}
-use Rattle.loom_law.specs.Lawful.{Setting, Front, front_of, front_at, plans, own, is_held_by, is_installed, HasPart, IsHeldOff, IsFlagged, IsOpen, is_cross, is_begin, owes_cross, is_spawn_of, has_any, Permits, MayFollow, IsObeyed, IsLawful, SeesNothing}
+use Rattle.loom_law.specs.Lawful.{Setting, Front, front_of, front_at, plans, own, is_held_by, is_installed, IsHeldOff, IsFlagged, IsOpen, is_cross, is_begin, owes_cross, is_spawn_of, has_any, Permits, MayFollow, IsObeyed, IsLawful, SeesNothing}
 
 -- At each point of a full part a thread holds each clause whose regions it is inside.
 abbrev pub HasHeldRegions : Type 0

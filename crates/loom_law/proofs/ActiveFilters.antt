@@ -12,7 +12,7 @@ use Rattle.loom_lang.specs.Trace.{Locals, begin, end, trap, read, write, lock, u
 use Rattle.loom_law.specs.Walk.{tick_after}
 use Rattle.loom_law.specs.Filter.{Site, statement, function, Ruling, Plan, matching, has, waits, posts, clauses}
 use Rattle.loom_law.specs.Control.{entries_of, listed, control}
-use Rattle.loom_law.specs.Walk.{Version, Plans, Operation, wait, enters, at, past, post, leave, back, tick, cross, blocked, Step, goes, makes, Inside, OpenFrame, Spot, elsewhere, beginning, entered, complete, left, trapped, Queue, Walk, unborn, holds, begins_in, owed_waits, owed_enters, owed_by, owed_at, is_among, all_inside, completed, in_frame, owed_posts, owed_leaves, events_of, owed_past, owed_behind, all_leaves, with_back, with_tick, begun_with, function_line, without_first, taking, entered_journal, after_item, filter_of, is_kept, still_owed, new_filters, owed_fresh, owed_behind_cross, crossing, after_operation, walked, Owes, AreWoven}
+use Rattle.loom_law.specs.Walk.{Version, Plans, Operation, wait, enters, at, past, post, leave, back, tick, cross, blocked, Step, goes, makes, Inside, OpenFrame, Spot, elsewhere, beginning, entered, complete, left, trapped, Queue, Walk, unborn, holds, begins_in, owed_waits, owed_enters, owed_by, owed_at, is_among, all_inside, completed, in_frame, owed_posts, owed_leaves, events_of, owed_past, owed_behind, all_leaves, with_back, with_tick, begun_with, function_line, without_first, taking, behind_entry, after_item, filter_of, is_kept, still_owed, new_filters, owed_fresh, owed_behind_cross, crossing, after_operation, walked, Owes, AreWoven}
 use Rattle.loom_law.specs.Part.{led, IsPart}
 use Rattle.loom_law.specs.Lawful.{plans, own, Setting, is_installed}
 use Rattle.loom_law.specs.Laws.{HasOwedActive}
@@ -143,7 +143,7 @@ crossing_named : (p : Source) (plans : Plans) (z : Walk) (vs : List Version) →
 crossing_named p plans z [] h = h
 crossing_named p plans z (v ∷ vs) h = crossed_in p plans z.spot z.active v.active z.owed
 
-taking_named : (z : Walk) (vs : List Version) → z.owed ≡ [] → IsNamed (taking (entered_journal z) vs)
+taking_named : (z : Walk) (vs : List Version) → z.owed ≡ [] → IsNamed (taking (behind_entry z) vs)
 taking_named z [] is = subst (AllIn z.active) (sym is) tt
 taking_named z (v ∷ vs) is = subst (AllIn v.active) (sym is) tt
 

@@ -25,8 +25,8 @@ pub record Course : Type 0 where
   pub levels : List Level
   pub gone : List Level
 
-abbrev pub over : Course
-over = record { levels = []; gone = [] }
+abbrev pub no_frames : Course
+no_frames = record { levels = []; gone = [] }
 
 abbrev pub AreNone : {A : Type 0} → List A → Type 0
 AreNone [] = Unit {0}
@@ -83,9 +83,9 @@ at_level x xs = record { levels = x ∷ xs; gone = [] }
 
 -- an item, and what holds of where it leads
 abbrev pub Runs : Source → Course → Item → (Course → Type 0) → Type 0
-Runs p s (made l begin) P = AreNone s.levels × (AreNone s.gone × P over)
-Runs p s (made l trace.end) P = AreNone s.levels × P over
-Runs p s (made l (trap c)) P = Acts s.levels l × P over
+Runs p s (made l begin) P = AreNone s.levels × (AreNone s.gone × P no_frames)
+Runs p s (made l trace.end) P = AreNone s.levels × P no_frames
+Runs p s (made l (trap c)) P = Acts s.levels l × P no_frames
 Runs p s (made l a) P = Acts s.levels l × P (record s { gone = [] })
 Runs p s (begins l env) P = OnFirst s.levels (λ x xs. (b : Body) × (Begins b l × ((Contains (statements (Function.body x.function)) b × IsNested x.opened b)
     × (Follows x.function x.node (path.begins l) × P (at_level (moved x (path.begins l) (b ∷ x.opened)) xs)))))
@@ -106,8 +106,8 @@ abbrev pub Within : Source → Course → Lists → Type 0
 Within p s M = (is : List Item) (r : Outcome) → M is r → IsCourse p s is
 
 -- where a frame may have been left before
-abbrev pub Inside : Source → List Level → Lists → Type 0
-Inside p ls M = (g : List Level) → Within p (record { levels = ls; gone = g }) M
+abbrev pub WithinFrames : Source → List Level → Lists → Type 0
+WithinFrames p ls M = (g : List Level) → Within p (record { levels = ls; gone = g }) M
 
 -- Lists
 
@@ -123,55 +123,55 @@ emit_within p s i M m is r (inr h) =
     subst P (sym h.1) (m h.0 r h.2)
 
 abbrev Stops : Thread → Type 0
-Stops t = Within t.program over t.stopped
+Stops t = Within t.program no_frames t.stopped
 
-trapped_inside : (t : Thread) (ls : List Level) (l : ℕ) (c : Cause) → Acts ls l → Stops t → Inside t.program ls (trapped t l c)
+trapped_inside : (t : Thread) (ls : List Level) (l : ℕ) (c : Cause) → Acts ls l → Stops t → WithinFrames t.program ls (trapped t l c)
 trapped_inside t ls l c a st g = emit_within t.program _ (made l (trap c)) t.stopped (λ is r h. (a, st is r h))
 
-choice_inside : (p : Source) (ls : List Level) (b : Bool) (M N : Lists) → Inside p ls M → Inside p ls N → Inside p ls (choice b M N)
+choice_inside : (p : Source) (ls : List Level) (b : Bool) (M N : Lists) → WithinFrames p ls M → WithinFrames p ls N → WithinFrames p ls (choice b M N)
 choice_inside p ls true M N m n = m
 choice_inside p ls false M N m n = n
 
-numbered_inside : (p : Source) (ls : List Level) (n : Option ℕ) (more : ℕ → Lists) → ((k : ℕ) → (n ≡ Some k) → Inside p ls (more k)) → Inside p ls (numbered n more)
+numbered_inside : (p : Source) (ls : List Level) (n : Option ℕ) (more : ℕ → Lists) → ((k : ℕ) → (n ≡ Some k) → WithinFrames p ls (more k)) → WithinFrames p ls (numbered n more)
 numbered_inside p ls None more m = λ g. broken_within p _
 numbered_inside p ls (Some k) more m = m k refl
 
-either_inside : (p : Source) (ls : List Level) (M N : Lists) → Inside p ls M → Inside p ls N → Inside p ls (either M N)
+either_inside : (p : Source) (ls : List Level) (M N : Lists) → WithinFrames p ls M → WithinFrames p ls N → WithinFrames p ls (either M N)
 either_inside p ls M N m n g is r (inl h) = m g is r h
 either_inside p ls M N m n g is r (inr h) = n g is r h
 
 -- Expressions
 
-reading_inside : (p : Source) (ls : List Level) (l w : ℕ) (more : ℤ → Lists) → Acts ls l → ((v : ℤ) → Inside p ls (more v)) → Inside p ls (reading l w more)
+reading_inside : (p : Source) (ls : List Level) (l w : ℕ) (more : ℤ → Lists) → Acts ls l → ((v : ℤ) → WithinFrames p ls (more v)) → WithinFrames p ls (reading l w more)
 reading_inside p ls l w more a m g is r h = emit_within p _ (made l (read w h.0)) (more h.0) (λ js q u. (a, m h.0 [] js q u)) is r h.1
 
-reading_word_inside : (p : Source) (ls : List Level) (l : ℕ) (c : Option Cells) (more : ℤ → Lists) → Acts ls l → ((v : ℤ) → Inside p ls (more v))
-    → Inside p ls (reading_word l c more)
+reading_word_inside : (p : Source) (ls : List Level) (l : ℕ) (c : Option Cells) (more : ℤ → Lists) → Acts ls l → ((v : ℤ) → WithinFrames p ls (more v))
+    → WithinFrames p ls (reading_word l c more)
 reading_word_inside p ls l None more a m = λ g. broken_within p _
 reading_word_inside p ls l (Some c) more a m = reading_inside p ls l c.first more a m
 
-variable_inside : (t : Thread) (ls : List Level) (l : ℕ) (o : Option ℤ) (x : List ℕ) (more : ℤ → Lists) → Acts ls l → ((v : ℤ) → Inside t.program ls (more v))
-    → Inside t.program ls (variable t l o x more)
+variable_inside : (t : Thread) (ls : List Level) (l : ℕ) (o : Option ℤ) (x : List ℕ) (more : ℤ → Lists) → Acts ls l → ((v : ℤ) → WithinFrames t.program ls (more v))
+    → WithinFrames t.program ls (variable t l o x more)
 variable_inside t ls l (Some v) x more a m = m v
 variable_inside t ls l None x more a m = reading_word_inside t.program ls l (cells_named t.program x) more a m
 
 within_inside : (t : Thread) (ls : List Level) (l from : ℕ) (n : Option ℕ) (v : ℤ) (more : ℕ → Lists) → Acts ls l → Stops t
-    → ((w : ℕ) → Inside t.program ls (more w)) → Inside t.program ls (within t l from n v more)
+    → ((w : ℕ) → WithinFrames t.program ls (more w)) → WithinFrames t.program ls (within t l from n v more)
 within_inside t ls l from None v more a st m = λ g. broken_within t.program _
 within_inside t ls l from (Some n) (pos i) more a st m = choice_inside t.program ls (nat_lt i n) _ _ (m (from + i)) (trapped_inside t ls l index a st)
 within_inside t ls l from (Some n) (negsuc i) more a st m = trapped_inside t ls l index a st
 
 indexed_inside : (t : Thread) (ls : List Level) (l : ℕ) (c : Option Cells) (v : ℤ) (more : ℕ → Lists) → Acts ls l → Stops t
-    → ((w : ℕ) → Inside t.program ls (more w)) → Inside t.program ls (indexed t l c v more)
+    → ((w : ℕ) → WithinFrames t.program ls (more w)) → WithinFrames t.program ls (indexed t l c v more)
 indexed_inside t ls l None v more a st m = λ g. broken_within t.program _
 indexed_inside t ls l (Some c) v more a st m = within_inside t ls l c.first c.count v more a st m
 
 operated_inside : (t : Thread) (ls : List Level) (l : ℕ) (o : Op) (x y : ℤ) (more : ℤ → Lists) → Acts ls l → Stops t
-    → ((v : ℤ) → Inside t.program ls (more v)) → Inside t.program ls (operated t l o x y more)
+    → ((v : ℤ) → WithinFrames t.program ls (more v)) → WithinFrames t.program ls (operated t l o x y more)
 operated_inside t ls l o x y more a st m = choice_inside t.program ls (divides o && is_zero y) _ _ (trapped_inside t ls l division a st) (m (applied o x y))
 
 expression_inside : (t : Thread) (ls : List Level) (l : ℕ) (env : Locals) (e : Expression) (more : ℤ → Lists) → Acts ls l → Stops t
-    → ((v : ℤ) → Inside t.program ls (more v)) → Inside t.program ls (expression t l env e more)
+    → ((v : ℤ) → WithinFrames t.program ls (more v)) → WithinFrames t.program ls (expression t l env e more)
 expression_inside t ls l env (num n) more a st m = m n
 expression_inside t ls l env (var x) more a st m = variable_inside t ls l (value_in env x) x more a m
 expression_inside t ls l env (cell x i) more a st m =
@@ -182,7 +182,7 @@ expression_inside t ls l env (bin o e f) more a st m =
     expression_inside t ls l env e _ a st (λ v. expression_inside t ls l env f _ a st (λ w. operated_inside t ls l o v w more a st m))
 
 arguments_inside : (t : Thread) (ls : List Level) (l : ℕ) (env : Locals) (es : List Expression) (more : List ℤ → Lists) → Acts ls l → Stops t
-    → ((vs : List ℤ) → Inside t.program ls (more vs)) → Inside t.program ls (arguments t l env es more)
+    → ((vs : List ℤ) → WithinFrames t.program ls (more vs)) → WithinFrames t.program ls (arguments t l env es more)
 arguments_inside t ls l env [] more a st m = m []
 arguments_inside t ls l env (e ∷ es) more a st m =
     expression_inside t ls l env e _ a st (λ v. arguments_inside t ls l env es _ a st (λ vs. m (v ∷ vs)))
@@ -277,12 +277,12 @@ all_return (o ∷ os) xs x c h n = (any_contains is_return (others (statements o
 -- calls from there
 abbrev CallsInside : Thread → Calls → Type 1
 CallsInside t calls = (l h : ℕ) (vs : List ℤ) (x : Level) (xs : List Level) (more : ℤ → Lists) → IsCaller t.program x h → Acts (x ∷ xs) l
-    → ((v : ℤ) → Inside t.program (x ∷ xs) (more v)) → Inside t.program (x ∷ xs) (calls l h vs more)
+    → ((v : ℤ) → WithinFrames t.program (x ∷ xs) (more v)) → WithinFrames t.program (x ∷ xs) (calls l h vs more)
 
 right_inside : (t : Thread) (calls : Calls) (l : ℕ) (env : Locals) (e : Right Expression) (x : Level) (xs : List Level) (more : ℤ → Lists) → Stops t → CallsInside t calls
     → Acts (x ∷ xs) l → ((name : List ℕ) (h : ℕ) → called_right e ≡ Some name → function_number t.program name ≡ Some h → IsCaller t.program x h)
-    → ((name : List ℕ) → called_right e ≡ Some name → (v : ℤ) → Inside t.program (x ∷ xs) (more v)) → ((v : ℤ) → Inside t.program (x ∷ xs) (more v))
-    → Inside t.program (x ∷ xs) (right t calls l env e more)
+    → ((name : List ℕ) → called_right e ≡ Some name → (v : ℤ) → WithinFrames t.program (x ∷ xs) (more v)) → ((v : ℤ) → WithinFrames t.program (x ∷ xs) (more v))
+    → WithinFrames t.program (x ∷ xs) (right t calls l env e more)
 right_inside t calls l env (Right.value e) x xs more st c a k b m = expression_inside t (x ∷ xs) l env e more a st m
 right_inside t calls l env (Right.call f es) x xs more st c a k b m =
     arguments_inside t (x ∷ xs) l env es _ a st (λ vs. numbered_inside t.program (x ∷ xs) (function_number t.program f) _ (λ n is. c l n vs x xs more (k f n refl is) a (b f refl)))
@@ -292,15 +292,15 @@ right_inside t calls l env (Right.spawn f es) x xs more st c a k b m =
     (λ g js r h. emit_within t.program _ (made l (spawn h.0 n vs)) (more (pos h.0)) (λ ks q w. (a, m (pos h.0) [] ks q w)) js r h.1)))
 
 stored_inside : (t : Thread) (ls : List Level) (l : ℕ) (env : Locals) (o : Option ℤ) (x : List ℕ) (v : ℤ) (more : Locals → Lists) → Acts ls l
-    → ((env' : Locals) → Inside t.program ls (more env')) → Inside t.program ls (stored t l env o x v more)
+    → ((env' : Locals) → WithinFrames t.program ls (more env')) → WithinFrames t.program ls (stored t l env o x v more)
 stored_inside t ls l env (Some old) x v more a m = m (updated env x v)
 stored_inside t ls l env None x v more a m = in_word (cells_named t.program x)
   where
-    in_word : (c : Option Cells) → Inside t.program ls (writing_word l c v (more env))
+    in_word : (c : Option Cells) → WithinFrames t.program ls (writing_word l c v (more env))
     in_word None = λ g. broken_within t.program _
     in_word (Some c) = λ g. emit_within t.program _ (made l (write c.first v)) (more env) (λ is r h. (a, m env [] is r h))
 
-joined_inside : (t : Thread) (ls : List Level) (l : ℕ) (v : ℤ) (M : Lists) → Acts ls l → Stops t → Inside t.program ls M → Inside t.program ls (joined t l v M)
+joined_inside : (t : Thread) (ls : List Level) (l : ℕ) (v : ℤ) (M : Lists) → Acts ls l → Stops t → WithinFrames t.program ls M → WithinFrames t.program ls (joined t l v M)
 joined_inside t ls l (pos c) M a st m =
     either_inside t.program ls _ _ (trapped_inside t ls l (not_spawned (pos c)) a st) (λ g. emit_within t.program _ (made l (join c)) M (λ is r h. (a, m [] is r h)))
 joined_inside t ls l (negsuc c) M a st m = trapped_inside t ls l (not_spawned (negsuc c)) a st
@@ -314,9 +314,9 @@ caller p h f l s os name n is number = record { line = l; node = refl; statement
 
 effect_inside : (t : Thread) (calls : Calls) (h : ℕ) (f : Function) (l : ℕ) (env : Locals) (s : Simple Expression) (os : List Body) (xs : List Level)
     (ret : ℤ → Lists) (more : Locals → Lists) → Stops t → CallsInside t calls
-    → (path.is_simple_return s ≡ true → (v : ℤ) → Inside t.program (level h f (Some (path.begins l)) (simple l s tree.end ∷ os) ∷ xs) (emit (done l) (ret v)))
-    → (path.is_simple_return s ≡ false → (env' : Locals) → Inside t.program (level h f (Some (path.begins l)) (simple l s tree.end ∷ os) ∷ xs) (more env'))
-    → Inside t.program (level h f (Some (path.begins l)) (simple l s tree.end ∷ os) ∷ xs) (effect t calls l env s ret more)
+    → (path.is_simple_return s ≡ true → (v : ℤ) → WithinFrames t.program (level h f (Some (path.begins l)) (simple l s tree.end ∷ os) ∷ xs) (emit (done l) (ret v)))
+    → (path.is_simple_return s ≡ false → (env' : Locals) → WithinFrames t.program (level h f (Some (path.begins l)) (simple l s tree.end ∷ os) ∷ xs) (more env'))
+    → WithinFrames t.program (level h f (Some (path.begins l)) (simple l s tree.end ∷ os) ∷ xs) (effect t calls l env s ret more)
 effect_inside t calls h f l env (let_ x e) os xs ret more st c b m =
     right_inside t calls l env e _ xs _ st c (refl, refl) (λ name n is number. caller t.program h f l (let_ x e) os name n is number)
     (λ name is v. stored_inside t _ l env (value_in env x) x v more (refl, refl) (m refl))
@@ -355,10 +355,10 @@ abbrev Turn : Type 1
 Turn = Locals → (Locals → Lists) → (Locals → Lists) → Lists
 
 turns_inside : (p : Source) (H : Option Node → Type 0) (at : Option Node → List Level) (turn : Turn)
-    → ((env : Locals) (m : Option Node) (again leave : Locals → Lists) → H m → ((env' : Locals) (m' : Option Node) → H m' → Inside p (at m') (again env'))
-    → ((env' : Locals) (m' : Option Node) → H m' → Inside p (at m') (leave env')) → Inside p (at m) (turn env again leave))
-    → (leave : Locals → Lists) → ((env' : Locals) (m' : Option Node) → H m' → Inside p (at m') (leave env'))
-    → (k : ℕ) (env : Locals) (m : Option Node) → H m → Inside p (at m) (turns k turn leave env)
+    → ((env : Locals) (m : Option Node) (again leave : Locals → Lists) → H m → ((env' : Locals) (m' : Option Node) → H m' → WithinFrames p (at m') (again env'))
+    → ((env' : Locals) (m' : Option Node) → H m' → WithinFrames p (at m') (leave env')) → WithinFrames p (at m) (turn env again leave))
+    → (leave : Locals → Lists) → ((env' : Locals) (m' : Option Node) → H m' → WithinFrames p (at m') (leave env'))
+    → (k : ℕ) (env : Locals) (m : Option Node) → H m → WithinFrames p (at m) (turns k turn leave env)
 turns_inside p H at turn one leave last zero env m h = λ g. broken_within p _
 turns_inside p H at turn one leave last (suc k) env m h = one env m _ _ h (λ env' m' h'. turns_inside p H at turn one leave last k env' m' h') last
 
@@ -370,16 +370,16 @@ record Stands (f : Function) (b : Body) (k : Node) (os : List Body) : Type 0 whe
 
 abbrev Returns : Source → ℕ → Function → List Level → (ℤ → Lists) → Type 0
 Returns p h f xs ret = (m : ℕ) (os : List Body) → AllReturn os → Follows f (Some (path.complete m)) path.leaves → (v : ℤ)
-    → Inside p (level h f (Some (path.complete m)) os ∷ xs) (ret v)
+    → WithinFrames p (level h f (Some (path.complete m)) os ∷ xs) (ret v)
 
 -- the statement itself is complete
 done_inside : (p : Source) (h : ℕ) (f : Function) (m : Option Node) (b : Body) (os : List Body) (xs : List Level) (l : ℕ) (M : Lists) → Begins b l
-    → Follows f m (path.complete l) → Inside p (level h f (Some (path.complete l)) os ∷ xs) M → Inside p (level h f m (b ∷ os) ∷ xs) (emit (done l) M)
+    → Follows f m (path.complete l) → WithinFrames p (level h f (Some (path.complete l)) os ∷ xs) M → WithinFrames p (level h f m (b ∷ os) ∷ xs) (emit (done l) M)
 done_inside p h f m b os xs l M begun fol n g = emit_within p _ (done l) M (λ is r w. (begun, (fol, n [] is r w)))
 
 begins_inside : (p : Source) (h : ℕ) (f : Function) (m : Option Node) (b : Body) (os : List Body) (xs : List Level) (l : ℕ) (env : Locals) (M : Lists) → Begins b l
-    → Contains (statements f.body) b → IsNested os b → Follows f m (path.begins l) → Inside p (level h f (Some (path.begins l)) (b ∷ os) ∷ xs) M
-    → Inside p (level h f m os ∷ xs) (emit (begins l env) M)
+    → Contains (statements f.body) b → IsNested os b → Follows f m (path.begins l) → WithinFrames p (level h f (Some (path.begins l)) (b ∷ os) ∷ xs) M
+    → WithinFrames p (level h f m os ∷ xs) (emit (begins l env) M)
 begins_inside p h f m b os xs l env M begun there nested fol n g = emit_within p _ (begins l env) M (λ is r w. (b, (begun, ((there, nested), (fol, n [] is r w)))))
 
 abbrev behind : {A : Type 0} → ℕ → List A → List A
@@ -408,8 +408,8 @@ sub_two {A} n all xs ys zs is s =
 
 body_inside : (t : Thread) (calls : Calls) (n h : ℕ) (f : Function) (xs : List Level) (ret : ℤ → Lists) → Stops t → CallsInside t calls → Returns t.program h f xs ret
     → (env : Locals) (b : Body) (k : Node) (os : List Body) (m : Option Node) (more : Locals → Lists) → Stands f b k os → Follows f m (first b k)
-    → ((m' : Option Node) → Follows f m' k → (env' : Locals) → Inside t.program (level h f m' os ∷ xs) (more env'))
-    → Inside t.program (level h f m os ∷ xs) (body t calls n env b ret more)
+    → ((m' : Option Node) → Follows f m' k → (env' : Locals) → WithinFrames t.program (level h f m' os ∷ xs) (more env'))
+    → WithinFrames t.program (level h f m os ∷ xs) (body t calls n env b ret more)
 body_inside t calls n h f xs ret st c r env tree.end k os m more a fol go = go m fol env
 body_inside t calls n h f xs ret st c r env (simple l s rest) k os m more a fol go =
     let x : Body = simple l s tree.end in
@@ -463,7 +463,7 @@ body_inside t calls n h f xs ret st c r env (if_ l e y z rest) k os m more a fol
       nested = nested_less os sr all r_all a.nested;
     } in
     let close : (m' : Option Node) → Follows f m' (path.complete l) → (env' : Locals)
-    → Inside t.program (level h f m' (x ∷ os) ∷ xs) (emit (done l) (body t calls n env' rest ret more)) = λ m' w env'.
+    → WithinFrames t.program (level h f m' (x ∷ os) ∷ xs) (emit (done l) (body t calls n env' rest ret more)) = λ m' w env'.
     done_inside t.program h f m' x os xs l _ refl w (body_inside t calls n h f xs ret st c r env' rest k os (Some (path.complete l)) more r_stands goes_on go) in
     begins_inside t.program h f m x os xs l env _ refl (a.statements x (contains_first x _)) (nested_one os x all (contains_first x _) a.nested) fol
     (expression_inside t _ l env e _ (refl, refl) st (λ v. choice_inside t.program _ (is_zero v) _ _
@@ -506,12 +506,12 @@ body_inside t calls n h f xs ret st c r env (while_ l e y rest) k os m more a fo
 -- Frames and threads
 
 framed_inside : (t : Thread) (deeper : Calls) (n h : ℕ) (vs : List ℤ) (more : ℤ → Lists) (g : Option Function) (xs : List Level) → slice_get t.program.funcs h ≡ g
-    → IsCalledFrom t.program xs h → Stops t → CallsInside t deeper → ((v : ℤ) → Inside t.program xs (more v)) → Inside t.program xs (framed t deeper n h vs more g)
+    → IsCalledFrom t.program xs h → Stops t → CallsInside t deeper → ((v : ℤ) → WithinFrames t.program xs (more v)) → WithinFrames t.program xs (framed t deeper n h vs more g)
 framed_inside t deeper n h vs more None xs is called_from st c m = λ g. broken_within t.program _
 framed_inside t deeper n h vs more (Some f) xs is called_from st c m =
-    let outside : (m' : Option Node) (os : List Body) → AllReturn os → Follows f m' path.leaves → (v : ℤ) → Inside t.program (level h f m' os ∷ xs) (emit (out h) (more v)) =
+    let outside : (m' : Option Node) (os : List Body) → AllReturn os → Follows f m' path.leaves → (v : ℤ) → WithinFrames t.program (level h f m' os ∷ xs) (emit (out h) (more v)) =
     λ m' os a fol v g. emit_within t.program _ (out h) (more v) (λ is r w. (refl, (fol, (a, m v (level h f m' os ∷ []) is r w)))) in
-    let there : Inside t.program (level h f None [] ∷ xs)
+    let there : WithinFrames t.program (level h f None [] ∷ xs)
     (body t deeper n (frame_locals f vs) f.body (λ v. emit (out h) (more v)) (λ env. emit (out h) (more (pos 0)))) =
     body_inside t deeper n h f xs _ st c (λ m' os a fol v. outside (Some (path.complete m')) os a fol v) (frame_locals f vs) f.body path.leaves [] None _
     (record { links = (λ e w. w); statements = (λ e w. w); nested = tt }) tt (λ m' fol env'. outside m' [] tt fol (pos 0)) in
@@ -527,15 +527,15 @@ finished_within p s is r h =
     let P : List Item → Type 0 = λ z. IsCourse p s z in
     subst P (sym h.0) tt
 
-ended_behind : (p : Source) (l : ℕ) → Inside p [] (ended l)
-ended_behind p l g = emit_within p _ (made l trace.end) finished (λ is r h. (tt, finished_within p over is r h))
+ended_behind : (p : Source) (l : ℕ) → WithinFrames p [] (ended l)
+ended_behind p l g = emit_within p _ (made l trace.end) finished (λ is r h. (tt, finished_within p no_frames is r h))
 
-thread_within : (p : Source) (f : Option Function) (h : ℕ) (vs : List ℤ) (n : ℕ) → slice_get p.funcs h ≡ f → Within p over (thread p f h vs n)
-thread_within p None h vs n is = broken_within p over
+thread_within : (p : Source) (f : Option Function) (h : ℕ) (vs : List ℤ) (n : ℕ) → slice_get p.funcs h ≡ f → Within p no_frames (thread p f h vs n)
+thread_within p None h vs n is = broken_within p no_frames
 thread_within p (Some g) h vs n is =
     let t : Thread = record { program = p; stopped = ended g.line } in
     let st : Stops t = ended_behind p g.line [] in
-    emit_within p over (made g.line begin) _ (λ js r w. (
+    emit_within p no_frames (made g.line begin) _ (λ js r w. (
       tt,
       (
         tt,
@@ -544,5 +544,5 @@ thread_within p (Some g) h vs n is =
     ))
 
 -- each trace of a thread is a course of its program
-pub trace_is_course : (p : Source) (h : ℕ) (vs : List ℤ) (is : List Item) (r : Outcome) → IsTrace p h vs is r → IsCourse p over is
+pub trace_is_course : (p : Source) (h : ℕ) (vs : List ℤ) (is : List Item) (r : Outcome) → IsTrace p h vs is r → IsCourse p no_frames is
 trace_is_course p h vs is r t = thread_within p (slice_get p.funcs h) h vs t.most_turns refl is r t.gives

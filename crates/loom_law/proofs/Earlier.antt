@@ -15,12 +15,11 @@ use Rattle.loom_event.specs.Entries.{thread_of, is_thread}
 use Rattle.loom_event.specs.Replay.{ThreadState, Store, start, thread_at, IsUnborn, IsRunning, IsAllowedAct, with_thread, after_act, replay, AreAllowed}
 use Rattle.loom_event.specs.Replay as law
 use Rattle.loom_event.specs.Run.{IsTraced, IsThreadTraced, AreRun}
-use Rattle.loom_law.specs.Walk.{Version, Plans, Operation, wait, enters, at, past, post, leave, back, tick, cross, blocked, Step, goes, makes, items, told, entry_of_operation, Queue, Walk, unborn, entered_journal, crossing, after, walked, place_of_item, place_of_next, Acts, AsksFor, MayCross, MayBlock, MayStand, AreWoven}
+use Rattle.loom_law.specs.Walk.{Version, Plans, Operation, wait, enters, at, past, post, leave, back, tick, cross, blocked, Step, goes, makes, items, told, entry_of_operation, Queue, Walk, unborn, behind_entry, crossing, after, walked, place_of_item, place_of_next, Acts, AsksFor, MayCross, MayBlock, MayStand, AreWoven}
 use Rattle.loom_law.specs.Part.{Own, IsPart}
 use Rattle.loom_law.specs.Control.{Command, Control, first_control, after_entry, controlled, takes, taken_from, taken, entries_of}
-use Rattle.loom_law.specs.Lawful.{Setting, Front, front_of, plans, own, HasPart, front_at}
+use Rattle.loom_law.specs.Lawful.{Setting, Front, front_of, plans, own, HasPart}
 use Rattle.loom_law.proofs.Strict.{Stands, IsStrict}
-
 
 -- Lists
 
@@ -326,7 +325,7 @@ pub fewer : (p : Source) (plans : Plans) (t : ℕ) (z : Walk) (vs us : List Vers
 fewer p plans t z vs us [] ahead h n = (tt, none_left vs n)
 fewer p plans t z [] us (goes (made l begin) ∷ ss) ahead h n = let no : ⊥ = omega arith in absurd no
 fewer p plans t z (v ∷ vs) us (goes (made l begin) ∷ ss) ahead h n =
-    let ih = fewer p plans t (record (entered_journal z) { active = v.active }) vs us ss ahead h.1 (omega arith) in
+    let ih = fewer p plans t (record (behind_entry z) { active = v.active }) vs us ss ahead h.1 (omega arith) in
     (((h.0.0, tt), ih.0), ih.1)
 fewer p plans t z vs us (goes (made l end) ∷ ss) ahead h n =
     let ih = fewer p plans t (after p plans z (goes (made l end))) vs us ss ahead h.1 n in ((h.0, ih.0), ih.1)

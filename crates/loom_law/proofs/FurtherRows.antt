@@ -18,12 +18,9 @@ use Rattle.loom_law.specs.Control as control
 use Rattle.loom_law.specs.Part.{Own, IsPart}
 use Rattle.loom_law.specs.Walk.{Walk, walked, place_of_next, place_number}
 use Rattle.loom_law.specs.Control.{taken, entries_of, control, Control, Holder, listed}
-use Rattle.loom_law.specs.Lawful.{is_cross, owes_cross, is_held_by}
-use Rattle.loom_event.specs.Entries.{thread_of}
 use Rattle.loom_lang.specs.Places as place
 use Rattle.loom_trace.specs.declared.entry.Ending.TheVariants as k
-use Rattle.std.specs.List.{list_any}
-use Rattle.std.proofs.Common.{ℕ, Bool, true, false, not, ◌&&◌, ◌==◌, ◌++◌, Option}
+use Rattle.std.proofs.Common.{true}
 use Rattle.loom_law.proofs.Rows.{check_crosses, check_holds}
 
 -- r7

@@ -12,7 +12,7 @@ use Rattle.loom_lang.specs.Trace.{Act, begin, end, trap, read, write, lock, unlo
 use Rattle.loom_event.specs.Event.{entry_by}
 use Rattle.loom_law.specs.Walk.{tick_after}
 use Rattle.loom_law.specs.Filter.{statement, function, clauses}
-use Rattle.loom_law.specs.Walk.{Version, Plans, Operation, wait, enters, at, past, post, leave, back, tick, cross, blocked, Step, goes, makes, told, entry_of_operation, Inside, OpenFrame, Spot, elsewhere, beginning, entered, complete, left, trapped, Queue, Walk, unborn, holds, all_inside, is_left_with, completed, in_frame, opened, closed, without_first, inside_first, function_line, with_tick, taking, entered_journal, after_item, noted_at, begun_at, entered_regions, without_clause, left_behind, after_operation, walked, all_leaves, with_back, without_filters, frames_without, spot_without, new_filters, owed_fresh, owed_behind_cross, crossing, begun_with, MayStand, AreWoven}
+use Rattle.loom_law.specs.Walk.{Version, Plans, Operation, wait, enters, at, past, post, leave, back, tick, cross, blocked, Step, goes, makes, told, entry_of_operation, Inside, OpenFrame, Spot, elsewhere, beginning, entered, complete, left, trapped, Queue, Walk, unborn, holds, all_inside, is_left_with, completed, in_frame, opened, closed, without_first, inside_first, function_line, with_tick, taking, behind_entry, after_item, noted_at, begun_at, entered_regions, without_clause, left_behind, after_operation, walked, all_leaves, with_back, without_filters, frames_without, spot_without, new_filters, owed_fresh, owed_behind_cross, crossing, begun_with, MayStand, AreWoven}
 use Rattle.loom_law.specs.Part.{leaving, is_inside}
 use Rattle.loom_law.specs.Laws.{HasHeldRegions}
 use Rattle.loom_law.proofs.Cross.{held_in, each_in, all_held_in, kept_safe}
@@ -51,12 +51,12 @@ tick_safe p plans hs iss lv x n os h = pick (Safe plans hs iss lv) (n == tick_af
 abbrev pub Rests : Walk → Type 0
 Rests z = AllHeld z.held (insides z.frames) []
 
-resting_good : (plans : Plans) (z : Walk) → z.owed ≡ [] → Rests z → Good plans (entered_journal z)
+resting_good : (plans : Plans) (z : Walk) → z.owed ≡ [] → Rests z → Good plans (behind_entry z)
 resting_good plans z is h =
     let P : Queue → Type 0 = λ os. Safe plans z.held (insides z.frames) [] os in
     subst P (sym is) h
 
-taking_good : (plans : Plans) (z : Walk) (vs : List Version) → z.owed ≡ [] → Rests z → Good plans (taking (entered_journal z) vs)
+taking_good : (plans : Plans) (z : Walk) (vs : List Version) → z.owed ≡ [] → Rests z → Good plans (taking (behind_entry z) vs)
 taking_good plans z [] is h = resting_good plans z is h
 taking_good plans z (v ∷ vs) is h = resting_good plans z is h
 
@@ -263,7 +263,7 @@ taking_held z [] = refl
 taking_held z (v ∷ vs) = refl
 
 made_held : (p : Source) (plans : Plans) (z : Walk) (l : ℕ) (a : Act) → Walk.held (after_item p plans z (made l a)) ≡ z.held
-made_held p plans z l begin = taking_held (entered_journal z) z.coming
+made_held p plans z l begin = taking_held (behind_entry z) z.coming
 made_held p plans z l end = refl
 made_held p plans z l (trap c) = refl
 made_held p plans z l (read x v) = refl

@@ -8,7 +8,7 @@ use Rattle.loom_lang.specs.Places as place
 use Rattle.loom_lang.specs.Trace.{Locals, begin, end, trap, read, write, lock, unlock, down, up, spawn, join, print, Item, made, begins, done, edge, enter, out, Outcome, IsTrace}
 use Rattle.loom_law.specs.Walk.{tick_after}
 use Rattle.loom_law.specs.Filter.{Site, statement, function, Ruling, Plan, matching, has, waits, posts, clauses}
-use Rattle.loom_law.specs.Walk.{Version, Plans, Operation, wait, enters, at, past, post, leave, back, tick, cross, blocked, Step, goes, makes, items, Inside, OpenFrame, Spot, elsewhere, beginning, entered, complete, left, trapped, Queue, Walk, unborn, holds, begins_in, owed_waits, owed_enters, owed_by, owed_at, is_among, all_inside, completed, in_frame, owed_posts, owed_leaves, events_of, owed_past, owed_behind, all_leaves, with_back, with_tick, begun_with, function_line, without_first, without_clause, taking, entered_journal, after_item, filter_of, is_kept, still_owed, new_filters, owed_fresh, owed_behind_cross, crossing, frames_without, opened, closed, owed_out, begun_at, made_one, spot_without, left_behind, after_operation, after, walked, Owes, MayStand, AreWoven}
+use Rattle.loom_law.specs.Walk.{Version, Plans, Operation, wait, enters, at, past, post, leave, back, tick, cross, blocked, Step, goes, makes, items, Inside, OpenFrame, Spot, elsewhere, beginning, entered, complete, left, trapped, Queue, Walk, unborn, holds, begins_in, owed_waits, owed_enters, owed_by, owed_at, is_among, all_inside, completed, in_frame, owed_posts, owed_leaves, events_of, owed_past, owed_behind, all_leaves, with_back, with_tick, begun_with, function_line, without_first, without_clause, taking, behind_entry, after_item, filter_of, is_kept, still_owed, new_filters, owed_fresh, owed_behind_cross, crossing, frames_without, opened, closed, owed_out, begun_at, made_one, spot_without, left_behind, after_operation, after, walked, Owes, MayStand, AreWoven}
 use Rattle.loom_law.proofs.Holdings.{or_left, or_right, pick, same_number}
 use Rattle.loom_law.proofs.ActiveFilters.{Among, first_in, others_in, fresh_among, itself}
 use Rattle.loom_law.proofs.Ends.{IsOpened, one_less, EndsWell, trace_ends}
@@ -167,15 +167,15 @@ abbrev NoEnters : Queue → Type 0
 NoEnters [] = Unit {0}
 NoEnters (x ∷ os) = IsNoEnter x.1 × NoEnters os
 
-abbrev is_over : Spot → Bool
-is_over (beginning l env) = false
-is_over (entered f env) = false
-is_over _ = true
+abbrev is_behind : Spot → Bool
+is_behind (beginning l env) = false
+is_behind (entered f env) = false
+is_behind _ = true
 
 record Over (z : Walk) : Type 0 where
   leaves : AllLeft z.held z.owed
   none : NoEnters z.owed
-  spot : is_over z.spot ≡ true
+  spot : is_behind z.spot ≡ true
 
 record Good (plans : Plans) (z : Walk) : Type 0 where
   well : AllWell plans z.active z.owed
@@ -345,7 +345,7 @@ kept_none ks ((l, tick x) ∷ os) h = (tt, kept_none ks os h.1)
 kept_none ks ((l, cross x v n) ∷ os) h = (tt, kept_none ks os h.1)
 kept_none ks ((l, blocked what) ∷ os) h = (tt, kept_none ks os h.1)
 
-nothing_fresh : (p : Source) (plans : Plans) (s : Spot) (ks : List ℕ) → is_over s ≡ true → owed_fresh p plans s ks ≡ []
+nothing_fresh : (p : Source) (plans : Plans) (s : Spot) (ks : List ℕ) → is_behind s ≡ true → owed_fresh p plans s ks ≡ []
 nothing_fresh p plans elsewhere ks h = refl
 nothing_fresh p plans (beginning l env) ks h = cc
 nothing_fresh p plans (entered f env) ks h = cc
@@ -357,7 +357,7 @@ append_nothing : (os more : Queue) → more ≡ [] → os ++ more ≡ os
 append_nothing [] more h = h
 append_nothing (o ∷ os) more h = ap (◌∷◌ o) (append_nothing os more h)
 
-crossed_over : (p : Source) (plans : Plans) (s : Spot) (old ks : List ℕ) (os : Queue) → is_over s ≡ true → owed_behind_cross p plans s old ks os ≡ still_owed ks os
+crossed_over : (p : Source) (plans : Plans) (s : Spot) (old ks : List ℕ) (os : Queue) → is_behind s ≡ true → owed_behind_cross p plans s old ks os ≡ still_owed ks os
 crossed_over p plans s old ks [] h = refl
 crossed_over p plans s old ks (o ∷ os) h = append_nothing (still_owed ks (o ∷ os)) (owed_fresh p plans s (new_filters old ks)) (nothing_fresh p plans s (new_filters old ks) h)
 
@@ -367,7 +367,7 @@ cross_left ks (g ∷ hs) os h =
     pick (λ gs. AllLeft gs (still_owed ks os)) (has ks g.0) (g ∷ filter (λ (h : ℕ × ℕ). has ks h.0) hs) (filter (λ (h : ℕ × ℕ). has ks h.0) hs)
     (λ b. (kept_leave ks g.0 g.1 os b h.0, cross_left ks hs os h.1)) (λ b. cross_left ks hs os h.1)
 
-over_without : (ks : List ℕ) (s : Spot) → is_over s ≡ true → is_over (spot_without ks s) ≡ true
+over_without : (ks : List ℕ) (s : Spot) → is_behind s ≡ true → is_behind (spot_without ks s) ≡ true
 over_without ks elsewhere h = refl
 over_without ks (beginning l env) h = cc
 over_without ks (entered f env) h = cc
@@ -375,7 +375,7 @@ over_without ks (complete l) h = refl
 over_without ks (left f is) h = refl
 over_without ks (trapped l) h = refl
 
-over_behind : (s : Spot) → is_over s ≡ true → is_over (left_behind s) ≡ true
+over_behind : (s : Spot) → is_behind s ≡ true → is_behind (left_behind s) ≡ true
 over_behind elsewhere h = refl
 over_behind (beginning l env) h = cc
 over_behind (entered f env) h = cc
@@ -414,7 +414,7 @@ no_frames (x ∷ fs) h = let bad : ⊥ = omega arith in absurd bad
 abbrev Goes : Plans → Walk → List Item → Type 0
 Goes plans z rest = Good plans z × EndsWell (length z.frames) rest
 
-calm : (plans : Plans) (z : Walk) → Good plans z → Good plans (entered_journal z)
+calm : (plans : Plans) (z : Walk) → Good plans z → Good plans (behind_entry z)
 calm plans z h = record { well = h.well; held = h.held; over = λ n. record { leaves = (h.over n).leaves; none = (h.over n).none; spot = refl } }
 
 not_here : (fs : List OpenFrame) → IsOpened (length fs) → fs ≡ [] → ⊥
@@ -588,11 +588,11 @@ walk_good p plans z [] ahead w h = h
 walk_good p plans z (goes i ∷ ss) ahead w h = walk_good p plans (after_item p plans z i) ss ahead w.1 (item_good p plans z i (items ss ++ ahead) h.1 h.0)
 walk_good p plans z (makes l o ∷ ss) ahead w h = walk_good p plans (after_operation p plans z o) ss ahead w.1 (op_good p plans z l o (items ss ++ ahead) w.0 h)
 
-first_good : (plans : Plans) (us vs : List Version) → Good plans (taking (entered_journal (unborn us)) vs)
+first_good : (plans : Plans) (us vs : List Version) → Good plans (taking (behind_entry (unborn us)) vs)
 first_good plans us [] = record { well = tt; held = tt; over = λ n. record { leaves = tt; none = tt; spot = refl } }
 first_good plans us (v ∷ vs) = record { well = tt; held = tt; over = λ n. record { leaves = tt; none = tt; spot = refl } }
 
-first_frames : (us vs : List Version) → length (Walk.frames (taking (entered_journal (unborn us)) vs)) ≡ 0
+first_frames : (us vs : List Version) → length (Walk.frames (taking (behind_entry (unborn us)) vs)) ≡ 0
 first_frames us [] = refl
 first_frames us (v ∷ vs) = refl
 
@@ -619,7 +619,7 @@ end_holds p plans f args vs (makes m o ∷ ss) l ahead r trace w =
 end_holds p plans f args vs (goes i ∷ ss) l ahead r trace w =
     let b = trace_begins p f args i (items (ss ++ goes (made l end) ∷ []) ++ ahead) r trace in
     let ends : EndsWell 0 (items (ss ++ goes (made l end) ∷ []) ++ ahead) = trace_ends p f args i (items (ss ++ goes (made l end) ∷ []) ++ ahead) r trace in
-    let z : Walk = taking (entered_journal (unborn vs)) vs in
+    let z : Walk = taking (behind_entry (unborn vs)) vs in
     let P : Item → Type 0 = λ j. AreWoven p plans (unborn vs) (goes j ∷ (ss ++ goes (made l end) ∷ [])) ahead in
     let woven : AreWoven p plans z (ss ++ goes (made l end) ∷ []) ahead = (subst P b.1 w).1 in
     let good : Goes plans z (items ss ++ made l end ∷ ahead) = (

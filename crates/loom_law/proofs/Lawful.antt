@@ -1,14 +1,15 @@
 -- The laws of lawful journals.
-use Rattle.std.proofs.Common.{ℕ, ◌≡◌, List, [], ◌∷◌, ◌++◌, sym, ap, subst, ◌∙◌}
+use Rattle.std.proofs.Common.{◌≡◌, List, [], ◌∷◌, ◌++◌, sym, ap, subst, ◌∙◌}
 use Rattle.loom_trace.specs.declared.entry.Entry.{Entry}
 use Rattle.loom_lang.specs.Trace.{made}
 use Rattle.loom_event.specs.Event.{Event, entry_of}
 use Rattle.loom_event.specs.Replay.{start, replay, IsAllowed}
 use Rattle.loom_law.specs.Walk.{goes, makes, entry_of_operation}
 use Rattle.loom_law.specs.Lawful.{Setting, front_of, front_at, MayFollow, IsObeyed, IsLawful}
-use Rattle.loom_law.specs.Laws.{Balances, MayTurn, HasBalance, IsAlwaysBalanced, HasExclusion, IsAlwaysObeyed, HasNewest, HasOwedInstalled, HasRightLeaves, HasFronts, HasBeginning, HasEventTurns, HasOperationTurns, HasControlTurns}
+use Rattle.loom_law.specs.Laws.{Balances, MayTurn, HasBalance, IsAlwaysBalanced, HasNewInstalls, HasExclusion, IsAlwaysObeyed, HasNewest, HasOwedInstalled, HasRightLeaves, HasFronts, HasBeginning, HasEventTurns, HasOperationTurns, HasControlTurns}
 use Rattle.loom_law.proofs.Strict.{IsStrict, lawful, balances}
 use Rattle.loom_law.proofs.Enough.{strict}
+use Rattle.loom_law.proofs.Anew.{anew}
 use Rattle.loom_law.proofs.Earlier as earlier
 use Rattle.loom_law.proofs.Obedience as obeyed
 use Rattle.loom_law.proofs.Newest as newest
@@ -24,6 +25,9 @@ pub always_balanced : IsAlwaysBalanced
 always_balanced s es h front x rest is =
     let k = strict s es h in
     subst (λ zs. Balances (front_at s zs front) x) k.1 (balances s es k.0 front x rest is)
+
+pub new_installs : HasNewInstalls
+new_installs s es h front k v row rest is = anew s es (strict s es h).0 front k v row rest is
 
 pub exclusion : HasExclusion
 exclusion s front rest h = obeyed.exclusion s front rest (strict s (front ++ rest) h).0

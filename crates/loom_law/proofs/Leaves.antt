@@ -14,7 +14,7 @@ use Rattle.loom_lang.specs.Places as place
 use Rattle.loom_lang.specs.Trace.{Locals, begin, end, trap, read, write, lock, unlock, down, up, spawn, join, print, Item, made, begins, done, edge, enter, out}
 use Rattle.loom_law.specs.Walk.{tick_after}
 use Rattle.loom_law.specs.Filter.{Site, statement, function, Ruling, Plan, matching, has, waits, posts, numbered_from, clauses}
-use Rattle.loom_law.specs.Walk.{Version, Plans, Operation, wait, enters, at, past, post, leave, back, tick, cross, blocked, Step, goes, makes, Inside, OpenFrame, Spot, elsewhere, beginning, entered, complete, left, trapped, Queue, Walk, unborn, holds, begins_in, owed_waits, owed_enters, owed_by, owed_at, is_among, all_inside, completed, in_frame, owed_posts, owed_leaves, events_of, owed_past, owed_behind, all_leaves, with_back, with_tick, begun_with, function_line, without_first, taking, entered_journal, after_item, without_clause, still_owed, new_filters, owed_fresh, owed_behind_cross, crossing, after_operation, walked, Owes, MayStand, AreWoven}
+use Rattle.loom_law.specs.Walk.{Version, Plans, Operation, wait, enters, at, past, post, leave, back, tick, cross, blocked, Step, goes, makes, Inside, OpenFrame, Spot, elsewhere, beginning, entered, complete, left, trapped, Queue, Walk, unborn, holds, begins_in, owed_waits, owed_enters, owed_by, owed_at, is_among, all_inside, completed, in_frame, owed_posts, owed_leaves, events_of, owed_past, owed_behind, all_leaves, with_back, with_tick, begun_with, function_line, without_first, taking, behind_entry, after_item, without_clause, still_owed, new_filters, owed_fresh, owed_behind_cross, crossing, after_operation, walked, Owes, MayStand, AreWoven}
 use Rattle.loom_law.specs.Part.{led, IsPart}
 use Rattle.loom_law.specs.Control.{Command, have_one_name, Control, first_control, control, after_entry, takes, taken_from, taken, entries_of, listed}
 use Rattle.loom_law.specs.Lawful.{plans, own, is_installed, Setting, is_held_by}
@@ -228,7 +228,7 @@ crossing_well : (p : Source) (plans : Plans) (z : Walk) (vs : List Version) → 
 crossing_well p plans z [] h a is o = (h, (a, subst HaveOnce (sym is) o))
 crossing_well p plans z (v ∷ vs) h a is o = (crossed_left p plans z.spot z.active v.active z.held z.owed h, (o.0, o.1))
 
-taking_well : (z : Walk) (vs : List Version) → z.owed ≡ [] → AreOnce z.active → z.coming ≡ vs → HaveOnce vs → LeavesWell (taking (entered_journal z) vs)
+taking_well : (z : Walk) (vs : List Version) → z.owed ≡ [] → AreOnce z.active → z.coming ≡ vs → HaveOnce vs → LeavesWell (taking (behind_entry z) vs)
 taking_well z [] none a is o = (subst (AllLeft z.held) (sym none) tt, (a, subst HaveOnce (sym is) o))
 taking_well z (v ∷ vs) none a is o = (subst (AllLeft z.held) (sym none) tt, (o.0, o.1))
 

@@ -1,36 +1,22 @@
 -- A journal with one more entry: its lists, the parts of its threads, and one more control entry.
-use Rattle.std.proofs.Common.{ℕ, zero, suc, ◌<◌, ◌≤◌, ◌≡◌, ◌==◌, ◌⊎◌, inl, inr, Bool, true, false, ◌&&◌, List, [], ◌∷◌, ◌++◌, ℤ, length, map, take, drop, ◌+◌, Option, Some, None, slice_get, refl, sym, ap, subst, ◌∙◌, if◌then◌else◌, arith}
-use Rattle.std.specs.Prelude.{codes}
-use Rattle.std.specs.List.{list_any}
+use Rattle.std.proofs.Common.{ℕ, zero, suc, ◌≤◌, ◌≡◌, ◌==◌, ◌⊎◌, inl, inr, Bool, true, false, ◌&&◌, List, [], ◌∷◌, ◌++◌, ℤ, length, map, take, Option, Some, None, slice_get, refl, sym, ap, subst, ◌∙◌, if◌then◌else◌, arith}
 use Rattle.loom_tree.specs.Tree.{Source, Function}
 use Rattle.loom_trace.specs.declared.entry.Entry.{Entry}
 use Rattle.loom_trace.specs.declared.entry.Entry.TheVariants as e
 use Rattle.loom_trace.specs.declared.entry.Ending.{Ending}
-use Rattle.loom_lang.specs.Numbers.{function_number}
-use Rattle.loom_lang.specs.Trace.{Act, begin, end, trap, read, write, lock, unlock, down, up, spawn, join, print, Item, made, begins, done, edge, enter, out, Outcome, Open, thread, IsTrace}
-use Rattle.loom_lang.specs.Acts.{Deed, acts, IsAlike}
-use Rattle.loom_lang.proofs.Broken.{broken_trace}
-use Rattle.loom_lang.proofs.NextAct.{one_next_act}
-use Rattle.loom_event.specs.Event.{Event, entry_by, entry_of, is_target, targets, deeds}
+use Rattle.loom_lang.specs.Trace.{Open, thread, IsTrace}
+use Rattle.loom_event.specs.Event.{Event, entry_of, is_target, targets}
 use Rattle.loom_event.specs.Entries.{thread_of, is_thread}
-use Rattle.loom_event.specs.Replay.{ThreadState, Store, new_thread, main_thread, start, thread_at, IsAllowedAct, IsAllowed, with_thread, after_act, replay, AreAllowed, thread_limit}
-use Rattle.loom_event.specs.Replay as law
-use Rattle.loom_event.specs.Run.{IsTraced, IsThreadTraced, AreRun}
-use Rattle.loom_law.specs.Walk.{Version, Plans, Operation, wait, enters, at, past, post, leave, back, tick, cross, blocked, Step, goes, makes, items, told, entry_of_operation, Walk, unborn, holds, without_first, taking, entered_journal, crossing, filter_of, after, walked, Owes, first_number, MayCross, MayStand, AreWoven}
-use Rattle.loom_law.specs.Part.{Own, led, IsPart, HasMoved}
-use Rattle.loom_law.specs.Control.{Command, Holder, Control, control, first_control, controlled, takes, taken, entries_of, listed}
-use Rattle.loom_law.specs.Lawful.{Setting, Front, front_of, plans, own, HasPart, owes_cross, KeptAway, Parks, IsParked, MayMove, is_held_by, is_installed, front_at, Permits, MayFollow, MayFollowBy}
+use Rattle.loom_event.specs.Replay.{ThreadState, start, thread_at, replay}
+use Rattle.loom_event.specs.Run.{IsThreadTraced, AreRun}
+use Rattle.loom_law.specs.Walk.{Version, Plans}
+use Rattle.loom_law.specs.Part.{IsPart}
+use Rattle.loom_law.specs.Control.{Command, Control, control, first_control, controlled, takes, taken, entries_of}
+use Rattle.loom_law.specs.Lawful.{Setting, Front, front_of, plans, HasPart, front_at, MayFollow, MayFollowBy}
 use Rattle.loom_law.proofs.Strict.{Stands, IsStrict, StandsBy}
-use Rattle.loom_law.specs.Laws.{IsUnfinished, with_newest, own_with, MayTurn, HasEmptyEnds}
-use Rattle.loom_law.proofs.OnePart.{same_op, act_is_no_op, told_append, append_none, same_front, never_empty, same_act}
-use Rattle.loom_law.proofs.Newest.{taking_coming, crossing_coming}
-use Rattle.loom_law.proofs.LastLeaves.{or_rest, and_true, end_holds}
-use Rattle.loom_law.proofs.ActiveFilters.{owed_installed}
-use Rattle.loom_law.proofs.Holdings.{or_left, or_right}
-use Rattle.loom_law.proofs.Balance.{IsSound, first_sound, sound_along}
-use Rattle.loom_law.proofs.Obedience.{are_said, balance}
-use Rattle.loom_law.proofs.Leaves.{right_leaves}
-use Rattle.loom_law.proofs.Earlier.{append_assoc, targets_append, length_append, entries_append, taken_append, deeds_append, IsOf, act_keeps, replay_append, same_number, by_test, if_false, if_true, entry_thread, items_append, items_ahead, woven_front, first_begins, fewer, to_take, takes_is, is_taking, takings, takings_taken, none_left, an_own}
+use Rattle.loom_law.specs.Laws.{IsUnfinished, with_newest, own_with}
+use Rattle.loom_law.proofs.OnePart.{append_none}
+use Rattle.loom_law.proofs.Earlier.{targets_append, length_append, entries_append, taken_append, IsOf, if_false, if_true, takes_is, is_taking, takings, takings_taken, none_left, an_own}
 
 -- Lists
 
@@ -235,7 +221,6 @@ no_target _ h = refl
 pub control_turns : (s : Setting) (es : List Entry) (h : IsStrict s es) → IsUnfinished es
     → (x : Entry) → thread_of x ≡ None → MayFollow s (front_of s es h.events) x []
     → (h' : IsStrict s (es ++ x ∷ [])) × (h'.events ≡ h.events)
-
 control_turns s es h open_ x none follows =
     let f : Front = front_of s es h.events in
     let control_ : MayFollowBy s f x [] None = subst (MayFollowBy s f x []) none follows in

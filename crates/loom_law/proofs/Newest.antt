@@ -1,18 +1,16 @@
 -- A begun thread that owes no `Cross` has the newest version.
-use Rattle.std.proofs.Common.{ℕ, zero, suc, ◌<◌, ◌≡◌, ◌==◌, Bool, true, false, List, [], ◌∷◌, ◌++◌, length, take, Option, Some, None, refl, sym, ap, subst, ◌∙◌, if◌then◌else◌, arith}
+use Rattle.std.proofs.Common.{ℕ, zero, suc, ◌<◌, ◌≡◌, ◌==◌, Bool, true, false, List, [], ◌∷◌, ◌++◌, length, Option, Some, None, refl, sym, ap, subst, ◌∙◌, if◌then◌else◌, arith}
 use Rattle.loom_tree.specs.Tree.{Source}
 use Rattle.loom_trace.specs.declared.entry.Entry.{Entry}
 use Rattle.loom_trace.specs.declared.entry.Entry.TheVariants as e
 use Rattle.loom_lang.specs.Trace.{begin, end, trap, read, write, lock, unlock, down, up, spawn, join, print, made, begins, done, edge, enter, out}
-use Rattle.loom_event.specs.Event.{targets}
 use Rattle.loom_event.specs.Entries.{thread_of, is_thread}
 use Rattle.loom_event.specs.Replay.{ThreadState, thread_limit}
-use Rattle.loom_law.specs.Walk.{Version, Plans, wait, enters, at, past, post, leave, back, tick, cross, blocked, Step, goes, makes, told, Walk, unborn, without_first, taking, entered_journal, crossing, after, walked}
+use Rattle.loom_law.specs.Walk.{Version, Plans, wait, enters, at, past, post, leave, back, tick, cross, blocked, Step, goes, makes, told, Walk, unborn, without_first, taking, behind_entry, crossing, after, walked}
 use Rattle.loom_law.specs.Part.{led, IsPart}
 use Rattle.loom_law.specs.Control.{Command, Control, first_control, after_entry, controlled, taken_from, taken, entries_of, row_at, listing, listed_from, listed, control}
-use Rattle.loom_law.specs.Lawful.{Setting, Front, front_of, plans, own, MayMove, is_cross, owes_cross, front_at}
+use Rattle.loom_law.specs.Lawful.{Setting, Front, plans, own, MayMove, is_cross, owes_cross, front_at}
 use Rattle.loom_law.proofs.Strict.{Stands, IsStrict}
-
 use Rattle.loom_law.proofs.Obedience.{stands_moves}
 use Rattle.loom_law.proofs.Earlier.{IsBegin, first_begins}
 
@@ -50,8 +48,8 @@ both_with vs vs' ks ks' es v h = ap (λ x. active_with x ks es) v ∙ ap (λ x. 
 walked_active : (p : Source) (plans : Plans) (t : ℕ) (z : Walk) (ss : List Step) → Walk.active (walked p plans z ss) ≡ active_with z.coming z.active (told t ss)
 walked_active p plans t z [] = refl
 walked_active p plans t z (goes (made l begin) ∷ ss) =
-    walked_active p plans t (taking (entered_journal z) z.coming) ss
-    ∙ both_with _ _ _ _ (told t ss) (taking_coming (entered_journal z) z.coming refl) (taking_active (entered_journal z) z.coming)
+    walked_active p plans t (taking (behind_entry z) z.coming) ss
+    ∙ both_with _ _ _ _ (told t ss) (taking_coming (behind_entry z) z.coming refl) (taking_active (behind_entry z) z.coming)
 walked_active p plans t z (makes l (cross x v n) ∷ ss) =
     walked_active p plans t (crossing p plans z z.coming) ss
     ∙ both_with _ _ _ _ (told t ss) (crossing_coming p plans z z.coming refl) (crossing_active p plans z z.coming)

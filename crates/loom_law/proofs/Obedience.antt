@@ -1,19 +1,17 @@
 -- In a lawful journal a thread holds what the journal says, and installed filters are obeyed.
-use Rattle.std.proofs.Common.{ℕ, ◌≡◌, ◌==◌, Bool, true, false, List, [], ◌∷◌, ◌++◌, length, take, Option, Some, None, refl, sym, ap, subst, ◌∙◌, if◌then◌else◌, arith}
+use Rattle.std.proofs.Common.{ℕ, ◌≡◌, ◌==◌, Bool, true, false, List, [], ◌∷◌, ◌++◌, Option, Some, None, refl, sym, ap, subst, ◌∙◌, if◌then◌else◌, arith}
 use Rattle.loom_tree.specs.Tree.{Source}
 use Rattle.loom_trace.specs.declared.entry.Entry.{Entry}
 use Rattle.loom_trace.specs.declared.entry.Entry.TheVariants as e
 use Rattle.loom_lang.specs.Trace.{begin, end, trap, read, write, lock, unlock, down, up, spawn, join, print, made, begins, done, edge, enter, out}
-use Rattle.loom_event.specs.Event.{targets}
 use Rattle.loom_event.specs.Entries.{thread_of}
 use Rattle.loom_event.specs.Replay.{ThreadState, thread_at}
 use Rattle.loom_law.specs.Filter.{is_alone}
-use Rattle.loom_law.specs.Walk.{Version, Plans, wait, enters, at, past, post, leave, back, tick, cross, blocked, Step, goes, makes, told, Walk, unborn, holds, without_clause, without_first, taking, entered_journal, crossing, after, walked}
+use Rattle.loom_law.specs.Walk.{Version, Plans, wait, enters, at, past, post, leave, back, tick, cross, blocked, Step, goes, makes, told, Walk, unborn, holds, without_clause, without_first, taking, behind_entry, crossing, after, walked}
 use Rattle.loom_law.specs.Part.{led, IsPart, IsInside}
 use Rattle.loom_law.specs.Control.{Command, Control, first_control, after_entry, controlled, control, taken_from, taken, entries_of}
-use Rattle.loom_law.specs.Lawful.{Setting, Front, front_of, plans, own, MayMove, IsHeldOff, is_held_by, is_installed, IsInsideIf, front_at, IsObeyed}
+use Rattle.loom_law.specs.Lawful.{Setting, Front, plans, own, MayMove, IsHeldOff, is_held_by, is_installed, IsInsideIf, front_at, IsObeyed}
 use Rattle.loom_law.proofs.Strict.{Stands, IsStrict, StandsBy}
-
 use Rattle.loom_law.proofs.Inside.{inside_is_held}
 use Rattle.loom_law.proofs.Balance.{held_in, Says, AreSaid, IsSound, first_sound, sound_along, held_from, IsBalanced, first_balanced, balanced_along}
 
@@ -54,8 +52,8 @@ both_with vs vs' hs hs' es v h = ap (λ x. held_with x hs es) v ∙ ap (λ x. he
 walked_held : (p : Source) (plans : Plans) (t : ℕ) (z : Walk) (ss : List Step) → Walk.held (walked p plans z ss) ≡ held_with z.coming z.held (told t ss)
 walked_held p plans t z [] = refl
 walked_held p plans t z (goes (made l begin) ∷ ss) =
-    walked_held p plans t (taking (entered_journal z) z.coming) ss
-    ∙ both_with _ _ _ _ (told t ss) (taking_coming (entered_journal z) z.coming refl) (taking_held (entered_journal z) z.coming)
+    walked_held p plans t (taking (behind_entry z) z.coming) ss
+    ∙ both_with _ _ _ _ (told t ss) (taking_coming (behind_entry z) z.coming refl) (taking_held (behind_entry z) z.coming)
 walked_held p plans t z (goes (made l end) ∷ ss) = walked_held p plans t (after p plans z (goes (made l end))) ss
 walked_held p plans t z (goes (made l (trap c)) ∷ ss) = walked_held p plans t (after p plans z (goes (made l (trap c)))) ss
 walked_held p plans t z (goes (made l (read x v)) ∷ ss) = walked_held p plans t (after p plans z (goes (made l (read x v)))) ss
@@ -169,11 +167,11 @@ stands_says s f (e.Installed k v ps) rest h = h.1.asked
 stands_says s f (e.Unreached k) rest h = h.1.0
 stands_says s f _ rest h = tt
 
-controlled_last : (cs : List Command) (c : Control) (xs : List Entry) (y : Entry) → controlled cs c (xs ++ y ∷ []) ≡ after_entry cs (controlled cs c xs) y
+pub controlled_last : (cs : List Command) (c : Control) (xs : List Entry) (y : Entry) → controlled cs c (xs ++ y ∷ []) ≡ after_entry cs (controlled cs c xs) y
 controlled_last cs c [] y = refl
 controlled_last cs c (x ∷ xs) y = controlled_last cs (after_entry cs c x) xs y
 
-append_one : (xs : List Entry) (y : Entry) (ys : List Entry) → (xs ++ y ∷ []) ++ ys ≡ xs ++ y ∷ ys
+pub append_one : (xs : List Entry) (y : Entry) (ys : List Entry) → (xs ++ y ∷ []) ++ ys ≡ xs ++ y ∷ ys
 append_one [] y ys = refl
 append_one (x ∷ xs) y ys = ap (◌∷◌ x) (append_one xs y ys)
 

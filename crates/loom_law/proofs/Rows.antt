@@ -6,7 +6,7 @@ use Rattle.loom_trace.specs.declared.entry.What.TheVariants as w
 use Rattle.loom_tree.specs.declared.expression.Op.TheVariants as o
 use Rattle.loom_tree.specs.Tree.{num, var, cell, neg, inverse, bin, Right, Simple, let_, set, set_cell, simple, if_, while_, Source}
 use Rattle.loom_tree.specs.Tree as tree
-use Rattle.loom_lang.specs.Trace.{division, begin, end, trap, read, write, lock, unlock, down, up, spawn, join, print, made, begins, done, edge, enter, out, Finished}
+use Rattle.loom_lang.specs.Trace.{begin, end, read, write, lock, unlock, down, up, spawn, join, print, made, begins, done, edge, enter, out, Finished}
 use Rattle.loom_event.proofs.Runs.{next, given}
 use Rattle.loom_command.specs.Filter.{Region, Clause}
 use Rattle.loom_law.specs.Filter.{plan_of}

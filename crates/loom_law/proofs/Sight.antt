@@ -7,7 +7,7 @@ use Rattle.loom_tree.specs.Tree.{Body, simple, if_, while_, Function, Source}
 use Rattle.loom_tree.specs.Tree as tree
 use Rattle.loom_lang.specs.Trace.{Locals}
 use Rattle.loom_law.specs.Filter.{Site, statement, function, Watch, Range, between, whole, Plan, matching, share, entry_events, exit_events}
-use Rattle.loom_law.specs.View.{FrameView, View, all_ranges, with_events, beginning, completing, complete, opening, first_frame, other_frames, is_empty}
+use Rattle.loom_law.specs.View.{FrameView, View, all_ranges, with_events, with_begun, with_complete, with_all_complete, with_statement, first_frame, other_frames, is_empty}
 use Rattle.loom_law.specs.Paths.{Node, links_of, statements, others, Begins, watch_at, IsExit, Halts, Comes, here, goes}
 use Rattle.loom_law.specs.Paths as path
 use Rattle.loom_law.proofs.Course.{Level, Course, AreNone, OnFirst, Follows, IsNested, AllReturn, IsLoop, IsCalledFrom, moved, at_level, no_member, contains_cases}
@@ -132,7 +132,7 @@ AreLeaving f (x ∷ xs) (y ∷ ys) = Fits f x y × (ys ≡ [])
 pub record Sees (f : Plan) (s : Course) (w : View) : Type 0 where
   pub fits : AreFit f s.levels w.frames
   pub here : AreHere f s.levels w.here
-  pub knows : AreKnown f s.levels (beginning f w.here w.frames)
+  pub knows : AreKnown f s.levels (with_begun f w.here w.frames)
   pub fresh : IsFresh s.levels w.frames
   pub leaving : AreLeaving f s.gone w.leaving
 
@@ -246,7 +246,7 @@ begun_range p f g fn m os ms (whole n) well open_ k h c t =
 
 -- what has begun here fits too
 pub begun_fits : (p : Source) (f : Plan) (ls : List Level) (ns : List ℕ) (ys : List FrameView) → IsWellSited f → AreGood p ls → AreHere f ls ns → AreFit f ls ys
-    → AreFit f ls (beginning f ns ys)
+    → AreFit f ls (with_begun f ns ys)
 begun_fits p f [] ns [] well good h fit = tt
 begun_fits p f [] ns (y ∷ ys) well good h fit = absurd fit
 begun_fits p f (x ∷ xs) ns [] well good h fit = absurd fit
@@ -275,7 +275,7 @@ knows_again f [] nss k = tt
 knows_again f (b ∷ bs) [] k = k
 knows_again f (b ∷ bs) (ns ∷ nss) k = k
 
-pub known_again : (f : Plan) (ls : List Level) (ys : List FrameView) → AreKnown f ls ys → AreKnown f ls (beginning f [] ys)
+pub known_again : (f : Plan) (ls : List Level) (ys : List FrameView) → AreKnown f ls ys → AreKnown f ls (with_begun f [] ys)
 known_again f [] ys k = tt
 known_again f (x ∷ xs) [] k = k
 known_again f (x ∷ xs) (y ∷ ys) k = (knows_again f x.opened y.under_way k.0, k.1)
@@ -313,7 +313,7 @@ range_moves f x n os (whole m) fol halts h = record { region = h.region; watches
 
 pub begins_seen : (f : Plan) (x : Level) (xs : List Level) (l : ℕ) (env : Locals) (b : Body) (ys : List FrameView) → Begins b l → Follows x.function x.node (path.begins l)
     → AreFit f (x ∷ xs) ys → AreKnown f (x ∷ xs) ys
-    → Sees f (at_level (moved x (path.begins l) (b ∷ x.opened)) xs) (record { frames = opening ys; leaving = []; here = matching f (statement l) env })
+    → Sees f (at_level (moved x (path.begins l) (b ∷ x.opened)) xs) (record { frames = with_statement ys; leaving = []; here = matching f (statement l) env })
 begins_seen f x xs l env b [] begun fol fit k = absurd fit
 begins_seen f x xs l env b (y ∷ ys) begun fol fit k = record {
   fits = (
@@ -343,7 +343,7 @@ lv g fn m os = record { func = g; function = fn; node = m; opened = os }
 
 done_fits : (f : Plan) (g : ℕ) (fn : Function) (m : Option Node) (b : Body) (bs : List Body) (l : ℕ) (y : FrameView) (nss : List (List ℕ)) → Begins b l
     → Follows fn m (path.complete l) → FitsUnder f g (b ∷ bs) nss → Knows f (b ∷ bs) nss → ((r : Range) → Contains y.inside r → FitsRange f (lv g fn m (b ∷ bs)) r)
-    → Fits f (lv g fn (Some (path.complete l)) bs) (completing nss y) × Knows f bs (with_events [] (FrameView.under_way (completing nss y)))
+    → Fits f (lv g fn (Some (path.complete l)) bs) (with_complete nss y) × Knows f bs (with_events [] (FrameView.under_way (with_complete nss y)))
 done_fits f g fn m b bs l y [] begun fol u k h = absurd u
 done_fits f g fn m b bs l y (ns ∷ nss) begun fol u k h =
     (record { under = u.1; inside = (λ r c. left_or_stays r (filter_member (λ q. not (share (exit_events q) ns)) y.inside r c)) }, knows_again f bs nss k.1)
@@ -354,7 +354,7 @@ done_fits f g fn m b bs l y (ns ∷ nss) begun fol u k h =
 
 pub done_seen : (f : Plan) (g : ℕ) (fn : Function) (m : Option Node) (b : Body) (bs : List Body) (xs : List Level) (l : ℕ) (ys : List FrameView) → Begins b l
     → Follows fn m (path.complete l) → AreFit f (lv g fn m (b ∷ bs) ∷ xs) ys → AreKnown f (lv g fn m (b ∷ bs) ∷ xs) ys
-    → Sees f (at_level (lv g fn (Some (path.complete l)) bs) xs) (record { frames = complete ys; leaving = []; here = [] })
+    → Sees f (at_level (lv g fn (Some (path.complete l)) bs) xs) (record { frames = with_all_complete ys; leaving = []; here = [] })
 done_seen f g fn m b bs xs l [] begun fol fit k = absurd fit
 done_seen f g fn m b bs xs l (y ∷ ys) begun fol fit k =
     let d = done_fits f g fn m b bs l y y.under_way begun fol fit.0.under k.0 fit.0.inside in

@@ -1,5 +1,5 @@
 -- The plan of a filter has each event where its region's kind puts it.
-use Rattle.std.proofs.Common.{ℕ, zero, suc, ◌+◌, ◌<◌, ◌≡◌, ◌⊎◌, inl, inr, Bool, true, false, List, [], ◌∷◌, ◌++◌, length, map, slice_get, flat_map, Option, Some, None, refl, sym, ap, subst, ◌∙◌, arith}
+use Rattle.std.proofs.Common.{ℕ, zero, suc, ◌+◌, ◌<◌, ◌≡◌, ◌⊎◌, inl, inr, true, List, [], ◌∷◌, ◌++◌, length, map, slice_get, flat_map, Option, Some, None, refl, sym, ap, subst, ◌∙◌, arith}
 use Rattle.std.specs.List.{Contains}
 use Rattle.std.proofs.lemmas.List.Elements.{Contains-append_left, Contains-append_right, Contains-append_cases}
 use Rattle.loom_tree.specs.Tree.{Source, Body, simple, if_, while_, Function}
@@ -14,7 +14,6 @@ use Rattle.loom_law.specs.Laws.{HasSoundPlaces, IsOutsideWhereFlagged}
 use Rattle.loom_event.specs.Replay.{ThreadState, thread_at}
 use Rattle.loom_law.specs.Control.{Command, Action, install, means, command_at}
 use Rattle.loom_law.specs.Lawful.{Setting, Front, plans, own, IsFlaggedBy, IsOutside, Lists, running}
-use Rattle.loom_law.specs.Part.{Own}
 use Rattle.loom_law.proofs.Course.{contains_first, contains_later, no_member, contains_cases}
 use Rattle.loom_law.proofs.Sight.{IsSited, IsWellSited}
 use Rattle.loom_law.proofs.Sound.{sound_of_sites}

@@ -7,14 +7,14 @@ use Rattle.loom_lang.specs.Places.{Place, body_places}
 use Rattle.loom_lang.specs.Places as place
 use Rattle.loom_lang.specs.Trace.{Locals, begin, end, trap, read, write, lock, unlock, down, up, spawn, join, print, Item, made, begins, done, edge, enter, out}
 use Rattle.loom_law.specs.Filter.{Plan, statement, matching}
-use Rattle.loom_law.specs.Walk.{Version, Plans, Operation, wait, enters, at, past, post, leave, back, tick, cross, blocked, Step, goes, makes, items, OpenStatement, OpenFrame, Spot, elsewhere, beginning, entered, complete, left, trapped, Queue, Walk, unborn, in_frame, opened, closed, completed, without_first, taking, entered_journal, after_item, noted, noted_at, begun_at, left_behind, frames_without, spot_without, crossing, after_operation, walked, innermost, place_of_request, place_of_next}
-use Rattle.loom_law.specs.View as watch
+use Rattle.loom_law.specs.Walk.{Version, Plans, Operation, wait, enters, at, past, post, leave, back, tick, cross, blocked, Step, goes, makes, items, OpenStatement, OpenFrame, Spot, elsewhere, beginning, entered, complete, left, trapped, Queue, Walk, unborn, in_frame, opened, closed, completed, without_first, taking, behind_entry, after_item, noted, noted_at, begun_at, left_behind, frames_without, spot_without, crossing, after_operation, walked, innermost, place_of_request, place_of_next}
+use Rattle.loom_law.specs.View as view
 use Rattle.loom_law.specs.View.{FrameView, View, nothing_seen, settled, seen_item, seen_step, seen_from, IsClear}
 use Rattle.loom_law.specs.Paths.{Node, statements, Begins, places_in, places_of, IsUnsafe, Halts, node_places}
 use Rattle.loom_law.specs.Paths as path
-use Rattle.loom_law.specs.Part.{Own, led, Point, IsPlaceOf}
+use Rattle.loom_law.specs.Part.{led}
 use Rattle.loom_law.specs.Laws.{IsSound}
-use Rattle.loom_law.proofs.Course.{Level, Course, over, AreNone, OnFirst, Follows, IsWithin, Acts, IsNested, AllReturn, IsLoop, moved, at_level, Runs, IsCourse, contains_first, contains_later, trace_is_course}
+use Rattle.loom_law.proofs.Course.{Level, Course, no_frames, AreNone, OnFirst, Follows, IsWithin, Acts, IsNested, AllReturn, IsLoop, moved, at_level, Runs, IsCourse, contains_first, contains_later, trace_is_course}
 use Rattle.loom_law.proofs.Sight.{IsWellSited, FitsNode, IsGood, AreGood, AreGone, AreFit, AreKnown, IsFresh, AreLeaving, Sees, begun_fits, none_here, known_again, one_line, loop_begins, begins_seen, done_seen, edge_seen, enter_seen, out_seen}
 use Rattle.loom_law.proofs.Unsafe.{statement_places, own_place, loop_place, others_in, AreRound, IsHere, IsClearOf, own_clear, reached_first, AreClear, below_clear, all_clear, clear_append, none_inside, none_under_way}
 
@@ -62,7 +62,7 @@ none_same : (ls : List Level) (zs : List OpenFrame) → AreNone ls → SameFrame
 none_same [] zs n h = h
 none_same (x ∷ xs) zs n h = absurd n
 
-nothing_sees : (f : Plan) → Sees f over nothing_seen
+nothing_sees : (f : Plan) → Sees f no_frames nothing_seen
 nothing_sees f = record { fits = tt; here = tt; knows = tt; fresh = tt; leaving = tt }
 
 taking_frames : (ls : List Level) (z : Walk) (vs : List Version) → SameFrames ls z.frames → SameFrames ls (Walk.frames (taking z vs))
@@ -87,10 +87,10 @@ acts_top [] l a = tt
 acts_top (x ∷ xs) l a = (l, a.0)
 
 abbrev now : Plan → View → List FrameView
-now f w = watch.beginning f w.here w.frames
+now f w = view.with_begun f w.here w.frames
 
 act_keeps : (p : Source) (f : Plan) (s : Course) (z : Walk) (w : View) (l : ℕ) → IsWellSited f → Is p f s z w → Acts s.levels l
-    → Is p f (record s { gone = [] }) (entered_journal z) (settled f w)
+    → Is p f (record s { gone = [] }) (behind_entry z) (settled f w)
 act_keeps p f s z w l well is a =
     let fit : AreFit f s.levels (now f w) = begun_fits p f s.levels w.here w.frames well is.good is.sees.here is.sees.fits in
     record {
@@ -138,7 +138,7 @@ Leads p f P z w = (s : Course) × (P s × Is p f s z w)
 
 begins_keeps : (p : Source) (plans : Plans) (f : Plan) (ls : List Level) (z : Walk) (ys : List FrameView) (l : ℕ) (env : Locals) (P : Course → Type 0) → AreGood p ls
     → SameFrames ls z.frames → AreFit f ls ys → AreKnown f ls ys → Runs p (record { levels = ls; gone = [] }) (begins l env) P
-    → Leads p f P (after_item p plans z (begins l env)) (record { frames = watch.opening ys; leaving = []; here = matching f (statement l) env })
+    → Leads p f P (after_item p plans z (begins l env)) (record { frames = view.with_statement ys; leaving = []; here = matching f (statement l) env })
 begins_keeps p plans f [] z ys l env P good same fit k r = absurd r
 begins_keeps p plans f (x ∷ xs) z ys l env P good same fit k (b, (begun, (there, (fol, done_there)))) = (
   at_level (moved x (path.begins l) (b ∷ x.opened)) xs,
@@ -157,7 +157,7 @@ begins_keeps p plans f (x ∷ xs) z ys l env P good same fit k (b, (begun, (ther
 done_keeps : (p : Source) (plans : Plans) (f : Plan) (g : ℕ) (fn : Function) (m : Option Node) (os : List Body) (xs : List Level) (z : Walk) (ys : List FrameView) (l : ℕ)
     (P : Course → Type 0) → AreGood p (lv g fn m os ∷ xs) → SameFrames (lv g fn m os ∷ xs) z.frames → AreFit f (lv g fn m os ∷ xs) ys
     → AreKnown f (lv g fn m os ∷ xs) ys → Runs p (record { levels = lv g fn m os ∷ xs; gone = [] }) (done l) P
-    → Leads p f P (after_item p plans z (done l)) (record { frames = watch.complete ys; leaving = []; here = [] })
+    → Leads p f P (after_item p plans z (done l)) (record { frames = view.with_all_complete ys; leaving = []; here = [] })
 done_keeps p plans f g fn m [] xs z ys l P good same fit k r = absurd r
 done_keeps p plans f g fn m (b ∷ bs) xs z ys l P good same fit k r = (
   at_level (lv g fn (Some (path.complete l)) bs) xs,
@@ -194,7 +194,7 @@ edge_keeps p plans f g fn m (b ∷ bs) xs z ys l P good same fit k r = (
 
 out_keeps : (p : Source) (plans : Plans) (f : Plan) (x : Level) (xs : List Level) (z : Walk) (ys : List FrameView) (h : ℕ) (P : Course → Type 0) → AreGood p (x ∷ xs)
     → SameFrames (x ∷ xs) z.frames → AreFit f (x ∷ xs) ys → AreKnown f (x ∷ xs) ys → Runs p (record { levels = x ∷ xs; gone = [] }) (out h) P
-    → Leads p f P (after_item p plans z (out h)) (record { frames = watch.other_frames ys; leaving = if watch.is_empty (Walk.owed (after_item p plans z (out h))) then [] else watch.first_frame ys; here = [] })
+    → Leads p f P (after_item p plans z (out h)) (record { frames = view.other_frames ys; leaving = if view.is_empty (Walk.owed (after_item p plans z (out h))) then [] else view.first_frame ys; here = [] })
 out_keeps p plans f x xs z ys h P good same fit k r = (
   record { levels = xs; gone = x ∷ [] },
   (
@@ -214,15 +214,15 @@ nothing_gone [] h = refl
 nothing_gone (x ∷ xs) h = absurd h
 
 begin_keeps : (p : Source) (f : Plan) (s : Course) (z : Walk) (w : View) → IsWellSited f → Is p f s z w → AreNone s.levels
-    → Is p f over (taking (entered_journal z) z.coming) (settled f w)
+    → Is p f no_frames (taking (behind_entry z) z.coming) (settled f w)
 begin_keeps p f s z w well is n =
     let fit : AreFit f [] (now f w) = none_fit f s.levels (now f w) n (begun_fits p f s.levels w.here w.frames well is.good is.sees.here is.sees.fits) in
     record {
       good = tt;
       gone = tt;
       sees = record { fits = fit; here = tt; knows = tt; fresh = tt; leaving = tt };
-      frames = taking_frames [] (entered_journal z) z.coming (none_same s.levels z.frames n is.frames);
-      spot = taking_spot (entered_journal z) z.coming (tt, tt);
+      frames = taking_frames [] (behind_entry z) z.coming (none_same s.levels z.frames n is.frames);
+      spot = taking_spot (behind_entry z) z.coming (tt, tt);
     }
 
 fitted : (p : Source) (f : Plan) (s : Course) (z : Walk) (w : View) → IsWellSited f → Is p f s z w → AreFit f s.levels (now f w)
@@ -230,11 +230,11 @@ fitted p f s z w well is = begun_fits p f s.levels w.here w.frames well is.good 
 
 pub item_keeps : (p : Source) (plans : Plans) (f : Plan) (s : Course) (z : Walk) (w : View) (i : Item) (P : Course → Type 0) → IsWellSited f → Is p f s z w → Runs p s i P
     → Leads p f P (after_item p plans z i) (seen_item f (after_item p plans z i) (settled f w) i)
-item_keeps p plans f s z w (made l begin) P well is r = (over, (r.1.1, begin_keeps p f s z w well is r.0))
+item_keeps p plans f s z w (made l begin) P well is r = (no_frames, (r.1.1, begin_keeps p f s z w well is r.0))
 item_keeps p plans f s z w (made l end) P well is r =
-    (over, (r.1, record { good = tt; gone = tt; sees = nothing_sees f; frames = none_same s.levels z.frames r.0 is.frames; spot = (tt, tt) }))
+    (no_frames, (r.1, record { good = tt; gone = tt; sees = nothing_sees f; frames = none_same s.levels z.frames r.0 is.frames; spot = (tt, tt) }))
 item_keeps p plans f s z w (made l (trap c)) P well is r =
-    (over, (r.1, record { good = tt; gone = tt; sees = nothing_sees f; frames = tt; spot = (tt, tt) }))
+    (no_frames, (r.1, record { good = tt; gone = tt; sees = nothing_sees f; frames = tt; spot = (tt, tt) }))
 item_keeps p plans f s z w (made l (read x v)) P well is r = (record s { gone = [] }, (r.1, act_keeps p f s z w l well is r.0))
 item_keeps p plans f s z w (made l (write x v)) P well is r = (record s { gone = [] }, (r.1, act_keeps p f s z w l well is r.0))
 item_keeps p plans f s z w (made l (lock m)) P well is r = (record s { gone = [] }, (r.1, act_keeps p f s z w l well is r.0))
@@ -249,7 +249,7 @@ item_keeps p plans f s z w (begins l env) P well is r =
 item_keeps p plans f s z w (done l) P well is r = on_levels s.levels is.good is.frames (fitted p f s z w well is) is.sees.knows r
   where
     on_levels : (ls : List Level) → AreGood p ls → SameFrames ls z.frames → AreFit f ls (now f w) → AreKnown f ls (now f w)
-        → Runs p (record { levels = ls; gone = [] }) (done l) P → Leads p f P (after_item p plans z (done l)) (record { frames = watch.complete (now f w); leaving = []; here = [] })
+        → Runs p (record { levels = ls; gone = [] }) (done l) P → Leads p f P (after_item p plans z (done l)) (record { frames = view.with_all_complete (now f w); leaving = []; here = [] })
     on_levels [] g same fit k r' = absurd r'
     on_levels (x ∷ xs) g same fit k r' = done_keeps p plans f x.func x.function x.node x.opened xs z (now f w) l P g same fit k r'
 item_keeps p plans f s z w (edge l) P well is r = on_levels s.levels is.good is.frames (fitted p f s z w well is) is.sees.knows r
@@ -275,7 +275,7 @@ item_keeps p plans f s z w (out h) P well is r = on_levels s.levels is.good is.f
   where
     on_levels : (ls : List Level) → AreGood p ls → SameFrames ls z.frames → AreFit f ls (now f w) → AreKnown f ls (now f w)
         → Runs p (record { levels = ls; gone = [] }) (out h) P
-        → Leads p f P (after_item p plans z (out h)) (record { frames = watch.other_frames (now f w); leaving = if watch.is_empty (Walk.owed (after_item p plans z (out h))) then [] else watch.first_frame (now f w); here = [] })
+        → Leads p f P (after_item p plans z (out h)) (record { frames = view.other_frames (now f w); leaving = if view.is_empty (Walk.owed (after_item p plans z (out h))) then [] else view.first_frame (now f w); here = [] })
     on_levels [] g same fit k r' = absurd r'
     on_levels (x ∷ xs) g same fit k r' = out_keeps p plans f x xs z (now f w) h P g same fit k r'
 
@@ -513,7 +513,7 @@ clear : (frames leaving : List FrameView) (w : View) → w.frames ≡ frames →
 clear fs lv' w a b h k =
     let same : w.frames ++ w.leaving ≡ fs ++ lv' = ap (λ z. z ++ w.leaving) a ∙ ap (λ z. fs ++ z) b in
     let all : AreClear (fs ++ lv') = clear_append fs lv' h k in
-    let P : List FrameView → Type 0 = λ z. (watch.all_of z ≡ []) × (watch.all_under_way z ≡ []) in
+    let P : List FrameView → Type 0 = λ z. (view.all_of z ≡ []) × (view.all_under_way z ≡ []) in
     let both = subst P (sym same) (none_inside _ all, none_under_way _ all) in
     record { outside = both.0; at_rest = both.1 }
 
@@ -687,7 +687,7 @@ item_clear p f s z w y (out h) well is r o e safe = none_some y e
 
 -- what is seen, with what is owed
 abbrev seen_where : Plan → Queue → View → View
-seen_where f os w = if watch.is_empty os then settled f w else w
+seen_where f os w = if view.is_empty os then settled f w else w
 
 point_clear : (p : Source) (f : Plan) (s : Course) (z : Walk) (w : View) (y : Place) (i : Item) (os : Queue) → IsWellSited f → Is p f s z w
     → Runs p s i (λ s'. Unit {0}) → z.owed ≡ os → place_of_next z os (i ∷ []) ≡ Some y → (IsUnsafe p f y → ⊥) → IsClear (seen_where f os w)
@@ -697,12 +697,12 @@ point_clear p f s z w y i (o ∷ os) well is r q e safe =
     let both = owed_clear p f s z w y o os z.spot well is is.spot there safe in
     clear w.frames w.leaving w refl refl both.0 both.1
 
-start : (p : Source) (f : Plan) (vs : List Version) → Is p f over (unborn vs) nothing_seen
+start : (p : Source) (f : Plan) (vs : List Version) → Is p f no_frames (unborn vs) nothing_seen
 start p f vs = record { good = tt; gone = tt; sees = nothing_sees f; frames = tt; spot = (tt, tt) }
 
 -- The unsafe places of a filter whose regions and events are of their kinds are sound.
 pub sound_of_sites : (p : Source) (f : Plan) → IsWellSited f → IsSound p f
 sound_of_sites p f well plans x h y there safe =
-    let c : IsCourse p over (items h.steps ++ h.next ∷ []) = trace_is_course p x.func x.args _ _ h.trace in
-    let r = walk_keeps p plans f over (unborn x.versions) nothing_seen h.steps (h.next ∷ []) well (start p f x.versions) c in
+    let c : IsCourse p no_frames (items h.steps ++ h.next ∷ []) = trace_is_course p x.func x.args _ _ h.trace in
+    let r = walk_keeps p plans f no_frames (unborn x.versions) nothing_seen h.steps (h.next ∷ []) well (start p f x.versions) c in
     point_clear p f r.0 (led p plans x h.steps) _ y h.next (led p plans x h.steps).owed well r.1.1 r.1.0 refl there safe

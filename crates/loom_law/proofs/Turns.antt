@@ -1,13 +1,12 @@
 -- A lawful journal with one more entry is lawful.
-use Rattle.std.proofs.Common.{ℕ, zero, suc, ◌<◌, ◌≤◌, ◌≡◌, ◌==◌, ◌⊎◌, inl, inr, Bool, true, false, ◌&&◌, List, [], ◌∷◌, ◌++◌, ℤ, length, map, take, drop, ◌+◌, Option, Some, None, slice_get, refl, sym, ap, subst, ◌∙◌, if◌then◌else◌, arith}
+use Rattle.std.proofs.Common.{ℕ, zero, suc, ◌<◌, ◌≤◌, ◌≡◌, ◌==◌, Bool, true, false, ◌&&◌, List, [], ◌∷◌, ◌++◌, ℤ, length, map, drop, ◌+◌, Option, Some, None, slice_get, refl, sym, ap, subst, ◌∙◌, if◌then◌else◌, arith}
 use Rattle.std.specs.Prelude.{codes}
 use Rattle.std.specs.List.{list_any}
-use Rattle.loom_tree.specs.Tree.{Source, Function}
+use Rattle.loom_tree.specs.Tree.{Source}
 use Rattle.loom_trace.specs.declared.entry.Entry.{Entry}
 use Rattle.loom_trace.specs.declared.entry.Entry.TheVariants as e
-use Rattle.loom_trace.specs.declared.entry.Ending.{Ending}
 use Rattle.loom_lang.specs.Numbers.{function_number}
-use Rattle.loom_lang.specs.Trace.{Act, begin, end, trap, read, write, lock, unlock, down, up, spawn, join, print, Item, made, begins, done, edge, enter, out, Outcome, Open, thread, IsTrace}
+use Rattle.loom_lang.specs.Trace.{Act, begin, end, trap, read, write, lock, unlock, down, up, spawn, join, print, Item, made, begins, done, edge, enter, out, Outcome, Open, IsTrace}
 use Rattle.loom_lang.specs.Acts.{Deed, acts, IsAlike}
 use Rattle.loom_lang.proofs.Broken.{broken_trace}
 use Rattle.loom_lang.proofs.NextAct.{one_next_act}
@@ -16,12 +15,12 @@ use Rattle.loom_event.specs.Entries.{thread_of, is_thread}
 use Rattle.loom_event.specs.Replay.{ThreadState, Store, new_thread, main_thread, start, thread_at, IsAllowedAct, IsAllowed, with_thread, after_act, replay, AreAllowed, thread_limit}
 use Rattle.loom_event.specs.Replay as law
 use Rattle.loom_event.specs.Run.{IsTraced, IsThreadTraced, AreRun}
-use Rattle.loom_law.specs.Walk.{Version, Plans, Operation, wait, enters, at, past, post, leave, back, tick, cross, blocked, Step, goes, makes, items, told, entry_of_operation, Walk, unborn, holds, without_first, taking, entered_journal, crossing, filter_of, after, walked, Owes, first_number, MayCross, MayStand, AreWoven}
+use Rattle.loom_law.specs.Walk.{Version, Plans, Operation, wait, enters, at, past, post, leave, back, tick, cross, blocked, Step, goes, makes, items, told, entry_of_operation, Walk, unborn, holds, without_first, taking, behind_entry, crossing, filter_of, after, walked, Owes, first_number, MayCross, MayStand, AreWoven}
 use Rattle.loom_law.specs.Part.{Own, led, IsPart, HasMoved}
-use Rattle.loom_law.specs.Control.{Command, Holder, Control, control, first_control, controlled, takes, taken, entries_of, listed}
-use Rattle.loom_law.specs.Lawful.{Setting, Front, front_of, plans, own, HasPart, owes_cross, KeptAway, Parks, IsParked, MayMove, is_held_by, is_installed, front_at, Permits, MayFollow, MayFollowBy}
-use Rattle.loom_law.proofs.Strict.{Stands, IsStrict, StandsBy}
-use Rattle.loom_law.specs.Laws.{IsUnfinished, with_newest, own_with, MayTurn, HasEmptyEnds}
+use Rattle.loom_law.specs.Control.{Holder, Control, control, first_control, taken, entries_of, listed}
+use Rattle.loom_law.specs.Lawful.{Setting, Front, front_of, plans, own, HasPart, owes_cross, StaysAway, Parks, IsParked, MayMove, is_held_by, is_installed, Permits}
+use Rattle.loom_law.proofs.Strict.{Stands, IsStrict}
+use Rattle.loom_law.specs.Laws.{IsUnfinished, own_with, MayTurn, HasEmptyEnds}
 use Rattle.loom_law.proofs.OnePart.{same_op, act_is_no_op, told_append, append_none, same_front, never_empty, same_act}
 use Rattle.loom_law.proofs.Newest.{taking_coming, crossing_coming}
 use Rattle.loom_law.proofs.LastLeaves.{or_rest, and_true, end_holds}
@@ -30,7 +29,7 @@ use Rattle.loom_law.proofs.Holdings.{or_left, or_right}
 use Rattle.loom_law.proofs.Balance.{IsSound, first_sound, sound_along}
 use Rattle.loom_law.proofs.Obedience.{are_said, balance}
 use Rattle.loom_law.proofs.Leaves.{right_leaves}
-use Rattle.loom_law.proofs.Earlier.{append_assoc, targets_append, length_append, entries_append, taken_append, deeds_append, IsOf, act_keeps, replay_append, same_number, by_test, if_false, if_true, entry_thread, items_append, items_ahead, woven_front, first_begins, fewer, to_take, takes_is, is_taking, takings, takings_taken, none_left, an_own}
+use Rattle.loom_law.proofs.Earlier.{append_assoc, deeds_append, IsOf, act_keeps, replay_append, same_number, by_test, if_false, if_true, entry_thread, items_append, items_ahead, woven_front, first_begins, fewer, to_take, takings, takings_taken, an_own}
 use Rattle.loom_law.proofs.Longer.{longer, empty_trace, others_part, mine, newest_taken, own_part, of_itself}
 
 -- Parts behind an entry of a thread
@@ -249,8 +248,8 @@ drop_whole (suc n) (x ∷ xs) ys h = drop_whole n xs ys (omega arith)
 pub walked_coming : (p : Source) (plans : Plans) (t : ℕ) (z : Walk) (ss : List Step) → Walk.coming (walked p plans z ss) ≡ drop (takings (told t ss)) z.coming
 walked_coming p plans t z [] = refl
 walked_coming p plans t z (goes (made l begin) ∷ ss) =
-    walked_coming p plans t (taking (entered_journal z) z.coming) ss
-    ∙ drop_first (takings (told t ss)) z.coming (Walk.coming (taking (entered_journal z) z.coming)) (taking_coming (entered_journal z) z.coming refl)
+    walked_coming p plans t (taking (behind_entry z) z.coming) ss
+    ∙ drop_first (takings (told t ss)) z.coming (Walk.coming (taking (behind_entry z) z.coming)) (taking_coming (behind_entry z) z.coming refl)
 walked_coming p plans t z (makes l (cross x v n) ∷ ss) =
     walked_coming p plans t (crossing p plans z z.coming) ss
     ∙ drop_first (takings (told t ss)) z.coming (Walk.coming (crossing p plans z z.coming)) (crossing_coming p plans z z.coming refl)
@@ -396,12 +395,12 @@ turn_parked : (s : Setting) (es : List Entry) (xs : List Event) (t : ℕ) (x : E
 turn_parked s es xs t x step m self tells None is = tt
 turn_parked s es xs t x step m self tells (Some k) is = (
   (λ some.
-      let away : KeptAway s (own_with s es t m.state x) k = record {
+      let away : StaysAway s (own_with s es t m.state x) k = record {
         steps = m.before;
         moved = moved s.program (plans s) (own_with s es t m.state x) m.part m.before step x m.last tells;
         away = m.away k is some;
       } in
-      subst (Parks s (es ++ x ∷ []) k t) (sym m.there) (subst (λ w. KeptAway s w k) (own_same s es x t m.state self) away)),
+      subst (Parks s (es ++ x ∷ []) k t) (sym m.there) (subst (λ w. StaysAway s w k) (own_same s es x t m.state self) away)),
   (λ b. m.no_begin k is b),
 )
 

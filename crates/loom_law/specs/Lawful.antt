@@ -43,14 +43,17 @@ front_of s es xs = record { entries = es; store = replay (start s.program) xs; c
 abbrev pub front_at : Setting → List Event → List Entry → Front
 front_at s xs es = front_of s es (take (length (targets es)) xs)
 
+-- what the filter of each command is in the program
 abbrev pub plans : Setting → Plans
 plans s = plans_of s.commands
 
 -- Threads
 
+-- what is the thread's own behind these entries
 abbrev pub own : Setting → List Entry → ℕ → ThreadState → Own
 own s es t x = record { thread = t; func = x.func; args = x.args; versions = taken s.commands t es; entries = entries_of t es }
 
+-- its entries are those of a full part; a thread that wasn't spawned has none
 abbrev pub HasPart : Setting → List Entry → ℕ → Option ThreadState → Type 0
 HasPart s es t None = entries_of t es ≡ []
 HasPart s es t (Some x) = IsPart s.program (plans s) (own s es t x)
@@ -68,6 +71,7 @@ StandsAs s es t (Some x) y = ComesTo s.program (plans s) (own s es t x) y
 abbrev pub StandsAt : Setting → Front → ℕ → Place → Type 0
 StandsAt s f t y = StandsAs s f.entries t (running (thread_at f.store t)) y
 
+-- the thread was spawned and hasn't ended
 pub record Lives (s : Store) (t : ℕ) : Type 0 where
   pub state : ThreadState
   pub is : thread_at s t ≡ Some state
@@ -75,16 +79,18 @@ pub record Lives (s : Store) (t : ℕ) : Type 0 where
 
 -- Disabled requests, and threads that can't go on
 
--- the posts that a wait needs
+-- A wait for the event that follows this one lacks posts of it. `k` is the filter, and the pair has the event and its count.
 abbrev pub Lacks : Front → ℕ → Option (ℕ × ℕ) → Type 0
 Lacks f k None = ⊥
 Lacks f k (Some a) = count_by (is_post k a.0) f.entries < a.1
 
+-- another thread holds the clause
 pub record IsHeldByOther (f : Front) (k c t : ℕ) : Type 0 where
   pub by : ℕ
   pub other : (by == t) ≡ false
   pub holds : list_any (λ (h : Holder). (h.filter == k) && ((h.clause == c) && (h.thread == by))) f.control.holders ≡ true
 
+-- what the thread asks for can't be granted now
 abbrev pub IsDisabledFor : Setting → Front → ℕ → What → Type 0
 IsDisabledFor s f t (w.Enter k c) = IsHeldByOther f k c t
 IsDisabledFor s f t (w.Wait k n) = Lacks f k (before_in n (Plan.rulings (plans s k)))
@@ -105,6 +111,7 @@ IsBlockedBy s f t _ = ⊥
 abbrev pub IsBlocked : Setting → Front → ℕ → Type 0
 IsBlocked s f t = IsBlockedBy s f t (last_of_thread t None f.entries)
 
+-- some thread lives, and each that lives is blocked or held off
 pub record IsStalled (s : Setting) (f : Front) : Type 0 where
   pub live : ℕ
   pub lives : Lives f.store live
@@ -112,24 +119,28 @@ pub record IsStalled (s : Setting) (f : Front) : Type 0 where
 
 -- Commands
 
-abbrev pub slot_limit : ℕ
-slot_limit = 16
+-- how many filters may be installed
+abbrev pub filter_limit : ℕ
+filter_limit = 16
 
--- why a command is refused, with the clause: the name first, then the number of filters, then the filter
+-- why a filter's text is refused, with its clause
 abbrev pub judged : Judgement → Option (ℕ × ℕ)
 judged (refused n c) = Some (n, c)
 judged (means f) = None
 
+-- Why a command is refused, tested in this order. For an install: its name is in use (11), as many filters are installed as may be (14), its text. For
+-- a removal: no filter has the name (12). `n` filters are installed.
 abbrev pub refusal_of : Action → Bool → ℕ → Option (ℕ × ℕ)
-refusal_of (install j) taken n = if taken then Some (11, 0) else (if n == slot_limit then Some (14, 0) else judged j)
-refusal_of remove taken n = if taken then None else Some (12, 0)
+refusal_of (install j) used n = if used then Some (11, 0) else (if n == filter_limit then Some (14, 0) else judged j)
+refusal_of remove used n = if used then None else Some (12, 0)
 
-abbrev pub is_taken : Setting → Control → ℕ → Bool
-is_taken s c k = list_any (λ j. have_one_name s.commands j k) c.version.active
+-- an installed filter has the name in the command
+abbrev pub is_name_used : Setting → Control → ℕ → Bool
+is_name_used s c k = list_any (λ j. have_one_name s.commands j k) c.version.active
 
 abbrev pub refusal_in : Setting → Control → ℕ → Option Command → Option (ℕ × ℕ)
 refusal_in s c k None = None
-refusal_in s c k (Some x) = refusal_of x.action (is_taken s c k) (length c.version.active)
+refusal_in s c k (Some x) = refusal_of x.action (is_name_used s c k) (length c.version.active)
 
 abbrev pub refusal : Setting → Control → ℕ → Option (ℕ × ℕ)
 refusal s c k = refusal_in s c k (command_at s.commands k)
@@ -147,6 +158,7 @@ IsFlaggedBy p (Some x) y = by_action x.action
 abbrev pub IsFlagged : Setting → ℕ → Place → Type 0
 IsFlagged s k y = IsFlaggedBy s.program (command_at s.commands k) y
 
+-- so many entries of threads stand, or the program is stalled
 abbrev pub IsTriggered : Setting → Front → Trigger → Type 0
 IsTriggered s f (at n) = n ≤ thread_entries f.entries
 IsTriggered s f stall = IsStalled s f
@@ -182,6 +194,7 @@ pub record Lists (s : Setting) (f : Front) (k : ℕ) (row : List ℕ) : Type 0 w
   pub stands : (t : ℕ) → StandsAt s f t (place t)
   pub flagged : (t : ℕ) → IsFlagged s k (place t)
 
+-- The command that was asked installs this filter: no thread is inside its regions, and no event of it is under way.
 pub record MayInstall (s : Setting) (f : Front) (k v : ℕ) (row : List ℕ) : Type 0 where
   pub command : Command
   pub is : command_at s.commands k ≡ Some command
@@ -193,6 +206,7 @@ pub record MayInstall (s : Setting) (f : Front) (k v : ℕ) (row : List ℕ) : T
   pub lists : Lists s f k row
   pub outside : (t : ℕ) → IsOutside s f.entries t (running (thread_at f.store t)) plan (lists.place t)
 
+-- the command that was asked removes the filter of its name
 pub record MayRemove (s : Setting) (f : Front) (k v : ℕ) (row : List ℕ) : Type 0 where
   pub command : Command
   pub is : command_at s.commands k ≡ Some command
@@ -223,6 +237,7 @@ Ends s f k.Limit = (is_stopped s.stop f.entries ≡ false) × (is_at_limit s.lim
 Ends s f k.Done = (over s f ≡ false) × (AllEnded f.store × (IsDue s f → ⊥))
 Ends s f k.Stuck = (over s f ≡ false) × (IsStalled s f × (IsDue s f → ⊥))
 
+-- the run ends here
 abbrev pub EndsSo : Setting → Front → Type 0
 EndsSo s f = (kind : Ending) × Ends s f kind
 
@@ -243,6 +258,7 @@ abbrev pub is_begin : Entry → Bool
 is_begin (e.Begin t l) = true
 is_begin _ = false
 
+-- places are listed for the thread, and the entry isn't its first
 abbrev pub owes_cross : Entry → List ℕ → Bool
 owes_cross (e.Begin t l) places = false
 owes_cross x [] = false
@@ -250,15 +266,16 @@ owes_cross x (y ∷ ys) = true
 
 -- Between a command that is asked and its answer the thread keeps away from flagged places: it passed none of them since its last entry, and isn't
 -- blocked at one.
-pub record KeptAway (s : Setting) (x : Own) (k : ℕ) : Type 0 where
+pub record StaysAway (s : Setting) (x : Own) (k : ℕ) : Type 0 where
   pub steps : List Step
   pub moved : HasMoved s.program (plans s) x steps
   pub away : KeepsAway (IsFlagged s k) (led s.program (plans s) x steps)
 
 abbrev pub Parks : Setting → List Entry → ℕ → ℕ → Option ThreadState → Type 0
 Parks s es k t None = ⊥
-Parks s es k t (Some x) = KeptAway s (own s es t x) k
+Parks s es k t (Some x) = StaysAway s (own s es t x) k
 
+-- the thread is spawned with this entry
 abbrev pub is_spawn_of : ℕ → Entry → Bool
 is_spawn_of t (e.Spawn u l c g vs) = c == t
 is_spawn_of t _ = false
@@ -267,14 +284,15 @@ abbrev pub has_any : List Entry → Bool
 has_any [] = false
 has_any (x ∷ xs) = true
 
--- From its first entry there on; a thread that is spawned there makes no `Begin`.
+-- Between `Asked` and the answer: so it is from the thread's second entry there on, and a thread that is spawned there makes no `Begin`.
 abbrev pub IsParked : Setting → Front → ℕ → Entry → Option ℕ → Type 0
 IsParked s f t x None = Unit {0}
 IsParked s f t x (Some k) =
     (has_any (entries_of t (since_asked f.entries)) ≡ true → Parks s (f.entries ++ x ∷ []) k t (thread_at f.store t))
     × (is_begin x ≡ true → list_any (is_spawn_of t) (since_asked f.entries) ≡ false)
 
--- Behind the entries of the front the thread may make this one.
+-- Behind the entries of the front the thread may make this one: the run is open, no other thread holds it off, it makes `Cross` exactly where it owes
+-- one, and it keeps away from flagged places.
 pub record MayMove (s : Setting) (f : Front) (t : ℕ) (x : Entry) : Type 0 where
   pub goes_on : IsOpen s f
   pub not_held_off : IsHeldOff s f t → ⊥
@@ -290,6 +308,7 @@ abbrev pub HasPosts : List Entry → ℕ → Option (ℕ × ℕ) → Type 0
 HasPosts es k None = ⊥
 HasPosts es k (Some a) = a.1 ≤ count_by (is_post k a.0) es
 
+-- thread t holds clause n of filter k
 abbrev pub is_held_by : Control → ℕ → ℕ → ℕ → Bool
 is_held_by c k n t = list_any (λ (h : Holder). (h.filter == k) && ((h.clause == n) && (h.thread == t))) c.holders
 
@@ -329,6 +348,7 @@ MayFollow s f x rest = MayFollowBy s f x rest (thread_of x)
 
 -- Filters are obeyed
 
+-- the thread is inside a region of the clause
 abbrev pub IsInsideIf : Setting → List Entry → ℕ → Option ThreadState → ℕ → ℕ → Type 0
 IsInsideIf s es t None k c = ⊥
 IsInsideIf s es t (Some x) k c = IsInside s.program (plans s) (own s es t x) k c

@@ -1,6 +1,6 @@
 -- Laws of full parts and of journals.
-use Rattle.std.specs.Prelude.{ℕ, ◌⊎◌, suc, ◌<◌, ◌≡◌, ◌==◌, ◌&&◌, true, false, List, [], ◌++◌, ◌∷◌, length, take, Some, None, map, Option}
-use Rattle.std.specs.List.{AllByRecursion, list_any}
+use Rattle.std.specs.Prelude.{ℕ, ◌⊎◌, suc, ◌<◌, ◌≡◌, ◌==◌, true, false, List, [], ◌++◌, ◌∷◌, Some, None}
+use Rattle.std.specs.List.{list_any, count_by}
 use Rattle.loom_tree.specs.Tree.{Source}
 use Rattle.loom_trace.specs.declared.entry.Entry.{Entry}
 use Rattle.loom_trace.specs.declared.entry.Entry.TheVariants as e
@@ -8,17 +8,16 @@ use Rattle.loom_trace.specs.declared.entry.Ending.{Ending}
 use Rattle.loom_lang.specs.Places.{Place, nowhere}
 use Rattle.loom_lang.specs.Trace.{end, made}
 use Rattle.loom_command.specs.Filter.{Filter}
-use Rattle.loom_law.specs.Filter.{Plan, before_in, has, plan_of}
-use Rattle.loom_law.specs.Walk.{Version, Plans, Operation, leave, entry_of_operation, Step, goes, makes, holds, unborn, told, filter_of, Owes}
+use Rattle.loom_law.specs.Filter.{Plan, has, plan_of}
+use Rattle.loom_law.specs.Walk.{Version, Plans, Operation, leave, entry_of_operation, Step, goes, makes, holds, told, filter_of, Owes}
 use Rattle.loom_law.specs.Part.{Own, led, IsPart, Point, IsPlaceOf, HasMoved, KeepsAway, IsInside}
 use Rattle.loom_law.specs.View.{IsClear, view_behind}
 use Rattle.loom_law.specs.Paths.{IsUnsafe}
-use Rattle.loom_event.specs.Event.{Event, entry_of, targets}
+use Rattle.loom_event.specs.Event.{Event, entry_of}
 use Rattle.loom_event.specs.Replay.{ThreadState, start, thread_at, replay, IsAllowed, thread_limit}
-use Rattle.loom_event.specs.Run.{AreRun}
 use Rattle.loom_event.specs.Entries.{thread_of, IsFinished}
-use Rattle.loom_law.specs.Control.{Holder, Control, control, taken, entries_of, listed, since_asked}
-use Rattle.loom_law.specs.Lawful.{Setting, Front, front_of, front_at, plans, own, is_held_by, is_installed, HasPart, IsHeldOff, IsFlagged, IsOpen, is_cross, is_begin, owes_cross, is_spawn_of, has_any, Permits, MayFollow, IsObeyed, IsLawful, SeesNothing}
+use Rattle.loom_law.specs.Control.{Holder, Control, control, taken, entries_of, listed, since_asked, is_post, is_past}
+use Rattle.loom_law.specs.Lawful.{Setting, Front, front_of, front_at, plans, own, is_held_by, is_installed, IsHeldOff, IsFlagged, IsOpen, is_cross, is_begin, owes_cross, is_spawn_of, has_any, Permits, MayFollow, IsObeyed, IsLawful, SeesNothing}
 
 -- At each point of a full part a thread holds each clause whose regions it is inside.
 abbrev pub HasHeldRegions : Type 0
@@ -67,6 +66,17 @@ abbrev pub HasBalance : Type 0
 HasBalance = (s : Setting) (front rest : List Entry) → IsLawful s (front ++ rest) → (t : ℕ) (x : ThreadState) (h : IsPart s.program (plans s) (own s front t x)) (k c : ℕ)
     → is_installed (control s.commands front) k ≡ true
     → holds (led s.program (plans s) (own s front t x) h.steps).held k c ≡ is_held_by (control s.commands front) k c t
+
+-- An install begins anew: its filter wasn't installed before, nobody holds a clause of it, and none of its events was posted or complete.
+pub record BeginsAnew (front : List Entry) (c : Control) (k : ℕ) : Type 0 where
+  pub not_installed : is_installed c k ≡ false
+  pub no_holder : (n t : ℕ) → is_held_by c k n t ≡ false
+  pub no_posts : (n : ℕ) → count_by (is_post k n) front ≡ 0
+  pub no_completions : (n : ℕ) → count_by (is_past k n) front ≡ 0
+
+abbrev pub HasNewInstalls : Type 0
+HasNewInstalls = (s : Setting) (es : List Entry) → IsLawful s es → (front : List Entry) (k v : ℕ) (row : List ℕ) (rest : List Entry)
+    → es ≡ front ++ e.Installed k v row ∷ rest → BeginsAnew front (control s.commands front) k
 
 -- At each front of a lawful journal, itself too, at most one thread is inside the regions of a clause of an installed filter.
 abbrev pub HasExclusion : Type 0

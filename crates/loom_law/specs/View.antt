@@ -29,26 +29,29 @@ abbrev pub with_events : List ℕ → List (List ℕ) → List (List ℕ)
 with_events ns [] = []
 with_events ns (ms ∷ mss) = (ns ++ ms) ∷ mss
 
--- these events begin in the top frame, and these are complete
-abbrev pub beginning : Plan → List ℕ → List FrameView → List FrameView
-beginning f ns [] = []
-beginning f ns (x ∷ xs) =
+-- behind the beginning of these events in the top frame
+abbrev pub with_begun : Plan → List ℕ → List FrameView → List FrameView
+with_begun f ns [] = []
+with_begun f ns (x ∷ xs) =
     record { under_way = with_events ns x.under_way; inside = filter (λ r. share (entry_events r) ns) (all_ranges f) ++ x.inside } ∷ xs
 
-abbrev pub completing : List (List ℕ) → FrameView → FrameView
-completing [] x = x
-completing (ns ∷ nss) x = record { under_way = nss; inside = filter (λ r. not (share (exit_events r) ns)) x.inside }
+-- behind the completion of the events of the innermost statement
+abbrev pub with_complete : List (List ℕ) → FrameView → FrameView
+with_complete [] x = x
+with_complete (ns ∷ nss) x = record { under_way = nss; inside = filter (λ r. not (share (exit_events r) ns)) x.inside }
 
-abbrev pub complete : List FrameView → List FrameView
-complete [] = []
-complete (x ∷ xs) = completing x.under_way x ∷ xs
+abbrev pub with_all_complete : List FrameView → List FrameView
+with_all_complete [] = []
+with_all_complete (x ∷ xs) = with_complete x.under_way x ∷ xs
 
+-- where all is made that is owed
 abbrev pub settled : Plan → View → View
-settled f w = record { frames = beginning f w.here w.frames; leaving = []; here = [] }
+settled f w = record { frames = with_begun f w.here w.frames; leaving = []; here = [] }
 
-abbrev pub opening : List FrameView → List FrameView
-opening [] = []
-opening (x ∷ xs) = record x { under_way = [] ∷ x.under_way } ∷ xs
+-- behind the beginning of a statement
+abbrev pub with_statement : List FrameView → List FrameView
+with_statement [] = []
+with_statement (x ∷ xs) = record x { under_way = [] ∷ x.under_way } ∷ xs
 
 abbrev pub first_frame : List FrameView → List FrameView
 first_frame [] = []
@@ -68,8 +71,8 @@ abbrev pub seen_item : Plan → Walk → View → Item → View
 seen_item f z w (made l (trap c)) = nothing_seen
 seen_item f z w (made l end) = nothing_seen
 seen_item f z w (made l a) = w
-seen_item f z w (begins l env) = record w { frames = opening w.frames; here = matching f (statement l) env }
-seen_item f z w (done l) = record w { frames = complete w.frames }
+seen_item f z w (begins l env) = record w { frames = with_statement w.frames; here = matching f (statement l) env }
+seen_item f z w (done l) = record w { frames = with_all_complete w.frames }
 seen_item f z w (edge l) = w
 seen_item f z w (enter g env) = record w { frames = record { under_way = [] ∷ []; inside = [] } ∷ w.frames; here = matching f (function (Some g)) env }
 -- the frame stays open until its `Back`, where it owes one

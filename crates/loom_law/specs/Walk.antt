@@ -272,13 +272,13 @@ taking z [] = z
 taking z (v ∷ vs) = record z { coming = vs; active = v.active }
 
 -- behind an entry of its own
-abbrev pub entered_journal : Walk → Walk
-entered_journal z = record z { passed = []; is_blocked = false; spot = elsewhere }
+abbrev pub behind_entry : Walk → Walk
+behind_entry z = record z { passed = []; is_blocked = false; spot = elsewhere }
 
 abbrev pub after_item : Source → Plans → Walk → Item → Walk
-after_item p plans z (made l begin) = taking (entered_journal z) z.coming
+after_item p plans z (made l begin) = taking (behind_entry z) z.coming
 after_item p plans z (made l (trap c)) = record z { frames = []; spot = trapped l; owed = owed_trap plans z.held l z.active; passed = []; is_blocked = false }
-after_item p plans z (made l a) = entered_journal z
+after_item p plans z (made l a) = behind_entry z
 after_item p plans z (begins l env) =
     record z { frames = in_frame (opened l) z.frames; spot = beginning l env; owed = owed_at plans z.held l (statement l) env z.active }
 after_item p plans z (done l) =

@@ -1,5 +1,5 @@
 //! Laws of full parts and of lawful journals, each the contract of a function that does nothing. Their statements stand in `specs/Laws.antt`.
-ghost use Rattle.loom_law.specs.Laws.{HasHeldRegions, HasOnePart, HasOneMove, HasOneMade, HasBalance, IsAlwaysBalanced, HasExclusion, IsAlwaysObeyed, HasNewest, HasOwedActive, HasOwedInstalled, HasHeldLeaves, HasRightLeaves, HasFronts, HasEmptyEnds, HasBeginning, HasEventTurns, HasOperationTurns, HasControlTurns, HasSoundPlaces, IsOutsideWhereFlagged};
+ghost use Rattle.loom_law.specs.Laws.{HasHeldRegions, HasOnePart, HasOneMove, HasOneMade, HasBalance, IsAlwaysBalanced, HasNewInstalls, HasExclusion, IsAlwaysObeyed, HasNewest, HasOwedActive, HasOwedInstalled, HasHeldLeaves, HasRightLeaves, HasFronts, HasEmptyEnds, HasBeginning, HasEventTurns, HasOperationTurns, HasControlTurns, HasSoundPlaces, IsOutsideWhereFlagged};
 
 /// At each point of its full part a thread holds each clause whose regions it is inside.
 pub fn held_regions()
@@ -30,6 +30,11 @@ pub fn balance()
 /// thread that ends holds nothing.
 pub fn always_balanced()
     ensures { IsAlwaysBalanced }
+{}
+
+/// An install begins anew: nobody holds a clause of its filter, and none of its events was posted or complete before.
+pub fn new_installs()
+    ensures { HasNewInstalls }
 {}
 
 /// At each front of a lawful journal at most one thread is inside the regions of a clause of an installed filter.

@@ -1,4 +1,5 @@
 //! Laws of full parts and of lawful journals, each the contract of a function that does nothing. Their statements stand in `specs/Laws.antt`.
+ghost use Rattle.loom_law.specs.Promises.{AlwaysPromises};
 ghost use Rattle.loom_law.specs.Laws.{HasHeldRegions, HasOnePart, HasOneMove, HasOneMade, HasBalance, IsAlwaysBalanced, HasNewInstalls, HasExclusion, IsAlwaysObeyed, HasNewest, HasOwedActive, HasOwedInstalled, HasHeldLeaves, HasRightLeaves, HasFronts, HasEmptyEnds, HasBeginning, HasEventTurns, HasOperationTurns, HasControlTurns, HasSoundPlaces, IsOutsideWhereFlagged};
 
 /// At each point of its full part a thread holds each clause whose regions it is inside.
@@ -117,4 +118,10 @@ pub fn outside_where_flagged()
 /// A place has one number.
 pub fn one_number()
     ensures { HasOneNumber }
+{}
+
+/// Each lawful journal keeps what is promised to an operator: it is a run of the program, filters are obeyed, nobody is inside at an
+/// installation, locks balance, and what is refused changes nothing.
+pub fn always_promises()
+    ensures { AlwaysPromises }
 {}

@@ -16,7 +16,7 @@ use Rattle.loom_event.specs.Answer.{granted, trapped}
 use Rattle.loom_event.specs.Event.{Event, entry_by, targets}
 use Rattle.loom_event.specs.Entries.{thread_of, is_thread}
 use Rattle.loom_event.specs.Replay.{ThreadState, Store, start, thread_at, replay, IsAllowed}
-use Rattle.loom_law.specs.Walk.{Version, Plans, Operation, wait, enters, at, past, post, leave, back, tick, cross, blocked, Queue, Step, goes, makes, items, told, entry_of_operation, Walk, unborn, entered_journal, crossing, after, walked, request_place, place_of_item, place_of_next, Acts, AsksFor, MayCross, MayBlock, MayStand, AreWoven}
+use Rattle.loom_law.specs.Walk.{Version, Plans, Operation, wait, enters, at, past, post, leave, back, tick, cross, blocked, Queue, Step, goes, makes, items, told, entry_of_operation, Walk, unborn, behind_entry, crossing, after, walked, request_place, place_of_item, place_of_next, Acts, AsksFor, MayCross, MayBlock, MayStand, AreWoven}
 use Rattle.loom_law.specs.Part.{Own, led, IsPart, KeepsAway, AsksToAct, GoesOn}
 use Rattle.loom_law.specs.Control.{Control, control, taken, entries_of}
 use Rattle.loom_law.specs.Lawful.{Setting, Front, front_of, plans, own, IsFlagged, is_begin, is_cross, owes_cross, IsLawful, MayFollow, Permits}
@@ -66,7 +66,7 @@ more : (p : Source) (plans : Plans) (z : Walk) (vs us : List Version) (ss : List
 more p plans z vs us [] ahead h = (tt, refl)
 more p plans z [] us (goes (made l begin) ∷ ss) ahead h = absurd h.0.1
 more p plans z (v ∷ vs) us (goes (made l begin) ∷ ss) ahead h =
-    let ih = more p plans (record (entered_journal z) { active = v.active }) vs us ss ahead h.1 in (((h.0.0, tt), ih.0), ih.1)
+    let ih = more p plans (record (behind_entry z) { active = v.active }) vs us ss ahead h.1 in (((h.0.0, tt), ih.0), ih.1)
 more p plans z vs us (goes (made l end) ∷ ss) ahead h =
     let ih = more p plans (after p plans z (goes (made l end))) vs us ss ahead h.1 in ((h.0, ih.0), ih.1)
 more p plans z vs us (goes (made l (trap c)) ∷ ss) ahead h =

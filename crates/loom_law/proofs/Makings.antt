@@ -11,10 +11,10 @@ use Rattle.loom_lang.specs.Trace.{Act, begin, end, trap, read, write, lock, unlo
 use Rattle.loom_lang.specs.Acts.{Deed}
 use Rattle.loom_event.specs.Answer.{granted}
 use Rattle.loom_event.specs.Replay.{ThreadState}
-use Rattle.loom_law.specs.Walk.{Version, Plans, Operation, wait, enters, at, past, post, leave, back, tick, cross, blocked, Queue, Step, goes, makes, items, told, entry_of_operation, Walk, unborn, entered_journal, taking, crossing, after, walked, first_number, Acts, AsksFor, MayCross, AreWoven}
+use Rattle.loom_law.specs.Walk.{Version, Plans, Operation, wait, enters, at, past, post, leave, back, tick, cross, blocked, Queue, Step, goes, makes, items, told, entry_of_operation, Walk, unborn, behind_entry, taking, crossing, after, walked, first_number, Acts, AsksFor, MayCross, AreWoven}
 use Rattle.loom_law.specs.Part.{Own, led, IsPart, HasMoved, KeepsAway, AsksToMake, AsksToAct}
 use Rattle.loom_law.specs.Control.{Control, control, entries_of}
-use Rattle.loom_law.specs.Lawful.{Setting, plans, own, IsFlagged, is_begin, KeptAway, IsLawful}
+use Rattle.loom_law.specs.Lawful.{Setting, plans, own, IsFlagged, is_begin, StaysAway, IsLawful}
 use Rattle.loom_law.specs.Laws.{own_with}
 use Rattle.loom_law.specs.TurnLaws.{AsksToDo, MayMake, HasMakingTurns, is_blocked_entry, blocked_behind, ends_blocked, request_of, HasBlocks}
 use Rattle.loom_law.proofs.OnePart.{told_append, one_move}
@@ -96,7 +96,7 @@ making_turns s es h open_ t l o m =
       not_held_off = m.not_held_off;
       crosses = m.crosses;
       away = λ k is some.
-          let away : KeptAway s x k = m.away k is some in
+          let away : StaysAway s x k = m.away k is some in
           subst (λ ss. KeepsAway (IsFlagged s k) (led s.program (plans s) x ss)) (one_move s.program (plans s) x away.steps c.before away.moved before) away.away;
       no_begin = λ k is b. let no : false ≡ true = sym (op_no_begin t l o) ∙ b in cc;
       permits = m.permits;
@@ -116,8 +116,8 @@ pub walked_blocked : (p : Source) (plans : Plans) (t : ℕ) (z : Walk) (ss : Lis
     → Walk.is_blocked (walked p plans z ss) ≡ blocked_behind z.is_blocked (told t ss)
 walked_blocked p plans t z [] ahead h = refl
 walked_blocked p plans t z (goes (made l begin) ∷ ss) ahead h =
-    walked_blocked p plans t (taking (entered_journal z) z.coming) ss ahead h.1
-    ∙ ap (λ b. blocked_behind b (told t ss)) (taking_blocked (entered_journal z) z.coming)
+    walked_blocked p plans t (taking (behind_entry z) z.coming) ss ahead h.1
+    ∙ ap (λ b. blocked_behind b (told t ss)) (taking_blocked (behind_entry z) z.coming)
 walked_blocked p plans t z (makes l (cross x v n) ∷ ss) ahead h =
     let c : MayCross p z (items ss ++ ahead) l x v n = h.0 in
     walked_blocked p plans t (crossing p plans z z.coming) ss ahead h.1

@@ -17,7 +17,7 @@ use Rattle.loom_law.specs.Walk.{Plans, Operation, cross, blocked, goes, makes, e
 use Rattle.loom_law.specs.Walk as walk
 use Rattle.loom_law.specs.Part.{Own, led, KeepsAway, AsksToMake, AsksToCross, AsksToAct}
 use Rattle.loom_law.specs.Control.{Control, control, listed, since_asked, entries_of}
-use Rattle.loom_law.specs.Lawful.{Setting, front_of, plans, own, IsFlagged, IsHeldOff, IsOpen, is_cross, owes_cross, is_begin, is_spawn_of, has_any, KeptAway, Permits, IsLawful}
+use Rattle.loom_law.specs.Lawful.{Setting, front_of, plans, own, IsFlagged, IsHeldOff, IsOpen, is_cross, owes_cross, is_begin, is_spawn_of, has_any, StaysAway, Permits, IsLawful}
 use Rattle.loom_law.specs.Laws.{IsUnfinished, own_with, MayTurn}
 
 -- The deed grants the request, with some value, or it is the trap that may stand in its place.
@@ -69,7 +69,7 @@ pub record MayMake (s : Setting) (es : List Entry) (xs : List Event) (t l : ℕ)
   pub not_held_off : IsHeldOff s (front_of s es xs) t → ⊥
   pub crosses : is_cross (entry_of_operation t l o) ≡ owes_cross (entry_of_operation t l o) (listed t es)
   pub away : (k : ℕ) → Control.asked (control s.commands es) ≡ Some k → has_any (entries_of t (since_asked es)) ≡ true
-      → KeptAway s (own_with s es t state (entry_of_operation t l o)) k
+      → StaysAway s (own_with s es t state (entry_of_operation t l o)) k
   pub permits : Permits s (front_of s es xs) (entry_of_operation t l o)
 
 -- So the journal with the operation is lawful. (Shown.)

@@ -6,3 +6,4 @@ pub mod CallFacts
 pub mod SeatFacts
 pub mod GateLogs
 pub mod GateLaws
+pub mod Trials

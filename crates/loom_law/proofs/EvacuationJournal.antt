@@ -1,5 +1,5 @@
 -- A filter is installed while a thread is inside: it is let out of the callee first, and takes the filter at the loop's back edge.
-use Rattle.std.proofs.Common.{ℕ, zero, suc, ◌<◌, ◌≡◌, ◌==◌, ◌⊎◌, inl, inr, Bool, true, false, ◌||◌, pos, List, [], ◌∷◌, ◌++◌, length, take, Option, Some, None, slice_get, slice_index_or, refl, sym, ap, subst, ◌∙◌, codes, arith}
+use Rattle.std.proofs.Common.{ℕ, zero, suc, ◌<◌, ◌≡◌, ◌==◌, ◌⊎◌, inl, inr, Bool, true, false, ◌||◌, pos, List, [], ◌∷◌, length, take, Some, None, slice_get, slice_index_or, refl, sym, ap, subst, ◌∙◌, codes, arith}
 use Rattle.std.specs.List.{Contains}
 use Rattle.loom_tree.specs.declared.expression.Op.TheVariants as o
 use Rattle.loom_tree.specs.Tree.{num, var, bin, Right, Simple, let_, set, Body, simple, while_, Function, Source}
@@ -30,7 +30,7 @@ use Rattle.loom_law.specs.Lawful.{Setting, HasPart, StandsAt, running, IsOutside
 use Rattle.loom_law.proofs.Earlier.{same_number}
 use Rattle.loom_law.proofs.Sites.{outside_where_flagged}
 use Rattle.loom_law.proofs.Fronts.{Each, behind, each_one, FollowsBehind, nothing_made}
-use Rattle.loom_law.proofs.Journals.{not_due, moves}
+use Rattle.loom_law.proofs.Journals.{AllOf, each, not_due, moves}
 
 -- 1   shared x;
 -- 2   fn step() {
@@ -86,18 +86,6 @@ evacuation_commands = record { trigger = script.at 2; name = codes "f"; action =
 
 abbrev turn : Place
 turn = place.back_edge 7
-
-abbrev AllOf : {A : Type 0} → (A → Type 0) → List A → Type 0
-AllOf P [] = Unit {0}
-AllOf P (x ∷ xs) = P x × AllOf P xs
-
-each : {A : Type 0} (P : A → Type 0) (xs : List A) → AllOf P xs → (x : A) → Contains xs x → P x
-each {A = A} P xs h x c = by_index xs h c.0 c.1 c.2
-  where
-    by_index : (ys : List A) → AllOf P ys → (n : ℕ) → n < length ys → slice_index_or ys n x ≡ x → P x
-    by_index [] h n b e = let no : ⊥ = omega arith in absurd no
-    by_index (y ∷ ys) h zero b e = subst P e h.0
-    by_index (y ∷ ys) h (suc n) b e = by_index ys h.1 n (omega arith) e
 
 abbrev other : Place → Type 0
 other y = y ≡ turn → ⊥
@@ -399,35 +387,35 @@ evacuation_installs = record {
 
 evacuation_reads : StaysAway evacuation_setting (own evacuation_setting (e.Begin 1 5 ∷ e.Read 1 3 0 (pos 0) ∷ e.Asked 1 ∷ e.Write 1 3 0 (pos 1) ∷ e.Read 1 9 0 (pos 1) ∷ []) 1 inside_main) 1
 evacuation_reads = record {
-    steps = goes (made 5 begin) ∷ goes (enter 1 ((codes "i", pos 0) ∷ [])) ∷ goes (begins 6 ((codes "i", pos 0) ∷ [])) ∷ goes (done 6) ∷ goes (begins 7 ((codes "i", pos 0) ∷ [])) ∷ goes (begins 8 ((codes "i", pos 0) ∷ [])) ∷ goes (enter 0 []) ∷ goes (begins 3 []) ∷ goes (made 3 (read 0 (pos 0))) ∷ goes (made 3 (write 0 (pos 1))) ∷ goes (done 3) ∷ goes (out 0) ∷ goes (done 8) ∷ goes (begins 9 ((codes "i", pos 0) ∷ [])) ∷ [];
-    moved = record {
-      last = goes (made 9 (read 0 (pos 1)));
-      ahead = [];
-      outcome = Open;
-      trace = record { most_turns = 3; gives = next (next (next (next (next (next (next (next (given (pos 0) (next (next (next (next (next (next (given (pos 1) (next (inl (refl, refl)))))))))))))))))) };
-      woven = ((refl, tt), (refl, (refl, (refl, (refl, (refl, (refl, (refl, (refl, (refl, (refl, (refl, (refl, (refl, (refl, tt)))))))))))))));
-      entry = _;
-      is = refl;
-      tells = refl;
-    };
-    away = record { passed = tt; stood = λ g. let no : false ≡ true = g in cc };
-  }
+  steps = goes (made 5 begin) ∷ goes (enter 1 ((codes "i", pos 0) ∷ [])) ∷ goes (begins 6 ((codes "i", pos 0) ∷ [])) ∷ goes (done 6) ∷ goes (begins 7 ((codes "i", pos 0) ∷ [])) ∷ goes (begins 8 ((codes "i", pos 0) ∷ [])) ∷ goes (enter 0 []) ∷ goes (begins 3 []) ∷ goes (made 3 (read 0 (pos 0))) ∷ goes (made 3 (write 0 (pos 1))) ∷ goes (done 3) ∷ goes (out 0) ∷ goes (done 8) ∷ goes (begins 9 ((codes "i", pos 0) ∷ [])) ∷ [];
+  moved = record {
+    last = goes (made 9 (read 0 (pos 1)));
+    ahead = [];
+    outcome = Open;
+    trace = record { most_turns = 3; gives = next (next (next (next (next (next (next (next (given (pos 0) (next (next (next (next (next (next (given (pos 1) (next (inl (refl, refl)))))))))))))))))) };
+    woven = ((refl, tt), (refl, (refl, (refl, (refl, (refl, (refl, (refl, (refl, (refl, (refl, (refl, (refl, (refl, (refl, tt)))))))))))))));
+    entry = _;
+    is = refl;
+    tells = refl;
+  };
+  away = record { passed = tt; stood = λ g. let no : false ≡ true = g in cc };
+}
 
 evacuation_writes : StaysAway evacuation_setting (own evacuation_setting (e.Begin 1 5 ∷ e.Read 1 3 0 (pos 0) ∷ e.Asked 1 ∷ e.Write 1 3 0 (pos 1) ∷ e.Read 1 9 0 (pos 1) ∷ e.Write 1 9 0 (pos 2) ∷ []) 1 inside_main) 1
 evacuation_writes = record {
-    steps = goes (made 5 begin) ∷ goes (enter 1 ((codes "i", pos 0) ∷ [])) ∷ goes (begins 6 ((codes "i", pos 0) ∷ [])) ∷ goes (done 6) ∷ goes (begins 7 ((codes "i", pos 0) ∷ [])) ∷ goes (begins 8 ((codes "i", pos 0) ∷ [])) ∷ goes (enter 0 []) ∷ goes (begins 3 []) ∷ goes (made 3 (read 0 (pos 0))) ∷ goes (made 3 (write 0 (pos 1))) ∷ goes (done 3) ∷ goes (out 0) ∷ goes (done 8) ∷ goes (begins 9 ((codes "i", pos 0) ∷ [])) ∷ goes (made 9 (read 0 (pos 1))) ∷ [];
-    moved = record {
-      last = goes (made 9 (write 0 (pos 2)));
-      ahead = [];
-      outcome = Open;
-      trace = record { most_turns = 3; gives = next (next (next (next (next (next (next (next (given (pos 0) (next (next (next (next (next (next (given (pos 1) (next (next (inl (refl, refl))))))))))))))))))) };
-      woven = ((refl, tt), (refl, (refl, (refl, (refl, (refl, (refl, (refl, (refl, (refl, (refl, (refl, (refl, (refl, (refl, (refl, tt))))))))))))))));
-      entry = _;
-      is = refl;
-      tells = refl;
-    };
-    away = record { passed = tt; stood = λ g. let no : false ≡ true = g in cc };
-  }
+  steps = goes (made 5 begin) ∷ goes (enter 1 ((codes "i", pos 0) ∷ [])) ∷ goes (begins 6 ((codes "i", pos 0) ∷ [])) ∷ goes (done 6) ∷ goes (begins 7 ((codes "i", pos 0) ∷ [])) ∷ goes (begins 8 ((codes "i", pos 0) ∷ [])) ∷ goes (enter 0 []) ∷ goes (begins 3 []) ∷ goes (made 3 (read 0 (pos 0))) ∷ goes (made 3 (write 0 (pos 1))) ∷ goes (done 3) ∷ goes (out 0) ∷ goes (done 8) ∷ goes (begins 9 ((codes "i", pos 0) ∷ [])) ∷ goes (made 9 (read 0 (pos 1))) ∷ [];
+  moved = record {
+    last = goes (made 9 (write 0 (pos 2)));
+    ahead = [];
+    outcome = Open;
+    trace = record { most_turns = 3; gives = next (next (next (next (next (next (next (next (given (pos 0) (next (next (next (next (next (next (given (pos 1) (next (next (inl (refl, refl))))))))))))))))))) };
+    woven = ((refl, tt), (refl, (refl, (refl, (refl, (refl, (refl, (refl, (refl, (refl, (refl, (refl, (refl, (refl, (refl, (refl, tt))))))))))))))));
+    entry = _;
+    is = refl;
+    tells = refl;
+  };
+  away = record { passed = tt; stood = λ g. let no : false ≡ true = g in cc };
+}
 
 abbrev evacuation_steps_1 : List Step
 evacuation_steps_1 =

@@ -1,12 +1,12 @@
 -- Lawful journals of runs with regions from which all others are kept away, whole.
-use Rattle.std.proofs.Common.{ℕ, Bool, true, false, ◌≡◌, ◌++◌, zero, suc, inl, inr, pos, List, [], ◌∷◌, Some, None, refl, codes, arith}
+use Rattle.std.proofs.Common.{ℕ, true, ◌≡◌, zero, suc, inl, inr, pos, List, [], ◌∷◌, Some, None, refl, codes, arith}
 use Rattle.loom_tree.specs.Tree.{num, var, Right, let_, set, return, simple, Source}
 use Rattle.loom_tree.specs.Tree as tree
 use Rattle.loom_trace.specs.declared.entry.Entry.{Entry}
 use Rattle.loom_trace.specs.declared.entry.Entry.TheVariants as e
 use Rattle.loom_trace.specs.declared.entry.Ending.TheVariants as k
 use Rattle.loom_lang.specs.Places.{nowhere}
-use Rattle.loom_lang.specs.Trace.{begin, end, read, write, spawn, join, print, made, begins, done, enter, out, Finished, Open, IsTrace}
+use Rattle.loom_lang.specs.Trace.{begin, end, read, write, spawn, join, print, made, begins, done, enter, out, Finished, IsTrace}
 use Rattle.loom_command.specs.Filter.{Region, Clause, Filter}
 use Rattle.loom_command.specs.Script as script
 use Rattle.loom_event.specs.Event.{Event}

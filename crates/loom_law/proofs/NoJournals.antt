@@ -1,19 +1,19 @@
 -- Journals that are not lawful: each is a lawful one with one thing turned.
-use Rattle.std.proofs.Common.{ℕ, zero, suc, ◌≤◌, ◌<◌, ◌≡◌, ◌⊎◌, Bool, true, false, pos, List, [], ◌∷◌, map, Option, Some, None, refl, ap, subst, inl, inr, codes, arith}
+use Rattle.std.proofs.Common.{ℕ, zero, suc, ◌≤◌, ◌<◌, ◌≡◌, ◌⊎◌, true, false, pos, List, [], ◌∷◌, map, Some, None, refl, ap, subst, inl, codes, arith}
 use Rattle.loom_trace.specs.declared.entry.Entry.{Entry}
 use Rattle.loom_trace.specs.declared.entry.Entry.TheVariants as e
 use Rattle.loom_trace.specs.declared.entry.What.TheVariants as w
 use Rattle.loom_trace.specs.declared.entry.Ending.{Ending}
 use Rattle.loom_trace.specs.declared.entry.Ending.TheVariants as k
-use Rattle.loom_lang.specs.Trace.{begin, lock, spawn}
+use Rattle.loom_lang.specs.Trace.{begin, lock}
 use Rattle.loom_command.specs.Script as script
 use Rattle.loom_event.specs.Event.{Event}
 use Rattle.loom_event.specs.Replay.{start, replay}
 use Rattle.loom_event.proofs.Runs.{event_of, events_told}
-use Rattle.loom_event.proofs.Shown.{event, adds, locks}
+use Rattle.loom_event.proofs.Shown.{event, locks}
 use Rattle.loom_event.proofs.Stops as stops
 use Rattle.loom_law.specs.Control.{remove}
-use Rattle.loom_law.specs.Lawful.{Setting, Front, Lives, IsBlocked, IsHeldOff, IsDue, Ends, EndsSo, front_at, IsLawful}
+use Rattle.loom_law.specs.Lawful.{Setting, Lives, IsBlocked, IsHeldOff, IsDue, Ends, EndsSo, front_at, IsLawful}
 use Rattle.loom_law.proofs.Lawful.{always_balanced}
 use Rattle.loom_law.proofs.Shown.{setting}
 use Rattle.loom_law.proofs.InsideJournals.{alone_setting, back_setting}

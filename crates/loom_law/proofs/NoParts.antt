@@ -1,5 +1,5 @@
 -- Journals that are not lawful, since a thread does something else than it owes, or doesn't keep away from flagged places.
-use Rattle.std.proofs.Common.{ℕ, zero, suc, ◌<◌, ◌≡◌, ◌==◌, ◌⊎◌, inl, inr, Bool, true, false, pos, List, [], ◌∷◌, ◌++◌, ℤ, map, Option, Some, None, slice_get, refl, sym, ap, subst, ◌∙◌, codes, arith}
+use Rattle.std.proofs.Common.{ℕ, zero, suc, ◌≡◌, ◌⊎◌, inl, inr, true, false, pos, List, [], ◌∷◌, ◌++◌, map, Some, None, slice_get, refl, sym, ap, subst, ◌∙◌, codes, arith}
 use Rattle.loom_tree.specs.Tree.{Source, num, var, bin, Right, set, simple}
 use Rattle.loom_tree.specs.Tree as tree
 use Rattle.loom_tree.specs.declared.expression.Op.TheVariants as o
@@ -10,21 +10,20 @@ use Rattle.loom_trace.specs.declared.entry.What.TheVariants as w
 use Rattle.loom_trace.specs.declared.entry.Ending.TheVariants as k
 use Rattle.loom_lang.specs.Places.{Place, nowhere, places}
 use Rattle.loom_lang.specs.Places as place
-use Rattle.loom_lang.specs.Trace.{begin, read, write, up, down, spawn, print, made, begins, done, enter, Open, IsTrace}
+use Rattle.loom_lang.specs.Trace.{begin, read, write, up, down, spawn, print, made, begins, done, enter, Open}
 use Rattle.loom_command.specs.Filter.{Region, Clause}
 use Rattle.loom_command.specs.Script as script
 use Rattle.loom_event.specs.Event.{Event}
 use Rattle.loom_event.specs.Replay.{start, thread_at, replay}
 use Rattle.loom_event.proofs.Runs.{next, given, event_of, events_told}
 use Rattle.loom_event.proofs.Shown.{event, adds}
-use Rattle.loom_event.proofs.Stops as stops
 use Rattle.loom_law.specs.Filter.{Plan, plan_of}
-use Rattle.loom_law.specs.Walk.{Version, Plans, Operation, past, leave, blocked, Step, goes, makes, items, told, entry_of_operation, Walk, unborn, is_same_place, position_of, place_number, request_place, walked, MayBlock, AreWoven}
+use Rattle.loom_law.specs.Walk.{Plans, past, leave, blocked, Step, goes, makes, items, told, Walk, unborn, is_same_place, position_of, place_number, request_place, walked, MayBlock, AreWoven}
 use Rattle.loom_law.specs.Part.{Own, led, IsPart, Point, HasMoved, KeepsAway, AsksToMake}
 use Rattle.loom_law.specs.Paths.{IsUnsafe}
 use Rattle.loom_law.specs.View.{IsClear, view_behind}
 use Rattle.loom_law.specs.Control.{means, install, remove, Command}
-use Rattle.loom_law.specs.Lawful.{Setting, Front, plans, own, running, IsOutside, SeesNothing, MayInstall, HasPart, IsFlagged, StaysAway, Parks, IsHeldOff, front_at, IsLawful}
+use Rattle.loom_law.specs.Lawful.{Setting, Front, plans, running, IsOutside, SeesNothing, MayInstall, HasPart, IsFlagged, StaysAway, Parks, front_at, IsLawful}
 use Rattle.loom_law.specs.TurnLaws.{blocked_behind, ends_blocked}
 use Rattle.loom_law.proofs.OnePart.{told_append, same_front, one_move}
 use Rattle.loom_law.proofs.Earlier.{an_own, part_front, woven_front, same_number, by_test, if_true, if_false}

@@ -1,7 +1,6 @@
 -- What a thread asks for next is one.
-use Rattle.std.proofs.Common.{ℕ, ◌≡◌, ◌⊎◌, inl, inr, Bool, true, false, List, [], ◌∷◌, ◌++◌, refl, sym, ap, subst, ◌∙◌}
+use Rattle.std.proofs.Common.{ℕ, ◌≡◌, ◌⊎◌, inl, inr, true, List, [], ◌∷◌, ◌++◌, refl, sym, ap, subst, ◌∙◌}
 use Rattle.loom_tree.specs.Tree.{Source}
-use Rattle.loom_trace.specs.declared.entry.Entry.{Entry}
 use Rattle.loom_trace.specs.declared.request.Request.{Request}
 use Rattle.loom_lang.specs.Trace.{Act, Item, made, begins, done, edge, enter, out, Outcome, Open, IsTrace}
 use Rattle.loom_lang.specs.Acts.{Deed}

@@ -1,6 +1,6 @@
 -- A filter is removed while one thread is inside and one is blocked: the journal is lawful as a whole.
 
-use Rattle.std.proofs.Common.{ℕ, Bool, true, false, ◌≡◌, ◌++◌, zero, suc, inl, inr, pos, List, [], ◌∷◌, Some, None, refl, codes, arith}
+use Rattle.std.proofs.Common.{ℕ, true, false, ◌≡◌, zero, suc, inl, inr, pos, List, [], ◌∷◌, Some, None, refl, codes, arith}
 use Rattle.loom_tree.specs.Tree.{num, var, Right, Simple, let_, simple, Source}
 use Rattle.loom_tree.specs.Tree as tree
 use Rattle.loom_trace.specs.declared.entry.Entry.{Entry}
@@ -9,7 +9,7 @@ use Rattle.loom_trace.specs.declared.entry.What.TheVariants as w
 use Rattle.loom_trace.specs.declared.entry.Ending.TheVariants as k
 use Rattle.loom_lang.specs.Places.{Place, nowhere}
 use Rattle.loom_lang.specs.Places as place
-use Rattle.loom_lang.specs.Trace.{begin, end, down, up, spawn, join, print, made, begins, done, enter, out, Finished, Open, IsTrace}
+use Rattle.loom_lang.specs.Trace.{begin, end, down, up, spawn, join, print, made, begins, done, enter, out, Finished, IsTrace}
 use Rattle.loom_command.specs.Filter.{Region, Clause}
 use Rattle.loom_command.specs.Script as script
 use Rattle.loom_event.specs.Event.{Event}

@@ -1,5 +1,5 @@
 -- A command stalls: the thread that is parked holds the mutex for which the other parks.
-use Rattle.std.proofs.Common.{ℕ, zero, suc, ◌<◌, ◌≡◌, ◌==◌, ◌⊎◌, inl, inr, Bool, true, false, ◌||◌, pos, List, [], ◌∷◌, ◌++◌, length, take, Option, Some, None, slice_get, slice_index_or, refl, sym, ap, subst, ◌∙◌, codes, arith}
+use Rattle.std.proofs.Common.{ℕ, zero, suc, ◌<◌, ◌≡◌, ◌==◌, ◌⊎◌, inl, inr, Bool, true, false, ◌||◌, pos, List, [], ◌∷◌, length, take, Some, None, slice_get, slice_index_or, refl, sym, ap, subst, ◌∙◌, codes, arith}
 use Rattle.std.specs.List.{Contains}
 use Rattle.loom_tree.specs.Tree.{num, var, Right, let_, set, Body, simple, Function, Source}
 use Rattle.loom_tree.specs.Tree as tree
@@ -9,7 +9,7 @@ use Rattle.loom_trace.specs.declared.entry.What.TheVariants as w
 use Rattle.loom_trace.specs.declared.entry.Ending.TheVariants as k
 use Rattle.loom_lang.specs.Places.{Place, nowhere, body_places}
 use Rattle.loom_lang.specs.Places as place
-use Rattle.loom_lang.specs.Trace.{begin, end, write, lock, unlock, spawn, join, print, made, begins, done, enter, out, Finished, Open, IsTrace}
+use Rattle.loom_lang.specs.Trace.{begin, end, write, lock, unlock, spawn, join, print, made, begins, done, enter, out, Finished, IsTrace}
 use Rattle.loom_command.specs.Filter.{LineEvent, Region, Clause, Filter}
 use Rattle.loom_command.specs.Script as script
 use Rattle.loom_event.specs.Event.{Event}
@@ -25,10 +25,8 @@ use Rattle.loom_law.specs.Paths.{Node, leaves, complete, turns, links_of, statem
 use Rattle.loom_law.specs.Paths as paths
 use Rattle.loom_law.specs.Control.{means, install, Command}
 use Rattle.loom_law.specs.Lawful.{Setting, HasPart, StandsAt, Lives, IsBlocked, IsHeldOff, IsFlagged, MayStall, front_at, IsLawful}
-use Rattle.loom_law.proofs.Earlier.{same_number}
 use Rattle.loom_law.proofs.Fronts.{Each, behind, each_one, FollowsBehind, nothing_made}
-use Rattle.loom_law.proofs.Journals.{not_due, moves}
-
+use Rattle.loom_law.proofs.Journals.{AllOf, each, not_due, moves}
 
 -- 1   mutex m;
 -- 2   shared x;
@@ -98,18 +96,6 @@ stall_commands = record { trigger = script.at 6; name = codes "f"; action = inst
 
 abbrev printing : Place
 printing = place.inside 12
-
-abbrev AllOf : {A : Type 0} → (A → Type 0) → List A → Type 0
-AllOf P [] = Unit {0}
-AllOf P (x ∷ xs) = P x × AllOf P xs
-
-each : {A : Type 0} (P : A → Type 0) (xs : List A) → AllOf P xs → (x : A) → Contains xs x → P x
-each {A = A} P xs h x c = by_index xs h c.0 c.1 c.2
-  where
-    by_index : (ys : List A) → AllOf P ys → (n : ℕ) → n < length ys → slice_index_or ys n x ≡ x → P x
-    by_index [] h n b e = let no : ⊥ = omega arith in absurd no
-    by_index (y ∷ ys) h zero b e = subst P e h.0
-    by_index (y ∷ ys) h (suc n) b e = by_index ys h.1 n (omega arith) e
 
 abbrev NoCall : Body → Type 0
 NoCall x = (name : List ℕ) → called_by x ≡ Some name → ⊥
@@ -234,16 +220,22 @@ near (paths.goes {m = m} {n = n} c link stop) =
 
 no_place : (g : ℕ) (n : Node) → is_near n ≡ true → Contains (node_places g n) printing ⊎ IsReachedAt parks g n printing → ⊥
 no_place g (paths.begins l) a (inl c) =
-    each other (node_places g (paths.begins l)) ((λ h.
-        let same : l ≡ 12 = cc in
-        let no : false ≡ true = subst (λ m. is_near (paths.begins m) ≡ true) same a in
-        cc), tt) printing c refl
+    each other (node_places g (paths.begins l)) (
+      (λ h.
+          let same : l ≡ 12 = cc in
+          let no : false ≡ true = subst (λ m. is_near (paths.begins m) ≡ true) same a in
+          cc),
+      tt,
+    ) printing c refl
 no_place g (paths.begins l) a (inr c) = no_reach (c.0 ∷ []) (no_call g l c.0 c.1, tt) (IsReached.reached c.2)
 no_place g (complete l) a (inl c) =
-    each other (node_places g (complete l)) ((λ h.
-        let same : l ≡ 12 = cc in
-        let no : false ≡ true = subst (λ m. is_near (complete m) ≡ true) same a in
-        cc), tt) printing c refl
+    each other (node_places g (complete l)) (
+      (λ h.
+          let same : l ≡ 12 = cc in
+          let no : false ≡ true = subst (λ m. is_near (complete m) ≡ true) same a in
+          cc),
+      tt,
+    ) printing c refl
 no_place g (complete l) a (inr c) = c
 no_place g (turns l) a c = cc
 no_place g leaves a c = cc

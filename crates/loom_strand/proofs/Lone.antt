@@ -10,15 +10,17 @@ use Rattle.loom_flow.specs.declared.code.Target.{Target}
 use Rattle.loom_flow.specs.declared.code.Target.TheVariants as target
 use Rattle.loom_flow.specs.declared.code.Step.{Step}
 use Rattle.loom_flow.specs.declared.code.Step.TheVariants as s
+use Rattle.loom_flow.specs.declared.code.Ask.TheVariants.{Spawn, Join}
+use Rattle.loom_flow.specs.declared.code.Control.TheVariants.{Begin, Done, Edge, Jump, JumpIfZero}
 use Rattle.loom_flow.specs.declared.code.Instr.{Instr}
-use Rattle.loom_flow.specs.Lowered.{operand_of, unless_there, variable_step, steps_to, operand_steps, argument_steps, call_steps, store_step, value_steps, set_steps, simple_steps, instr, instrs, size, place_count, body_code, functions_code, lowered}
+use Rattle.loom_flow.specs.FlatCode.{operand_of, unless_there, variable_step, steps_to, operand_steps, argument_steps, call_steps, store_step, value_steps, set_steps, simple_steps, instr, instrs, size, place_count, body_code, functions_code, lowered}
 use Rattle.loom_flow.proofs.Truths.{first_of, second_of}
-use Rattle.loom_strand.specs.Alone.{right_alone, simple_alone, body_alone, functions_alone, is_alone}
+use Rattle.loom_strand.specs.Alone.{right_alone, simple_alone, body_alone, functions_alone, has_one_thread}
 
 -- it makes no thread, and waits for none
 abbrev pub IsLone : Step → Type 0
-IsLone (s.Spawn f n d) = ⊥
-IsLone (s.Join a) = ⊥
+IsLone (s.Ask (Spawn f n d)) = ⊥
+IsLone (s.Ask (Join a)) = ⊥
 IsLone _ = Unit {0}
 
 abbrev AllLone : List Step → Type 0
@@ -102,7 +104,7 @@ lone_simple p xs (tree.join e) h = cc
 lone_simple p xs (tree.print e) h = (tt, both (operand_steps p xs e) _ (lone_operand p xs e) (tt, (tt, tt)))
 lone_simple p xs tree.skip h = (tt, (tt, tt))
 
-lone_condition : (p : Source) (xs : List (List ℕ)) (l k to : ℕ) (e : Expression) → AllLoneCode (instrs l k (s.Begin ∷ (operand_steps p xs e ++ s.JumpIfZero (operand_of xs e) to ∷ [])))
+lone_condition : (p : Source) (xs : List (List ℕ)) (l k to : ℕ) (e : Expression) → AllLoneCode (instrs l k (s.Control Begin ∷ (operand_steps p xs e ++ s.Control (JumpIfZero (operand_of xs e) to) ∷ [])))
 lone_condition p xs l k to e = (tt, lone_instrs l k _ (both (operand_steps p xs e) _ (lone_operand p xs e) (tt, tt)))
 
 lone_body : (p : Source) (xs : List (List ℕ)) (at k : ℕ) (a : Body) → body_alone a ≡ true → AllLoneCode (body_code p xs at k a)
@@ -114,12 +116,12 @@ lone_body p xs at k (if_ line e a b rest) h =
     let first : ℕ = at + (2 + length (operand_steps p xs e)) in
     let second : ℕ = first + (1 + size p xs a) in
     let last : ℕ = second + size p xs b in
-    let from_done : List Instr = instr line k s.Done ∷ body_code p xs (suc last) (suc k + place_count a + place_count b) rest in
+    let from_done : List Instr = instr line k (s.Control Done) ∷ body_code p xs (suc last) (suc k + place_count a + place_count b) rest in
     let from_b : List Instr = body_code p xs second (suc k + place_count a) b ++ from_done in
-    let from_jump : List Instr = instr line k (s.Jump last) ∷ from_b in
+    let from_jump : List Instr = instr line k (s.Control (Jump last)) ∷ from_b in
     let from_a : List Instr = body_code p xs first (suc k) a ++ from_jump in
     let behind : (body_alone b && body_alone rest) ≡ true = second_of (body_alone a) (body_alone b && body_alone rest) h in
-    both_code (instrs line k (s.Begin ∷ (operand_steps p xs e ++ s.JumpIfZero (operand_of xs e) second ∷ []))) from_a (lone_condition p xs line k second e)
+    both_code (instrs line k (s.Control Begin ∷ (operand_steps p xs e ++ s.Control (JumpIfZero (operand_of xs e) second) ∷ []))) from_a (lone_condition p xs line k second e)
     (both_code (body_code p xs first (suc k) a) from_jump (lone_body p xs first (suc k) a (first_of (body_alone a) (body_alone b && body_alone rest) h)) (
       tt,
       both_code (body_code p xs second (suc k + place_count a) b) from_done (lone_body p xs second (suc k + place_count a) b (first_of (body_alone b) (body_alone rest) behind))
@@ -129,9 +131,9 @@ lone_body p xs at k (while_ line e a rest) h =
     let head : ℕ = at + 1 in
     let first : ℕ = head + (1 + length (operand_steps p xs e)) in
     let last : ℕ = first + (1 + size p xs a) in
-    let from_edge : List Instr = instr line (suc k) (s.Edge head) ∷ instr line k s.Done ∷ body_code p xs (suc last) (suc (suc k) + place_count a) rest in
+    let from_edge : List Instr = instr line (suc k) (s.Control (Edge head)) ∷ instr line k (s.Control Done) ∷ body_code p xs (suc last) (suc (suc k) + place_count a) rest in
     let from_a : List Instr = body_code p xs first (suc (suc k)) a ++ from_edge in
-    both_code (instrs line k (s.Begin ∷ (operand_steps p xs e ++ s.JumpIfZero (operand_of xs e) last ∷ []))) from_a (lone_condition p xs line k last e)
+    both_code (instrs line k (s.Control Begin ∷ (operand_steps p xs e ++ s.Control (JumpIfZero (operand_of xs e) last) ∷ []))) from_a (lone_condition p xs line k last e)
     (both_code (body_code p xs first (suc (suc k)) a) from_edge (lone_body p xs first (suc (suc k)) a (first_of (body_alone a) (body_alone rest) h))
     (tt, (tt, lone_body p xs (suc last) (suc (suc k) + place_count a) rest (second_of (body_alone a) (body_alone rest) h))))
 
@@ -148,5 +150,5 @@ lone_at [] at i f e = cc
 lone_at (j ∷ is) zero i f e = let same : j ≡ i = cc in subst (λ (k : Instr). IsLone k.step) same f.0
 lone_at (j ∷ is) (suc at) i f e = lone_at is at i f.1 e
 
-pub lone_code : (p : Source) (at : ℕ) (i : Instr) → is_alone p ≡ true → slice_get (lowered p).code at ≡ Some i → IsLone i.step
+pub lone_code : (p : Source) (at : ℕ) (i : Instr) → has_one_thread p ≡ true → slice_get (lowered p).code at ≡ Some i → IsLone i.step
 lone_code p at i h e = lone_at (lowered p).code at i (lone_functions p 0 1 p.funcs h) e

@@ -1,130 +1,105 @@
--- What the marks of an instruction tell.
-use Rattle.std.proofs.Common.{ℕ, suc, ◌+◌, ◌&&◌, ◌≡◌, Bool, true, false, List, [], ◌∷◌, ℤ, pos, negsuc, Option, Some, None, refl, sym, ap, subst, ◌∙◌, nat_lt, slice_get, length}
+-- The places that the marks of a thread pass.
+use Rattle.std.proofs.Common.{ℕ, suc, ◌+◌, ◌&&◌, ◌≡◌, Bool, true, false, List, ℤ, pos, negsuc, Option, Some, None, refl, sym, ap, subst, ◌∙◌, nat_lt, slice_get, length, if◌then◌else◌}
 use Rattle.std.proofs.lemmas.Option.{slice_get_within}
-use Rattle.loom_tree.specs.Tree.{Source}
 use Rattle.loom_lang.specs.Values.{is_zero, applied, divides}
 use Rattle.loom_lang.specs.Places.{Place, entry, back_edge, place_at}
-use Rattle.loom_lang.specs.Trace.{Item, done, edge, enter, out, frame_limit}
+use Rattle.loom_lang.specs.Trace.{Item, made, edge, enter, frame_limit, division, index, frames}
 use Rattle.loom_flow.specs.declared.code.Array.{Array}
+use Rattle.loom_flow.specs.declared.code.Compute.{Compute}
+use Rattle.loom_flow.specs.declared.code.Compute.TheVariants.{Move, Negate, Invert, Apply, Discard}
+use Rattle.loom_flow.specs.declared.code.Ask.{Ask}
+use Rattle.loom_flow.specs.declared.code.Ask.TheVariants.{Read, ReadCell, Write, WriteCell, Lock, Unlock, Down, Up, Join, Print, Spawn}
+use Rattle.loom_flow.specs.declared.code.Control.{Control}
+use Rattle.loom_flow.specs.declared.code.Control.TheVariants.{Begin, Done, Edge, Jump, JumpIfZero, Call, Return, Out}
 use Rattle.loom_flow.specs.declared.code.Step.{Step}
 use Rattle.loom_flow.specs.declared.code.Step.TheVariants as s
 use Rattle.loom_flow.specs.declared.code.Instr.{Instr}
 use Rattle.loom_flow.specs.declared.code.Entrance.{Entrance}
-use Rattle.loom_flow.specs.Flat.{Flat, Frame, State, operand, without, given, forward, jumped, arguments, without_arguments}
+use Rattle.loom_flow.specs.Flat.{Flat}
+use Rattle.loom_flow.specs.State.{State, operand, without, given, jumped, arguments, without_arguments}
+use Rattle.loom_flow.specs.Position.{Position, before, leaves, over}
+use Rattle.loom_flow.specs.Question.{read, write}
+use Rattle.loom_flow.specs.Progress.{Progress, goes, asks, traps, on, of_compute, in_array, asks_value, asks_act, of_ask, calls, of_control, of_step, of_instr, progress}
 use Rattle.loom_flow.specs.Code.{IsLowered}
 use Rattle.loom_flow.specs.Laws.{IsInFunction, place_of, HasInstructionPlaces}
-use Rattle.loom_flow.proofs.Kept.{instructions_of}
-use Rattle.loom_trace.specs.declared.request.Request.{Request}
-use Rattle.loom_trace.specs.declared.request.Request.TheVariants as r
-use Rattle.loom_law.specs.Part.{AreTold}
-use Rattle.loom_strand.specs.declared.turn.Mark.{Mark}
-use Rattle.loom_strand.specs.declared.turn.Mark.TheVariants as m
-use Rattle.loom_strand.specs.Machine.{Progress, goes, asks, ends, either, in_array, returns, enters, progress}
-use Rattle.loom_strand.specs.Turned.{mark_of}
-use Rattle.loom_strand.specs.Kept.{passed}
+use Rattle.loom_flow.proofs.FlowLaws.{instructions_of}
+use Rattle.loom_strand.specs.Turn.{place_of_entrance, place_of_instr, place_here}
+use Rattle.loom_strand.specs.StrandInvariant.{IsBefore, IsSound}
+use Rattle.loom_strand.proofs.Sound.{instr_at}
 
--- No entry tells these items, and they pass no place.
-abbrev AreQuiet : List Item → Type 0
-AreQuiet marks = (p : Source) (t n : ℕ) → AreTold p t n marks [] × (passed n marks ≡ n)
+-- A mark that passes a place has its number, and no entry is a mark.
+abbrev pub HasMarkPlace : Flat → ℕ → Option Item → Type 0
+HasMarkPlace c place (Some (edge l)) = place_at c.program place ≡ Some (back_edge l)
+HasMarkPlace c place (Some (enter f env)) = place_at c.program (place_of_entrance (slice_get c.entrances f)) ≡ Some (entry f)
+HasMarkPlace c place (Some (made l a)) = ⊥
+HasMarkPlace c place _ = Unit {0}
 
--- A mark tells which items there are, and what the instruction is.
-abbrev HasMark : Flat → Instr → Step → List Item → Mark → Type 0
-HasMark c i x marks m.Silent = AreQuiet marks
-HasMark c i x marks (m.Entry f) = (marks ≡ enter f ∷ []) × ((e : Entrance) × (slice_get c.entrances f ≡ Some e))
-HasMark c i x marks (m.Edge k) = (marks ≡ edge i.line ∷ []) × (k ≡ i.place) × ((n : ℕ) → place_of n i.line x ≡ back_edge i.line)
+abbrev Marks : Flat → ℕ → Progress → Type 0
+Marks c place (goes mark y) = HasMarkPlace c place mark
+Marks c place _ = Unit {0}
 
-abbrev Marks : Flat → Instr → Step → Progress → Type 0
-Marks c i x (goes marks z) = HasMark c i x marks (mark_of i marks)
-Marks c i x (ends marks) = AreQuiet marks
-Marks c i x _ = Unit {0}
+marks_if : (c : Flat) (n : ℕ) (b : Bool) (p q : Progress) → Marks c n p → Marks c n q → Marks c n (if b then p else q)
+marks_if c n true p q f g = f
+marks_if c n false p q f g = g
 
-quiet : AreQuiet []
-quiet p t n = (refl, refl)
+marks_cell : (c : Flat) (n line : ℕ) (a : Array) (v : ℤ) (more : ℕ → Progress) → ((w : ℕ) → Marks c n (more w)) → Marks c n (in_array line a v more)
+marks_cell c n line a (pos k) more h = marks_if c n (nat_lt k a.count) (more (a.first + k)) (traps line index) (h (a.first + k)) tt
+marks_cell c n line a (negsuc k) more h = tt
 
-marks_either : (c : Flat) (i : Instr) (x : Step) (b : Bool) (p q : Progress) → Marks c i x p → Marks c i x q → Marks c i x (either b p q)
-marks_either c i x true p q f g = f
-marks_either c i x false p q f g = g
+compute_marks : (c : Flat) (n : ℕ) (z : State) (line : ℕ) (x : Compute) → Marks c n (of_compute z line x)
+compute_marks c n z line (Move a d) = tt
+compute_marks c n z line (Negate a d) = tt
+compute_marks c n z line (Invert a d) = tt
+compute_marks c n z line (Apply o a b d) =
+    marks_if c n (divides o && is_zero (operand z b)) (traps line division) (on (given (without (without z b) a) d (applied o (operand (without z b) a) (operand z b)))) tt tt
+compute_marks c n z line Discard = tt
 
-marks_cell : (c : Flat) (i : Instr) (x : Step) (a : Array) (v : ℤ) (ask : ℕ → Request) → Marks c i x (in_array i.line a v ask)
-marks_cell c i x a (pos k) ask = marks_either c i x (nat_lt k a.count) (asks (ask (a.first + k))) (asks (r.Trap i.line 2)) tt tt
-marks_cell c i x a (negsuc k) ask = tt
+ask_marks : (c : Flat) (n : ℕ) (z : State) (line : ℕ) (x : Ask) → Marks c n (of_ask z line x)
+ask_marks c n z line (Read w d) = tt
+ask_marks c n z line (ReadCell a k d) = marks_cell c n line a (operand z k) (λ w. asks_value line (read w) (λ v. given (without z k) d v)) (λ w. tt)
+ask_marks c n z line (Write w a) = tt
+ask_marks c n z line (WriteCell a k b) = marks_cell c n line a (operand (without z b) k) (λ w. asks_act line (write w (operand z b)) (without (without z b) k)) (λ w. tt)
+ask_marks c n z line (Lock m) = tt
+ask_marks c n z line (Unlock m) = tt
+ask_marks c n z line (Down x) = tt
+ask_marks c n z line (Up x) = tt
+ask_marks c n z line (Join a) = tt
+ask_marks c n z line (Print a) = tt
+ask_marks c n z line (Spawn f k d) = tt
 
-marks_returns : (c : Flat) (i : Instr) (x : Step) (marks : List Item) (vs : List ℤ) (v : ℤ) (fs : List Frame)
-    → AreQuiet marks → mark_of i marks ≡ m.Silent → Marks c i x (returns c marks vs v fs)
-marks_returns c i x marks vs v [] h e = h
-marks_returns c i x marks vs v (f ∷ fs) h e = subst (HasMark c i x marks) (sym e) h
+marks_calls : (c : Flat) (n : ℕ) (z : State) (place f : ℕ) (vs : List ℤ) (e : Option Entrance) → IsLowered c → slice_get c.entrances f ≡ e → Marks c n (calls c z place f vs e)
+marks_calls c n z place f vs None l is = tt
+marks_calls c n z place f vs (Some e) l is = ap (λ d. place_at c.program (place_of_entrance d)) is ∙ (instructions_of c c.program l refl).entrances f e is
 
-marks_enters : (c : Flat) (z : State) (i : Instr) (x : Step) (f : ℕ) (vs : List ℤ) (e : Option Entrance) → slice_get c.entrances f ≡ e → Marks c i x (enters z i f vs e)
-marks_enters c z i x f vs None h = tt
-marks_enters c z i x f vs (Some e) h = (refl, (e, h))
-
-progress_marks : (c : Flat) (z : State) (i : Instr) (x : Step) → Marks c i x (progress c z i x)
-progress_marks c z i (s.Move a d) = quiet
-progress_marks c z i (s.Read w d) = tt
-progress_marks c z i (s.ReadCell a n d) = marks_cell c i (s.ReadCell a n d) a (operand z n) (λ w. r.Read i.line w)
-progress_marks c z i (s.Negate a d) = quiet
-progress_marks c z i (s.Invert a d) = quiet
-progress_marks c z i (s.Apply o a b d) =
-    marks_either c i (s.Apply o a b d) (divides o && is_zero (operand z b)) (asks (r.Trap i.line 1))
-    (goes [] (forward (given (without (without z b) a) d (applied o (operand (without z b) a) (operand z b))))) tt quiet
-progress_marks c z i (s.Write w a) = tt
-progress_marks c z i (s.WriteCell a n b) = marks_cell c i (s.WriteCell a n b) a (operand (without z b) n) (λ w. r.Write i.line w (operand z b))
-progress_marks c z i (s.Lock k) = tt
-progress_marks c z i (s.Unlock k) = tt
-progress_marks c z i (s.Down k) = tt
-progress_marks c z i (s.Up k) = tt
-progress_marks c z i (s.Join a) = tt
-progress_marks c z i (s.Print a) = tt
-progress_marks c z i (s.Spawn f n d) = tt
-progress_marks c z i (s.Call f n) =
-    marks_either c i (s.Call f n) (nat_lt (suc (length z.below)) frame_limit) (enters (without_arguments z n) i f (arguments z n) (slice_get c.entrances f)) (asks (r.Trap i.line 6))
-    (marks_enters c (without_arguments z n) i (s.Call f n) f (arguments z n) (slice_get c.entrances f) refl) tt
-progress_marks c z i s.Discard = quiet
-progress_marks c z i (s.Return a) = marks_returns c i (s.Return a) (done i.line ∷ out z.func ∷ []) (without z a).values (operand z a) z.below (λ p t n. (refl, refl)) refl
-progress_marks c z i s.Begin = λ p t n. (refl, refl)
-progress_marks c z i s.Done = λ p t n. (refl, refl)
-progress_marks c z i (s.Edge at) = (refl, refl, λ n. refl)
-progress_marks c z i (s.Jump at) = quiet
-progress_marks c z i (s.JumpIfZero a at) = marks_either c i (s.JumpIfZero a at) (is_zero (operand z a)) (goes [] (jumped (without z a) at)) (goes [] (forward (without z a))) quiet quiet
-progress_marks c z i s.Out = marks_returns c i s.Out (out z.func ∷ []) z.values (pos 0) z.below (λ p t n. (refl, refl)) refl
-
-marks_goes : (c : Flat) (z z' : State) (i : Instr) (marks : List Item) (k : Mark) → progress c z i i.step ≡ goes marks z' → mark_of i marks ≡ k → HasMark c i i.step marks k
-marks_goes c z z' i marks k p e =
-    let here : Marks c i i.step (goes marks z') = subst (Marks c i i.step) p (progress_marks c z i i.step) in
-    subst (HasMark c i i.step marks) e here
-
--- An instruction without a mark, and the last one, tell nothing.
-
-pub silent_told : (c : Flat) (z z' : State) (i : Instr) (marks : List Item)
-    → progress c z i i.step ≡ goes marks z' → mark_of i marks ≡ m.Silent → (p : Source) (t n : ℕ) → AreTold p t n marks []
-silent_told c z z' i marks h e p t n = (marks_goes c z z' i marks m.Silent h e p t n).0
-
-pub silent_passed : (c : Flat) (z z' : State) (i : Instr) (marks : List Item) → progress c z i i.step ≡ goes marks z' → mark_of i marks ≡ m.Silent → (n : ℕ) → passed n marks ≡ n
-silent_passed c z z' i marks h e n = (marks_goes c z z' i marks m.Silent h e c.program 0 n).1
-
-marks_ends : (c : Flat) (z : State) (i : Instr) (marks : List Item) → progress c z i i.step ≡ ends marks → AreQuiet marks
-marks_ends c z i marks h = subst (Marks c i i.step) h (progress_marks c z i i.step)
-
-pub end_told : (c : Flat) (z : State) (i : Instr) (marks : List Item) → progress c z i i.step ≡ ends marks → (p : Source) (t n : ℕ) → AreTold p t n marks []
-end_told c z i marks h p t n = (marks_ends c z i marks h p t n).0
-
-pub end_passed : (c : Flat) (z : State) (i : Instr) (marks : List Item) → progress c z i i.step ≡ ends marks → (n : ℕ) → passed n marks ≡ n
-end_passed c z i marks h n = (marks_ends c z i marks h c.program 0 n).1
-
--- The place that is passed
-
-pub entry_marked : (c : Flat) (z z' : State) (i : Instr) (marks : List Item) (f : ℕ)
-    → IsLowered c → slice_get c.code z.at ≡ Some i → progress c z i i.step ≡ goes marks z' → mark_of i marks ≡ m.Entry f
-    → (marks ≡ enter f ∷ []) × ((e : Entrance) × (slice_get c.entrances f ≡ Some e) × (place_at c.program e.place ≡ Some (entry f)))
-entry_marked c z z' i marks f l there h e =
-    let here : (marks ≡ enter f ∷ []) × ((d : Entrance) × (slice_get c.entrances f ≡ Some d)) = marks_goes c z z' i marks (m.Entry f) h e in
-    (here.0, (here.1.0, here.1.1, (instructions_of c c.program l refl).entrances f here.1.0 here.1.1))
-
-pub edge_marked : (c : Flat) (z z' : State) (i : Instr) (marks : List Item) (k : ℕ)
-    → IsLowered c → slice_get c.code z.at ≡ Some i → progress c z i i.step ≡ goes marks z' → mark_of i marks ≡ m.Edge k
-    → (marks ≡ edge i.line ∷ []) × (place_at c.program k ≡ Some (back_edge i.line))
-edge_marked c z z' i marks k l there h e =
-    let here : (marks ≡ edge i.line ∷ []) × (k ≡ i.place) × ((n : ℕ) → place_of n i.line i.step ≡ back_edge i.line) = marks_goes c z z' i marks (m.Edge k) h e in
+edge_place : (c : Flat) (at to : ℕ) (i : Instr) → IsLowered c → slice_get c.code at ≡ Some i → i.step ≡ s.Control (Edge to) → place_at c.program i.place ≡ Some (back_edge i.line)
+edge_place c at to i l e is =
     let places : HasInstructionPlaces c c.program = instructions_of c c.program l refl in
-    let n : (n : ℕ) × IsInFunction c n z.at = places.functions z.at (slice_get_within c.code z.at i there) in
-    (here.0, ap (place_at c.program) here.1 ∙ (places.instructions n.0 z.at i n.1 there).0 ∙ ap {B = Option Place} Some (here.2 n.0))
+    let n : (n : ℕ) × IsInFunction c n at = places.functions at (slice_get_within c.code at i e) in
+    (places.instructions n.0 at i n.1 e).0 ∙ ap (λ x. Some (place_of n.0 i.line x)) is
+
+control_marks : (c : Flat) (z : State) (i : Instr) (x : Control) → IsLowered c → slice_get c.code z.at ≡ Some i → i.step ≡ s.Control x → Marks c i.place (of_control c z i.line i.place x)
+control_marks c z i Begin l e is = tt
+control_marks c z i Done l e is = tt
+control_marks c z i (Edge to) l e is = edge_place c z.at to i l e is
+control_marks c z i (Jump to) l e is = tt
+control_marks c z i (JumpIfZero a to) l e is = marks_if c i.place (is_zero (operand z a)) (goes None (before (jumped (without z a) to))) (on (without z a)) tt tt
+control_marks c z i (Call f n) l e is =
+    marks_if c i.place (nat_lt (suc (length z.below)) frame_limit) (calls c (without_arguments z n) i.place f (arguments z n) (slice_get c.entrances f)) (traps i.line frames)
+    (marks_calls c i.place (without_arguments z n) i.place f (arguments z n) (slice_get c.entrances f) l refl) tt
+control_marks c z i (Return a) l e is = tt
+control_marks c z i Out l e is = tt
+
+step_marks : (c : Flat) (z : State) (i : Instr) (x : Step) → IsLowered c → slice_get c.code z.at ≡ Some i → i.step ≡ x → Marks c i.place (of_step c z i x)
+step_marks c z i (s.Compute x) l e is = compute_marks c i.place z i.line x
+step_marks c z i (s.Ask x) l e is = ask_marks c i.place z i.line x
+step_marks c z i (s.Control x) l e is = control_marks c z i x l e is
+
+marks : (c : Flat) (z : Position) → IsLowered c → IsSound c z → Marks c (place_here c z) (progress c z)
+marks c (before z) l h =
+    let here : (i : Instr) × (slice_get c.code z.at ≡ Some i) = instr_at c z h in
+    subst (λ o. Marks c (place_of_instr o) (of_instr c z o)) (sym here.1) (step_marks c z here.0 here.0.step l here.1 refl)
+marks c (leaves z v) l h = tt
+marks c over l h = tt
+
+pub mark_place : (c : Flat) (z y : Position) (mark : Option Item) → IsLowered c → IsSound c z → progress c z ≡ goes mark y → HasMarkPlace c (place_here c z) mark
+mark_place c z y mark l h p = subst (Marks c (place_here c z)) p (marks c z l h)

@@ -1,37 +1,39 @@
 -- What a thread keeps behind a private run.
-use Rattle.std.proofs.Common.{ℕ, ◌≡◌, ◌<◌, false, List, [], ◌∷◌, ◌++◌, Option, Some, None, refl, inr, sym, ap, subst, ◌∙◌, slice_get, length, append-nil, arith}
-use Rattle.std.specs.Prelude.{option_map, is_some}
+use Rattle.std.proofs.Common.{ℕ, ◌≡◌, ◌<◌, ◌⊎◌, false, List, [], ◌∷◌, ◌++◌, Option, Some, None, refl, inl, inr, sym, ap, subst, ◌∙◌, slice_get, length, append_assoc}
+use Rattle.std.specs.Prelude.{is_some}
 use Rattle.std.proofs.lemmas.Option.{slice_get_within}
 use Rattle.loom_tree.specs.Tree.{Source}
 use Rattle.loom_lang.specs.Rules.{KeepsRules}
-use Rattle.loom_lang.specs.Places.{places, place_at, line_of_place, line_of_function}
-use Rattle.loom_flow.specs.Flat.{Flat, State}
-use Rattle.loom_flow.specs.Lowered.{lowered}
+use Rattle.loom_flow.specs.Flat.{Flat}
+use Rattle.loom_flow.specs.Position.{Position}
+use Rattle.loom_flow.specs.Progress.{progress}
+use Rattle.loom_flow.specs.FlatCode.{lowered}
 use Rattle.loom_flow.specs.Code.{IsLowered}
-use Rattle.loom_flow.proofs.Kept.{as_many_sites}
 use Rattle.loom_trace.specs.declared.entry.Entry.{Entry}
-use Rattle.loom_trace.specs.declared.entry.Entry.TheVariants as e
 use Rattle.loom_trace.specs.declared.request.Request.{Request}
 use Rattle.loom_trace.specs.declared.request.Request.TheVariants as r
-use Rattle.loom_law.specs.Part.{tick_after, AreTold}
+use Rattle.loom_event.specs.Answer.{IsFunctionWith}
+use Rattle.loom_law.specs.Walk.{tick_after, tick, items, Queue}
 use Rattle.loom_strand.specs.declared.stage.Birth.{Birth}
 use Rattle.loom_strand.specs.declared.stage.Stage.{Stage}
 use Rattle.loom_strand.specs.declared.stage.Stage.TheVariants as stage
 use Rattle.loom_strand.specs.declared.turn.Stop.TheVariants as stop
-use Rattle.loom_strand.specs.Held.{Held}
-use Rattle.loom_strand.specs.Strand.{Strand}
-use Rattle.loom_strand.specs.Kept.{IsSound, HasRoom, IsAtRequest, with_tick, passed, IsRunning, IsStopping, IsAt, KeepsRoom, IsKept}
-use Rattle.loom_strand.specs.Ran.{HasGone, HasTicked, HasCome, IsAskedAt, Ran}
-use Rattle.loom_strand.proofs.Ticks.{told_append, passed_append}
-use Rattle.loom_strand.proofs.Asking.{never_own, is_own}
-use Rattle.loom_strand.proofs.Replies.{no_own}
+use Rattle.loom_strand.specs.Machine.{Machine, position}
+use Rattle.loom_strand.specs.Question.{request_at}
+use Rattle.loom_strand.specs.Strand.{Strand, IsStarted}
+use Rattle.loom_strand.specs.PlainWalk.{IsPlainWalk}
+use Rattle.loom_strand.specs.StrandInvariant.{IsSound, HasRoom, GoesOnFrom, end_line, thread_with, IsIdle, AsksTick, AsksHere, AsksBegin, IsWaiting, IsRunning, IsAt, IsBlank, IsKept}
+use Rattle.loom_strand.specs.PrivateRun.{HasGone, Stops}
+use Rattle.loom_strand.proofs.Walks.{items_append}
+use Rattle.loom_strand.proofs.GoesOn.{is_lowered}
+use Rattle.loom_strand.proofs.Wanted.{no_request}
 
 -- The flat code is that of the thread's program.
 pub flat_is : (c : Flat) (p : Source) → IsLowered c → c.program ≡ p → c ≡ lowered p
 flat_is c p l e = l.is ∙ ap lowered e
 
 -- the thread with a request
-abbrev pub resumed : Strand → Option Request → Held → Stage → ℕ → Strand
+abbrev pub resumed : Strand → Option Request → Machine → Stage → ℕ → Strand
 resumed s q m st k = record {
   program = s.program;
   thread = s.thread;
@@ -39,137 +41,118 @@ resumed s q m st k = record {
   birth = s.birth;
   entries = s.entries;
   wanted = q;
-  inside = record { stage = st; passed = k; held = m };
-}
-
--- An instruction asks for no tick.
-record IsPlain (c : Flat) (t : ℕ) (es : List Entry) (z : State) (q : Request) : Type 0 where
-  pub untimed : with_tick t (Some q) es ≡ es
-  pub at : IsAskedAt c z q → IsAtRequest c z (Some q)
-
-plain : (c : Flat) (t : ℕ) (es : List Entry) (z : State) (q : Request) → is_own q ≡ false → IsPlain c t es z q
-plain c t es z (r.Begin l) own = absurd (no_own (r.Begin l) refl own)
-plain c t es z (r.End l) own = absurd (no_own (r.End l) refl own)
-plain c t es z (r.Tick l k) own = absurd (no_own (r.Tick l k) refl own)
-plain c t es z (r.Trap l n) own = record { untimed = refl; at = λ h. h }
-plain c t es z (r.Read l w) own = record { untimed = refl; at = λ h. h }
-plain c t es z (r.Write l w v) own = record { untimed = refl; at = λ h. h }
-plain c t es z (r.Lock l m) own = record { untimed = refl; at = λ h. h }
-plain c t es z (r.Unlock l m) own = record { untimed = refl; at = λ h. h }
-plain c t es z (r.Down l x) own = record { untimed = refl; at = λ h. h }
-plain c t es z (r.Up l x) own = record { untimed = refl; at = λ h. h }
-plain c t es z (r.Spawn l f vs) own = record { untimed = refl; at = λ h. h }
-plain c t es z (r.Join l v) own = record { untimed = refl; at = λ h. h }
-plain c t es z (r.Print l v) own = record { untimed = refl; at = λ h. h }
-
--- Stages
-
-asked_running : (p : Source) (t : ℕ) (b : Birth) (es : List Entry) (n k : ℕ) (old new : Held) (q : Request) → IsRunning p t b es None n old.state
-    → HasGone (lowered p) old new n k → IsAskedAt (lowered p) new.state q
-    → IsRunning p t b es (Some q) k new.state
-asked_running p t b es n k old new q h g at =
-    let is : IsPlain (lowered p) t es new.state q = plain (lowered p) t es new.state q (never_own (lowered p) new.state at.0 q at.2) in
-    record {
-      items = h.items ++ g.marks;
-      told = subst (AreTold p t 0 (h.items ++ g.marks)) (append-nil es ∙ sym is.untimed) (told_append p t 0 h.items g.marks es [] h.told (subst (λ m. AreTold p t m g.marks []) h.count (g.silent t)));
-      count = g.count ∙ ap (λ m. passed m g.marks) h.count ∙ sym (passed_append 0 h.items g.marks);
-      goes = g.carries b.func b.args h.items h.goes;
-      sound = g.sound;
-      asks = is.at at;
-      part = h.part;
-      begun = h.begun;
-      lives = h.lives;
-    }
-
-ticked_running : (p : Source) (t : ℕ) (b : Birth) (es : List Entry) (n k j line : ℕ) (old new : Held) → IsRunning p t b es None n old.state
-    → (g : HasTicked (lowered p) old new n k j) → line ≡ line_of_place p g.passes
-    → IsRunning p t b es (Some (r.Tick line j)) k new.state
-ticked_running p t b es n k j line old new h g is = record {
-  items = h.items ++ g.marks;
-  told = told_append p t 0 h.items g.marks es (e.Tick t line j ∷ []) h.told
-      (subst (λ m. AreTold p t m g.marks (e.Tick t line j ∷ [])) h.count (subst (λ m. AreTold p t n g.marks (e.Tick t m j ∷ [])) (sym is) (g.told t)));
-  count = g.count ∙ ap (λ m. passed m g.marks) h.count ∙ sym (passed_append 0 h.items g.marks);
-  goes = g.carries b.func b.args h.items h.goes;
-  sound = g.sound;
-  asks = tt;
-  part = h.part;
-  begun = h.begun;
-  lives = h.lives;
-}
-
-come_stopping : (p : Source) (t : ℕ) (b : Birth) (es : List Entry) (n line : ℕ) (old : Held) → IsRunning p t b es None n old.state → HasCome (lowered p) old n
-    → line ≡ line_of_function (slice_get p.funcs b.func)
-    → IsStopping p t b es (Some (r.End line))
-come_stopping p t b es n line old h g is = record {
-  items = h.items ++ g.marks;
-  told = subst (AreTold p t 0 (h.items ++ g.marks)) (append-nil es) (told_append p t 0 h.items g.marks es [] h.told (subst (λ m. AreTold p t m g.marks []) h.count (g.silent t)));
-  stops = g.carries b.func b.args h.items h.goes;
-  asks = inr (ap (λ m. Some (r.End m)) is);
-  begun = h.begun;
-  lives = h.lives;
+  inside = record { stage = st; passed = k; machine = m };
 }
 
 pub nothing_wanted : (wanted : Option Request) → is_some wanted ≡ false → wanted ≡ None
 nothing_wanted None e = refl
 nothing_wanted (Some q) e = cc
 
--- A thread that runs, and has no request.
-pub record IsFree (c : Flat) (s : Strand) (b : Birth) : Type 0 where
-  pub flat : IsLowered c
+-- A thread that has no request.
+pub record IsFree (c : Flat) (s : Strand) (b : Birth) (x : Stage) : Type 0 where
+  pub lowered : IsLowered c
   pub program : c.program ≡ s.program
   pub kept : IsKept s
   pub birth : s.birth ≡ Some b
-  pub stage : s.inside.stage ≡ stage.Runs
+  pub stage : s.inside.stage ≡ x
   pub wanted : s.wanted ≡ None
 
-free_running : (c : Flat) (s : Strand) (b : Birth) → IsFree c s b → IsRunning s.program s.thread b s.entries None s.inside.passed s.inside.held.state
-free_running c s b h =
-    let at : IsAt s.inside.stage s (Some b) = subst (IsAt s.inside.stage s) h.birth h.kept.stage in
-    let runs : IsRunning s.program s.thread b s.entries s.wanted s.inside.passed s.inside.held.state = subst (λ x. IsAt x s (Some b)) h.stage at in
-    subst (λ o. IsRunning s.program s.thread b s.entries o s.inside.passed s.inside.held.state) h.wanted runs
+free_at : (c : Flat) (s : Strand) (b : Birth) (x : Stage) → IsFree c s b x → IsAt x s (Some b)
+free_at c s b x h = subst (λ y. IsAt y s (Some b)) h.stage (subst (IsAt s.inside.stage s) h.birth h.kept.stage)
+
+free_running : (c : Flat) (s : Strand) (b : Birth) → IsFree c s b stage.Runs → IsRunning s.program s.thread b s.entries None s.inside.passed (position s.inside.machine)
+free_running c s b h = subst (λ o. IsRunning s.program s.thread b s.entries o s.inside.passed (position s.inside.machine)) h.wanted (free_at c s b stage.Runs h)
+
+idle : (p : Source) (t n : ℕ) (b : Birth) (es : List Entry) (z : Position) → (h : IsRunning p t b es None n z) → IsIdle None h.owed n
+idle p t n b es z h = by_owed h.asks
+  where
+    by_owed : IsIdle None h.owed n ⊎ (AsksTick None h.owed ⊎ AsksHere (lowered p) (end_line p b.func) z None h.owed) → IsIdle None h.owed n
+    by_owed (inl x) = x
+    by_owed (inr (inl (line, place, is, owed))) = absurd (no_request (r.Tick line place) is)
+    by_owed (inr (inr (q, is, at, owed))) = absurd (no_request q is)
 
 -- what a private run rests on
-pub free_sound : (c : Flat) (s : Strand) (b : Birth) → IsFree c s b → IsSound c s.inside.held.state
-free_sound c s b h = subst (λ d. IsSound d s.inside.held.state) (sym (flat_is c s.program h.flat h.program)) (free_running c s b h).sound
+pub free_sound : (c : Flat) (s : Strand) (b : Birth) → IsFree c s b stage.Runs → IsSound c (position s.inside.machine)
+free_sound c s b h = subst (λ d. IsSound d (position s.inside.machine)) (sym (flat_is c s.program h.lowered h.program)) (free_running c s b h).sound
 
-pub free_room : (c : Flat) (s : Strand) (b : Birth) → IsFree c s b → HasRoom c s.inside.held
-free_room c s b h =
-    subst (λ d. HasRoom d s.inside.held) (sym (flat_is c s.program h.flat h.program))
-    (let room : KeepsRoom s.inside.stage (lowered s.program) s.inside.held = h.kept.room in
-    let here : KeepsRoom stage.Runs (lowered s.program) s.inside.held = subst (λ x. KeepsRoom x (lowered s.program) s.inside.held) h.stage room in here)
+pub free_room : (c : Flat) (s : Strand) (b : Birth) → IsFree c s b stage.Runs → HasRoom c s.inside.machine
+free_room c s b h = subst (λ d. HasRoom d s.inside.machine) (sym (flat_is c s.program h.lowered h.program)) h.kept.room
 
-kept_as : (s : Strand) (b : Birth) (q : Option Request) (m : Held) (st st' : Stage) (k : ℕ) → s.birth ≡ Some b → st' ≡ st → KeepsRules s.program → k < tick_after → KeepsRoom st (lowered s.program) m
-    → IsAt st (resumed s q m st k) (Some b) → IsKept (resumed s q m st' k)
-kept_as s b q m st st' k birth es lawful few room at =
-    subst (λ z. IsKept (resumed s q m z k)) (sym es) (record { lawful = lawful; room = room; few = few; stage = subst (IsAt st (resumed s q m st k)) (sym birth) at })
+pub free_few : (c : Flat) (s : Strand) (b : Birth) → IsFree c s b stage.Runs → s.inside.passed < 1000
+free_few c s b h = (idle s.program s.thread s.inside.passed b s.entries (position s.inside.machine) (free_running c s b h)).2
 
-pub resumed_asks : (c : Flat) (s : Strand) (b : Birth) (q : Request) (m : Held) (k : ℕ) → IsFree c s b → Ran c s.inside.held m s.inside.passed k (stop.Asks q)
+-- the function of the thread is one of the program
+function_there : (p q : Source) (b : Birth) → p ≡ q → IsFunctionWith q b.func b.args → b.func < length p.funcs
+function_there p q b e f = slice_get_within p.funcs b.func f.0 (ap (λ (z : Source). slice_get z.funcs b.func) e ∙ f.1)
+
+function_at : (p : Source) (s : Strand) (b : Birth) (x : Stage) → p ≡ s.program → IsAt x s (Some b) → (x ≡ stage.Over → ⊥) → b.func < length p.funcs
+function_at p s b stage.Waits e h lives = function_there p s.program b e h.function
+function_at p s b stage.Runs e h lives = function_there p s.program b e h.function
+function_at p s b stage.Over e h lives = absurd (lives refl)
+
+pub has_function : (p : Source) (s : Strand) (b : Birth) (x : Stage) → p ≡ s.program → IsKept s → s.birth ≡ Some b → s.inside.stage ≡ x → (x ≡ stage.Over → ⊥) → b.func < length p.funcs
+has_function p s b x e h birth is lives = function_at p s b x e (subst (λ y. IsAt y s (Some b)) is (subst (IsAt s.inside.stage s) birth h.stage)) lives
+
+-- Behind a private run
+
+gone_running : (p : Source) (t : ℕ) (b : Birth) (es : List Entry) (n k : ℕ) (old new : Machine) (wanted : Option Request) (os : Queue) → IsRunning p t b es None n (position old)
+    → HasGone (lowered p) old new n k os → IsIdle wanted os k ⊎ (AsksTick wanted os ⊎ AsksHere (lowered p) (end_line p b.func) (position new) wanted os)
+    → IsRunning p t b es wanted k (position new)
+gone_running p t b es n k old new wanted os h g asks = record {
+  function = h.function;
+  steps = h.steps ++ g.marks;
+  owed = os;
+  walk = g.walks t h.steps es (subst (λ us. IsPlainWalk p t h.steps es us n) (idle p t n b es (position old) h).1 h.walk);
+  goes = subst (λ is. GoesOnFrom (lowered p) (thread_with p b.func) b.func b.args is (position new)) (sym (items_append h.steps g.marks)) (g.carries b.func b.args (items h.steps) h.goes);
+  sound = g.sound;
+  asks = asks;
+  begun = h.begun;
+  lives = h.lives;
+}
+
+kept_as : (c : Flat) (s : Strand) (b : Birth) (q : Option Request) (m : Machine) (k : ℕ) → IsFree c s b stage.Runs → HasRoom (lowered s.program) m
+    → IsRunning s.program s.thread b s.entries q k (position m) → IsKept (resumed s q m s.inside.stage k)
+kept_as c s b q m k h room at = subst (λ x. IsKept (resumed s q m x k)) (sym h.stage) (record {
+  lawful = h.kept.lawful;
+  room = room;
+  blank = tt;
+  stage = subst (IsAt stage.Runs (resumed s q m stage.Runs k)) (sym h.birth) at;
+})
+
+pub resumed_asks : (c : Flat) (s : Strand) (b : Birth) (q : Request) (m : Machine) (k : ℕ) → IsFree c s b stage.Runs → Stops c s.inside.machine m s.inside.passed k (stop.Asks q)
     → IsKept (resumed s (Some q) m s.inside.stage k)
 resumed_asks c s b q m k h g =
-    let here : Ran (lowered s.program) s.inside.held m s.inside.passed k (stop.Asks q) = subst (λ d. Ran d s.inside.held m s.inside.passed k (stop.Asks q)) (flat_is c s.program h.flat h.program) g in
-    kept_as s b (Some q) m stage.Runs s.inside.stage k h.birth h.stage h.kept.lawful here.0.few here.0.room
-    (asked_running s.program s.thread b s.entries s.inside.passed k s.inside.held m q (free_running c s b h) here.0 here.1)
+    let here : Stops (lowered s.program) s.inside.machine m s.inside.passed k (stop.Asks q) = subst (λ d. Stops d s.inside.machine m s.inside.passed k (stop.Asks q)) (flat_is c s.program h.lowered h.program) g in
+    kept_as c s b (Some q) m k h here.0.room
+    (gone_running s.program s.thread b s.entries s.inside.passed k s.inside.machine m (Some q) [] (free_running c s b h) here.0 (inr (inr (q, refl, here.1 (end_line s.program b.func), refl))))
 
-same_line : (m n : ℕ) → ◌≡◌ {A = Option ℕ} (Some m) (Some n) → m ≡ n
-same_line m n e = cc
+pub resumed_ticks : (c : Flat) (s : Strand) (b : Birth) (m : Machine) (k line place : ℕ) → IsFree c s b stage.Runs → Stops c s.inside.machine m s.inside.passed k (stop.Ticks line place)
+    → IsKept (resumed s (Some (r.Tick line place)) m s.inside.stage k)
+resumed_ticks c s b m k line place h g =
+    let here : HasGone (lowered s.program) s.inside.machine m s.inside.passed k ((line, tick place) ∷ []) = subst (λ d. HasGone d s.inside.machine m s.inside.passed k ((line, tick place) ∷ [])) (flat_is c s.program h.lowered h.program) g in
+    kept_as c s b (Some (r.Tick line place)) m k h here.room
+    (gone_running s.program s.thread b s.entries s.inside.passed k s.inside.machine m (Some (r.Tick line place)) ((line, tick place) ∷ []) (free_running c s b h) here (inr (inl (line, place, refl, refl))))
 
-pub resumed_ticks : (c : Flat) (s : Strand) (b : Birth) (m : Held) (k j line : ℕ) → IsFree c s b → Ran c s.inside.held m s.inside.passed k (stop.Ticks j)
-    → option_map (line_of_place c.program) (place_at c.program j) ≡ Some line
-    → IsKept (resumed s (Some (r.Tick line j)) m s.inside.stage k)
-resumed_ticks c s b m k j line h g is =
-    let here : HasTicked (lowered s.program) s.inside.held m s.inside.passed k j = subst (λ d. Ran d s.inside.held m s.inside.passed k (stop.Ticks j)) (flat_is c s.program h.flat h.program) g in
-    let told : option_map (line_of_place s.program) (place_at s.program j) ≡ Some line = subst (λ p. option_map (line_of_place p) (place_at p j) ≡ Some line) h.program is in
-    let line_is : line ≡ line_of_place s.program here.passes = sym (same_line (line_of_place s.program here.passes) line (sym (ap (option_map (line_of_place s.program)) here.number) ∙ told)) in
-    kept_as s b (Some (r.Tick line j)) m stage.Runs s.inside.stage k h.birth h.stage h.kept.lawful (subst (λ i. i < tick_after) (sym here.begins) (omega arith)) here.room
-    (ticked_running s.program s.thread b s.entries s.inside.passed k j line s.inside.held m (free_running c s b h) here line_is)
-
-pub ticked_place : (c : Flat) (a m : Held) (n k j : ℕ) → IsLowered c → Ran c a m n k (stop.Ticks j) → j < length c.sites
-ticked_place c a m n k j l g = subst (λ i. j < i) (sym (as_many_sites c l)) (slice_get_within (places c.program) j g.passes g.number)
-
-pub resumed_ends : (c : Flat) (s : Strand) (b : Birth) (m : Held) (k line : ℕ) → IsFree c s b → Ran c s.inside.held m s.inside.passed k stop.Ends
-    → line ≡ line_of_function (slice_get c.program.funcs b.func)
-    → IsKept (resumed s (Some (r.End line)) m stage.Stops k)
+pub resumed_ends : (c : Flat) (s : Strand) (b : Birth) (m : Machine) (k line : ℕ) → IsFree c s b stage.Runs → Stops c s.inside.machine m s.inside.passed k stop.Ends
+    → line ≡ end_line c.program b.func → IsKept (resumed s (Some (r.End line)) m s.inside.stage k)
 resumed_ends c s b m k line h g is =
-    let here : Ran (lowered s.program) s.inside.held m s.inside.passed k stop.Ends = subst (λ d. Ran d s.inside.held m s.inside.passed k stop.Ends) (flat_is c s.program h.flat h.program) g in
-    kept_as s b (Some (r.End line)) m stage.Stops stage.Stops k h.birth refl h.kept.lawful here.1 tt
-    (come_stopping s.program s.thread b s.entries s.inside.passed line s.inside.held (free_running c s b h) here.0 (is ∙ ap (λ p. line_of_function (slice_get p.funcs b.func)) h.program))
+    let here : Stops (lowered s.program) s.inside.machine m s.inside.passed k stop.Ends = subst (λ d. Stops d s.inside.machine m s.inside.passed k stop.Ends) (flat_is c s.program h.lowered h.program) g in
+    let same : line ≡ end_line s.program b.func = is ∙ ap (λ p. end_line p b.func) h.program in
+    subst (λ n. IsKept (resumed s (Some (r.End n)) m s.inside.stage k)) (sym same)
+    (kept_as c s b (Some (r.End (end_line s.program b.func))) m k h here.0.room
+    (gone_running s.program s.thread b s.entries s.inside.passed k s.inside.machine m (Some (r.End (end_line s.program b.func))) [] (free_running c s b h) here.0
+    (inr (inr (r.End (end_line s.program b.func), refl, ap (request_at (end_line s.program b.func)) here.1, refl)))))
+
+-- before the begin
+pub resumed_begins : (c : Flat) (s : Strand) (b : Birth) (line : ℕ) → IsFree c s b stage.Waits → line ≡ end_line c.program b.func
+    → IsKept (resumed s (Some (r.Begin line)) s.inside.machine s.inside.stage s.inside.passed)
+resumed_begins c s b line h is =
+    let at : IsWaiting s.program b s.entries s.wanted = free_at c s b stage.Waits h in
+    let same : line ≡ end_line s.program b.func = is ∙ ap (λ p. end_line p b.func) h.program in
+    subst (λ x. IsKept (resumed s (Some (r.Begin line)) s.inside.machine x s.inside.passed)) (sym h.stage) (record {
+      lawful = h.kept.lawful;
+      room = h.kept.room;
+      blank = subst (λ x. IsBlank x s.inside.machine) h.stage h.kept.blank;
+      stage = subst (IsAt stage.Waits (resumed s (Some (r.Begin line)) s.inside.machine stage.Waits s.inside.passed)) (sym h.birth)
+          (record { none = at.none; function = at.function; asks = inr (ap (λ n. Some (r.Begin n)) same) });
+    })

@@ -1,235 +1,199 @@
--- What a thread asks for goes on the trace of its entries.
-use Rattle.std.proofs.Common.{ℕ, ◌≡◌, true, false, List, [], ◌∷◌, ◌++◌, ℤ, Option, Some, None, refl, inl, inr, sym, ap, subst, ◌∙◌, slice_get, append-nil}
+-- What a thread asks for, and that it has ended.
+use Rattle.std.proofs.Common.{ℕ, ◌≡◌, ◌⊎◌, true, false, List, [], ◌∷◌, ◌++◌, ℤ, Option, Some, None, refl, inl, inr, sym, ap, subst, ◌∙◌, slice_get}
 use Rattle.loom_tree.specs.Tree.{Function, Source}
 use Rattle.loom_lang.specs.Rules.{KeepsRules}
-use Rattle.loom_lang.specs.Places.{line_of_function}
+use Rattle.loom_lang.specs.Trace.{Open, Finished, Item, made, begin, IsTrace}
 use Rattle.loom_lang.specs.Acts.{Deed}
-use Rattle.loom_lang.specs.Trace.{Item, Outcome, Open, made, begin, end, ended, IsTrace}
-use Rattle.loom_flow.specs.declared.code.Instr.{Instr}
-use Rattle.loom_flow.specs.declared.code.Entrance.{Entrance}
-use Rattle.loom_flow.specs.Flat.{Flat, State, started, IsFlatTrace}
-use Rattle.loom_flow.specs.Flat as flat
-use Rattle.loom_flow.specs.Lowered.{lowered}
-use Rattle.loom_flow.specs.Code.{IsLowered}
-use Rattle.loom_flow.proofs.Traces.{lowered_traces}
-use Rattle.loom_flow.proofs.Numbered.{lowered_numbers}
+use Rattle.loom_flow.specs.Position.{Position}
+use Rattle.loom_flow.specs.Question.{Question, read, write, lock, unlock, down, up, spawn, join, print}
+use Rattle.loom_flow.specs.Progress.{Progress, goes, asks, traps, ends, nothing, progress}
+use Rattle.loom_flow.specs.FlatCode.{lowered}
 use Rattle.loom_trace.specs.declared.entry.Entry.{Entry}
 use Rattle.loom_trace.specs.declared.request.Request.{Request}
 use Rattle.loom_trace.specs.declared.request.Request.TheVariants as r
-use Rattle.loom_law.specs.Part.{AreTold}
-use Rattle.loom_law.specs.Asked.{granted, trapped, HasNumbers}
+use Rattle.loom_event.specs.Answer.{HasNumbers}
+use Rattle.loom_law.specs.Walk.{Plans, tick, items, Queue}
+use Rattle.loom_law.specs.Part.{IsPart, AsksToAct}
 use Rattle.loom_strand.specs.declared.stage.Birth.{Birth}
 use Rattle.loom_strand.specs.declared.stage.Stage.{Stage}
 use Rattle.loom_strand.specs.declared.stage.Stage.TheVariants as stage
 use Rattle.loom_strand.specs.declared.stage.Want.TheVariants as w
-use Rattle.loom_strand.specs.Machine.{asks, progress}
-use Rattle.loom_strand.specs.Alone.{is_alone, NeedsNoOther}
-use Rattle.loom_strand.specs.Next.{GoesOn, IsNext, Asks, is_begin, has_none, has_ended}
-use Rattle.loom_strand.specs.Strand.{Strand, IsStarted, AsksFor, Wants}
-use Rattle.loom_strand.specs.Kept.{IsSound, Continues, Stops, thread_of, IsWaiting, IsRunning, IsStopping, HasStopped, AsksOnly, IsAt, IsKept}
-use Rattle.loom_strand.proofs.Continues.{continues_open, granted_continues, trapped_stops}
-use Rattle.loom_strand.proofs.Asking.{asks_numbers, never_own, is_own, asks_no_other}
+use Rattle.loom_strand.specs.Machine.{position}
+use Rattle.loom_strand.specs.Question.{request_of, request_at}
+use Rattle.loom_strand.specs.Alone.{has_one_thread, NeedsNoOther}
+use Rattle.loom_strand.specs.Entries.{asks_begin, has_none, has_ended}
+use Rattle.loom_strand.specs.Strand.{Strand, IsStarted, own_of, HasOwnPart, AsksNext, Requests, Wants}
+use Rattle.loom_strand.specs.PlainWalk.{IsPlainWalk}
+use Rattle.loom_strand.specs.StrandInvariant.{IsSound, GoesOnFrom, end_line, thread_with, IsIdle, AsksTick, AsksHere, AsksBegin, IsWaiting, IsRunning, HasStopped, IsAt, IsKept}
+use Rattle.loom_strand.proofs.GoesOn.{is_lowered, tree_trace, open_so_far, begin_open, none_open}
+use Rattle.loom_strand.proofs.Parts.{own_with, plain_part, whole_part, asks_tick, asks_act, Acts, question_acts, trap_acts, end_acts, question_next}
+use Rattle.loom_strand.proofs.Asking.{Asked, asks_numbers, asks_no_other}
 
-pub is_lowered : (p : Source) → KeepsRules p → IsLowered (lowered p)
-is_lowered p l = record { lawful = l; is = refl }
+-- What comes of the position
 
-pub tree_trace : (p : Source) → KeepsRules p → (f : ℕ) (vs : List ℤ) (items : List Item) (q : Outcome) → IsFlatTrace (lowered p) f vs items q → IsTrace p f vs items q
-tree_trace p l f vs items q h = (lowered_traces p l f vs items q).0 h
-
--- the end may be broken off
-pub stops_open : (c : Flat) (p : Source) (f : ℕ) (vs : List ℤ) (items : List Item) → Stops c (thread_of p f) f vs items → IsFlatTrace c f vs items Open
-stops_open c p f vs items h = subst (λ es. IsFlatTrace c f vs es Open) (append-nil items) (h [] Open (inl (refl, refl)))
-
--- Requests of instructions
-
-granted_on : (p : Source) → KeepsRules p → (f : ℕ) (vs : List ℤ) (items : List Item) (z : State) (i : Instr) (q : Request) (v : ℤ)
-    → slice_get (lowered p).code z.at ≡ Some i → progress (lowered p) z i i.step ≡ asks q → Continues (lowered p) (thread_of p f) f vs items z
-    → (o : Option Deed) → granted q v ≡ o → GoesOn p f vs items o
-granted_on p l f vs items z i q v there a h None e = tt
-granted_on p l f vs items z i q v there a h (Some d) e =
-    tree_trace p l f vs (items ++ made d.line d.act ∷ []) Open
-    (continues_open (lowered p) (thread_of p f) f vs (items ++ made d.line d.act ∷ []) _ (granted_continues (lowered p) (thread_of p f) f vs items z i q v d there a e h))
-
-trapped_on : (p : Source) → KeepsRules p → (f : ℕ) (vs : List ℤ) (items : List Item) (z : State) (i : Instr) (q : Request)
-    → slice_get (lowered p).code z.at ≡ Some i → progress (lowered p) z i i.step ≡ asks q → Continues (lowered p) (thread_of p f) f vs items z
-    → (o : Option Deed) → trapped q ≡ o → GoesOn p f vs items o
-trapped_on p l f vs items z i q there a h None e = tt
-trapped_on p l f vs items z i q there a h (Some d) e =
-    tree_trace p l f vs (items ++ made d.line d.act ∷ []) Open
-    (stops_open (lowered p) p f vs (items ++ made d.line d.act ∷ []) (trapped_stops (lowered p) (thread_of p f) f vs items z i q d there a e h))
-
-next_of : (p : Source) → KeepsRules p → (t f : ℕ) (vs : List ℤ) (es : List Entry) (items : List Item) (z : State) (i : Instr) (q : Request)
-    → AreTold p t 0 items es → Continues (lowered p) (thread_of p f) f vs items z → slice_get (lowered p).code z.at ≡ Some i → progress (lowered p) z i i.step ≡ asks q → IsNext p t f vs es q
-next_of p l t f vs es items z i q told h there a = record {
-  items = items;
-  trace = tree_trace p l f vs items Open (continues_open (lowered p) (thread_of p f) f vs items z h);
-  told = told;
-  granted = λ v. granted_on p l f vs items z i q v there a h (granted q v) refl;
-  trapped = trapped_on p l f vs items z i q there a h (trapped q) refl;
-}
-
-own_begin : (q : Request) → is_own q ≡ false → is_begin q ≡ false
-own_begin (r.Begin l) e = let no : true ≡ false = e in absurd (let x : ⊥ = cc in x)
-own_begin (r.End l) e = refl
-own_begin (r.Trap l n) e = refl
-own_begin (r.Read l w) e = refl
-own_begin (r.Write l w v) e = refl
-own_begin (r.Lock l m) e = refl
-own_begin (r.Unlock l m) e = refl
-own_begin (r.Down l x) e = refl
-own_begin (r.Up l x) e = refl
-own_begin (r.Spawn l f vs) e = refl
-own_begin (r.Join l v) e = refl
-own_begin (r.Print l v) e = refl
-own_begin (r.Tick l k) e = refl
-
--- what an instruction asks for
 record IsAskedHere (p : Source) (t : ℕ) (b : Birth) (es : List Entry) (q : Request) : Type 0 where
-  pub next : IsNext p t b.func b.args es q
+  pub next : AsksNext p (own_with t b.func b.args es) q
   pub numbers : HasNumbers p q
-  pub begins : is_begin q ≡ false
-  pub alone : is_alone p ≡ true → NeedsNoOther q
+  pub begins : asks_begin q ≡ false
+  pub alone : has_one_thread p ≡ true → NeedsNoOther q
 
-asked_here : (p : Source) → KeepsRules p → (t : ℕ) (b : Birth) (es : List Entry) (items : List Item) (z : State) (q : Request)
-    → AreTold p t 0 items es → Continues (lowered p) (thread_of p b.func) b.func b.args items z → IsSound (lowered p) z
-    → (i : Instr) × (slice_get (lowered p).code z.at ≡ Some i) × (progress (lowered p) z i i.step ≡ asks q) → IsAskedHere p t b es q
-asked_here p l t b es items z q told h sound at = record {
-  next = next_of p l t b.func b.args es items z at.0 q told h at.1 at.2;
-  numbers = asks_numbers (lowered p) z at.0 q (is_lowered p l) at.1 at.2 (lowered_numbers p l z.at at.0 at.1) sound;
-  begins = own_begin q (never_own (lowered p) z at.0 q at.2);
-  alone = λ a. asks_no_other p z at.0 q a at.1 at.2;
-}
+no_begin : (line : ℕ) (q : Question) → asks_begin (request_of line q) ≡ false
+no_begin line (read w) = refl
+no_begin line (write w v) = refl
+no_begin line (lock m) = refl
+no_begin line (unlock m) = refl
+no_begin line (down s) = refl
+no_begin line (up s) = refl
+no_begin line (spawn f vs) = refl
+no_begin line (join v) = refl
+no_begin line (print v) = refl
 
--- Threads
+same_request : (x q : Request) → ◌≡◌ {A = Option Request} (Some x) (Some q) → x ≡ q
+same_request x q e = cc
 
-asks_here : (s : Strand) (b : Birth) (q : Request) → s.wanted ≡ Some q → has_none s.entries ≡ false → has_ended s.entries ≡ false
-    → Asks s.program s.thread b.func b.args s.entries q → HasNumbers s.program q → is_begin q ≡ false → (is_alone s.program ≡ true → NeedsNoOther q) → AsksFor s b q
-asks_here s b q e some lives next numbers begins alone =
-    record { wanted = e; next = next; numbers = numbers; begins = begins ∙ sym some; lives = lives; alone = alone }
+pub no_request : (q : Request) → ◌≡◌ {A = Option Request} None (Some q) → ⊥
+no_request q e = cc
 
-running_asks : (s : Strand) (b : Birth) (n : ℕ) (z : State) (q : Request) → KeepsRules s.program → s.wanted ≡ Some q → IsRunning s.program s.thread b s.entries (Some q) n z → AsksFor s b q
-running_asks s b n z (r.Tick line k) l e h =
-    asks_here s b (r.Tick line k) e h.begun h.lives
-    (record { items = h.items; trace = tree_trace s.program l b.func b.args h.items Open (continues_open (lowered s.program) (thread_of s.program b.func) b.func b.args h.items z h.goes); told = h.told })
-    tt refl (λ a. tt)
-running_asks s b n z (r.Begin line) l e h =
-    let a : IsAskedHere s.program s.thread b s.entries (r.Begin line) = asked_here s.program l s.thread b s.entries h.items z (r.Begin line) h.told h.goes h.sound h.asks in
-    asks_here s b (r.Begin line) e h.begun h.lives a.next a.numbers a.begins a.alone
-running_asks s b n z (r.End line) l e h =
-    let a : IsAskedHere s.program s.thread b s.entries (r.End line) = asked_here s.program l s.thread b s.entries h.items z (r.End line) h.told h.goes h.sound h.asks in
-    asks_here s b (r.End line) e h.begun h.lives a.next a.numbers a.begins a.alone
-running_asks s b n z (r.Trap line k) l e h =
-    let a : IsAskedHere s.program s.thread b s.entries (r.Trap line k) = asked_here s.program l s.thread b s.entries h.items z (r.Trap line k) h.told h.goes h.sound h.asks in
-    asks_here s b (r.Trap line k) e h.begun h.lives a.next a.numbers a.begins a.alone
-running_asks s b n z (r.Read line w) l e h =
-    let a : IsAskedHere s.program s.thread b s.entries (r.Read line w) = asked_here s.program l s.thread b s.entries h.items z (r.Read line w) h.told h.goes h.sound h.asks in
-    asks_here s b (r.Read line w) e h.begun h.lives a.next a.numbers a.begins a.alone
-running_asks s b n z (r.Write line w v) l e h =
-    let a : IsAskedHere s.program s.thread b s.entries (r.Write line w v) = asked_here s.program l s.thread b s.entries h.items z (r.Write line w v) h.told h.goes h.sound h.asks in
-    asks_here s b (r.Write line w v) e h.begun h.lives a.next a.numbers a.begins a.alone
-running_asks s b n z (r.Lock line m) l e h =
-    let a : IsAskedHere s.program s.thread b s.entries (r.Lock line m) = asked_here s.program l s.thread b s.entries h.items z (r.Lock line m) h.told h.goes h.sound h.asks in
-    asks_here s b (r.Lock line m) e h.begun h.lives a.next a.numbers a.begins a.alone
-running_asks s b n z (r.Unlock line m) l e h =
-    let a : IsAskedHere s.program s.thread b s.entries (r.Unlock line m) = asked_here s.program l s.thread b s.entries h.items z (r.Unlock line m) h.told h.goes h.sound h.asks in
-    asks_here s b (r.Unlock line m) e h.begun h.lives a.next a.numbers a.begins a.alone
-running_asks s b n z (r.Down line x) l e h =
-    let a : IsAskedHere s.program s.thread b s.entries (r.Down line x) = asked_here s.program l s.thread b s.entries h.items z (r.Down line x) h.told h.goes h.sound h.asks in
-    asks_here s b (r.Down line x) e h.begun h.lives a.next a.numbers a.begins a.alone
-running_asks s b n z (r.Up line x) l e h =
-    let a : IsAskedHere s.program s.thread b s.entries (r.Up line x) = asked_here s.program l s.thread b s.entries h.items z (r.Up line x) h.told h.goes h.sound h.asks in
-    asks_here s b (r.Up line x) e h.begun h.lives a.next a.numbers a.begins a.alone
-running_asks s b n z (r.Spawn line f vs) l e h =
-    let a : IsAskedHere s.program s.thread b s.entries (r.Spawn line f vs) = asked_here s.program l s.thread b s.entries h.items z (r.Spawn line f vs) h.told h.goes h.sound h.asks in
-    asks_here s b (r.Spawn line f vs) e h.begun h.lives a.next a.numbers a.begins a.alone
-running_asks s b n z (r.Join line v) l e h =
-    let a : IsAskedHere s.program s.thread b s.entries (r.Join line v) = asked_here s.program l s.thread b s.entries h.items z (r.Join line v) h.told h.goes h.sound h.asks in
-    asks_here s b (r.Join line v) e h.begun h.lives a.next a.numbers a.begins a.alone
-running_asks s b n z (r.Print line v) l e h =
-    let a : IsAskedHere s.program s.thread b s.entries (r.Print line v) = asked_here s.program l s.thread b s.entries h.items z (r.Print line v) h.told h.goes h.sound h.asks in
-    asks_here s b (r.Print line v) e h.begun h.lives a.next a.numbers a.begins a.alone
+asked_here : (p : Source) → KeepsRules p → (t n : ℕ) (b : Birth) (es : List Entry) (z : Position) (q : Request) → (h : IsRunning p t b es (Some q) n z) → h.owed ≡ []
+    → (v : Progress) → progress (lowered p) z ≡ v → request_at (end_line p b.func) v ≡ Some q → IsAskedHere p t b es q
+asked_here p l t n b es z q h none (goes mark y) e is = absurd (no_request q is)
+asked_here p l t n b es z q h none (asks line x behind) e is =
+    let walk : IsPlainWalk p t h.steps es [] n = subst (λ os. IsPlainWalk p t h.steps es os n) none h.walk in
+    subst (IsAskedHere p t b es) (same_request (request_of line x) q is) (record {
+      next = question_next p (own_with t b.func b.args es) line x
+          (λ plans. asks_act p plans t b.func b.args h.steps es n (request_of line x) h.begun walk (question_acts p l b.func b.args (items h.steps) z line x behind e h.goes));
+      numbers = subst (Asked (HasNumbers p)) e (asks_numbers (lowered p) z (is_lowered p l) h.sound);
+      begins = no_begin line x;
+      alone = λ a. subst (Asked NeedsNoOther) e (asks_no_other p z a h.sound);
+    })
+asked_here p l t n b es z q h none (traps line cause) e is =
+    let walk : IsPlainWalk p t h.steps es [] n = subst (λ os. IsPlainWalk p t h.steps es os n) none h.walk in
+    subst (IsAskedHere p t b es) (same_request _ q is) (record {
+      next = λ plans. asks_act p plans t b.func b.args h.steps es n _ h.begun walk (trap_acts p l b.func b.args (items h.steps) z line cause e h.goes);
+      numbers = subst (Asked (HasNumbers p)) e (asks_numbers (lowered p) z (is_lowered p l) h.sound);
+      begins = refl;
+      alone = λ a. tt;
+    })
+asked_here p l t n b es z q h none ends e is =
+    let walk : IsPlainWalk p t h.steps es [] n = subst (λ os. IsPlainWalk p t h.steps es os n) none h.walk in
+    subst (IsAskedHere p t b es) (same_request (r.End (end_line p b.func)) q is) (record {
+      next = λ plans. asks_act p plans t b.func b.args h.steps es n (r.End (end_line p b.func)) h.begun walk (end_acts p l b.func b.args (items h.steps) z e h.goes);
+      numbers = tt;
+      begins = refl;
+      alone = λ a. tt;
+    })
+asked_here p l t n b es z q h none nothing e is = absurd (no_request q is)
 
--- before the begin
-pub waiting_open : (p : Source) → KeepsRules p → (b : Birth) (g : Function) → slice_get p.funcs b.func ≡ Some g → (items : List Item)
-    → flat.thread (lowered p) (Some g) b.func b.args 0 items Open → IsTrace p b.func b.args items Open
-waiting_open p l b g there items h =
-    tree_trace p l b.func b.args items Open (record { most_steps = 0; gives = subst (λ o. flat.thread (lowered p) o b.func b.args 0 items Open) (sym there) h })
+-- the tick that is owed
+tick_here : (p : Source) → KeepsRules p → (t n line place : ℕ) (b : Birth) (es : List Entry) (z : Position) (q : Request) → (h : IsRunning p t b es (Some q) n z)
+    → h.owed ≡ (line, tick place) ∷ [] → r.Tick line place ≡ q → IsAskedHere p t b es q
+tick_here p l t n line place b es z q h owed is =
+    let walk : IsPlainWalk p t h.steps es ((line, tick place) ∷ []) n = subst (λ os. IsPlainWalk p t h.steps es os n) owed h.walk in
+    subst (IsAskedHere p t b es) is (record {
+      next = λ plans. asks_tick p plans t b.func b.args h.steps es line place n h.begun walk
+          (tree_trace p l b.func b.args (items h.steps) Open (open_so_far (lowered p) (thread_with p b.func) b.func b.args (items h.steps) z h.goes));
+      numbers = tt;
+      begins = refl;
+      alone = λ a. tt;
+    })
 
-started_open : (c : Flat) (t : _) (f : ℕ) (vs : List ℤ) (o : Option Entrance) → started c t f vs 0 o [] Open
-started_open c t f vs None = (refl, refl)
-started_open c t f vs (Some e) = inl (refl, refl)
+running_here : (p : Source) → KeepsRules p → (t n : ℕ) (b : Birth) (es : List Entry) (z : Position) (q : Request) → IsRunning p t b es (Some q) n z → IsAskedHere p t b es q
+running_here p l t n b es z q h = by_owed h.asks
+  where
+    by_owed : IsIdle (Some q) h.owed n ⊎ (AsksTick (Some q) h.owed ⊎ AsksHere (lowered p) (end_line p b.func) z (Some q) h.owed) → IsAskedHere p t b es q
+    by_owed (inl x) = absurd (no_request q (sym x.0))
+    by_owed (inr (inl (line, place, is, owed))) = tick_here p l t n line place b es z q h owed (same_request (r.Tick line place) q (sym is))
+    by_owed (inr (inr (x, is, at, owed))) = asked_here p l t n b es z q h owed (progress (lowered p) z) refl (at ∙ sym is)
 
-begins_next : (s : Strand) (b : Birth) → KeepsRules s.program → IsWaiting s.program b s.entries s.wanted
-    → IsNext s.program s.thread b.func b.args s.entries (r.Begin (line_of_function (slice_get s.program.funcs b.func)))
-begins_next s b l h = record {
-  items = [];
-  trace = waiting_open s.program l b h.function.0 h.function.1 [] (inl (refl, refl));
-  told = h.none;
+running_requests : (s : Strand) (b : Birth) (n : ℕ) (z : Position) (q : Request) → KeepsRules s.program → s.wanted ≡ Some q → IsRunning s.program s.thread b s.entries (Some q) n z → Requests s b q
+running_requests s b n z q l e h =
+    let a : IsAskedHere s.program s.thread b s.entries q = running_here s.program l s.thread n b s.entries z q h in
+    record { wanted = e; next = a.next; numbers = a.numbers; begins = a.begins ∙ sym h.begun; lives = h.lives; alone = a.alone }
+
+-- Before the begin
+
+pub waiting_open : (p : Source) → KeepsRules p → (b : Birth) (g : Function) → slice_get p.funcs b.func ≡ Some g → IsTrace p b.func b.args [] Open
+waiting_open p l b g there = tree_trace p l b.func b.args [] Open (none_open (lowered p) b.func b.args g there)
+
+begins_next : (p : Source) → KeepsRules p → (t : ℕ) (b : Birth) (g : Function) → slice_get p.funcs b.func ≡ Some g
+    → AsksNext p (own_with t b.func b.args []) (r.Begin (end_line p b.func))
+begins_next p l t b g there = λ plans. record {
+  steps = [];
+  next = made (end_line p b.func) begin;
+  trace = first;
+  woven = tt;
+  tells = refl;
+  taken = refl;
+  rests = refl;
   granted = λ v. first;
   trapped = tt;
 }
   where
-    first : IsTrace s.program b.func b.args (made (line_of_function (slice_get s.program.funcs b.func)) begin ∷ []) Open
-    first = subst (λ m. IsTrace s.program b.func b.args (made m begin ∷ []) Open) (sym (ap line_of_function h.function.1))
-        (waiting_open s.program l b h.function.0 h.function.1 (made h.function.0.line begin ∷ [])
-        (inr ([], refl, started_open (lowered s.program) (record { program = s.program; stopped = ended h.function.0.line }) b.func b.args (slice_get (lowered s.program).entrances b.func))))
+    first : IsTrace p b.func b.args (made (end_line p b.func) begin ∷ []) Open
+    first = tree_trace p l b.func b.args _ Open (begin_open (lowered p) b.func b.args g there)
 
 -- the one request that may be asked for
-pub only_this : (q r : Request) (wanted : Option Request) → wanted ≡ Some q → AsksOnly r wanted → r ≡ q
-only_this q r wanted e (inl none) = let no : ◌≡◌ {A = Option Request} None (Some q) = sym none ∙ e in absurd (let x : ⊥ = cc in x)
-only_this q r wanted e (inr is) = let same : ◌≡◌ {A = Option Request} (Some r) (Some q) = sym is ∙ e in cc
+pub only_begin : (line : ℕ) (q : Request) (wanted : Option Request) → wanted ≡ Some q → AsksBegin line wanted → r.Begin line ≡ q
+only_begin line q wanted e (inl none) = absurd (no_request q (sym none ∙ e))
+only_begin line q wanted e (inr is) = same_request (r.Begin line) q (sym is ∙ e)
 
-waiting_asks : (s : Strand) (b : Birth) (q : Request) → KeepsRules s.program → s.wanted ≡ Some q → IsWaiting s.program b s.entries s.wanted → AsksFor s b q
-waiting_asks s b q l e h =
-    let same : r.Begin (line_of_function (slice_get s.program.funcs b.func)) ≡ q = only_this q (r.Begin (line_of_function (slice_get s.program.funcs b.func))) s.wanted e h.asks in
-    subst (AsksFor s b) same (record {
+waiting_requests : (s : Strand) (b : Birth) (q : Request) → KeepsRules s.program → s.wanted ≡ Some q → IsWaiting s.program b s.entries s.wanted → Requests s b q
+waiting_requests s b q l e h =
+    let same : r.Begin (end_line s.program b.func) ≡ q = only_begin (end_line s.program b.func) q s.wanted e h.asks in
+    subst (Requests s b) same (record {
       wanted = e ∙ ap Some (sym same);
-      next = begins_next s b l h;
+      next = subst (λ es. AsksNext s.program (own_with s.thread b.func b.args es) (r.Begin (end_line s.program b.func))) (sym h.none) (begins_next s.program l s.thread b h.function.0 h.function.1);
       numbers = tt;
       begins = sym (ap has_none h.none);
       lives = ap has_ended h.none;
       alone = λ a. tt;
     })
 
--- at the end
-ends_next : (s : Strand) (b : Birth) → KeepsRules s.program → IsStopping s.program s.thread b s.entries s.wanted
-    → IsNext s.program s.thread b.func b.args s.entries (r.End (line_of_function (slice_get s.program.funcs b.func)))
-ends_next s b l h = record {
-  items = h.items;
-  trace = tree_trace s.program l b.func b.args h.items Open (stops_open (lowered s.program) s.program b.func b.args h.items h.stops);
-  told = h.told;
-  granted = λ v. tree_trace s.program l b.func b.args (h.items ++ made (line_of_function (slice_get s.program.funcs b.func)) end ∷ []) Open
-      (h.stops (made (line_of_function (slice_get s.program.funcs b.func)) end ∷ []) Open (inr ([], refl, (refl, inr refl))));
-  trapped = tt;
-}
+-- Threads
 
-stopping_asks : (s : Strand) (b : Birth) (q : Request) → KeepsRules s.program → s.wanted ≡ Some q → IsStopping s.program s.thread b s.entries s.wanted → AsksFor s b q
-stopping_asks s b q l e h =
-    let same : r.End (line_of_function (slice_get s.program.funcs b.func)) ≡ q = only_this q (r.End (line_of_function (slice_get s.program.funcs b.func))) s.wanted e h.asks in
-    subst (AsksFor s b) same (record {
-      wanted = e ∙ ap Some (sym same);
-      next = ends_next s b l h;
-      numbers = tt;
-      begins = sym h.begun;
-      lives = h.lives;
-      alone = λ a. tt;
-    })
-
-asks_at : (s : Strand) (b : Birth) (q : Request) (x : Stage) → KeepsRules s.program → s.wanted ≡ Some q → IsAt x s (Some b) → AsksFor s b q
-asks_at s b q stage.Waits l e h = waiting_asks s b q l e h
-asks_at s b q stage.Runs l e h =
-    running_asks s b s.inside.passed s.inside.held.state q l e (subst (λ o. IsRunning s.program s.thread b s.entries o s.inside.passed s.inside.held.state) e h)
-asks_at s b q stage.Stops l e h = stopping_asks s b q l e h
-asks_at s b q stage.Over l e h = let no : ◌≡◌ {A = Option Request} None (Some q) = sym h.asks ∙ e in absurd (let x : ⊥ = cc in x)
+requests_at : (s : Strand) (b : Birth) (q : Request) (x : Stage) → KeepsRules s.program → s.wanted ≡ Some q → IsAt x s (Some b) → Requests s b q
+requests_at s b q stage.Waits l e h = waiting_requests s b q l e h
+requests_at s b q stage.Runs l e h =
+    running_requests s b s.inside.passed (position s.inside.machine) q l e (subst (λ o. IsRunning s.program s.thread b s.entries o s.inside.passed (position s.inside.machine)) e h)
+requests_at s b q stage.Over l e h = absurd (no_request q (sym h.asks ∙ e))
 
 -- what a thread asks for
 pub kept_asks : (s : Strand) (o : Option Birth) (q : Request) → IsKept s → s.birth ≡ o → IsStarted o → s.wanted ≡ Some q → Wants s o (w.Ask q)
 kept_asks s None q h e none is = none
-kept_asks s (Some b) q h e none is = asks_at s b q s.inside.stage h.lawful is (subst (IsAt s.inside.stage s) e h.stage)
+kept_asks s (Some b) q h e none is = requests_at s b q s.inside.stage h.lawful is (subst (IsAt s.inside.stage s) e h.stage)
+
+some_ended : (es : List Entry) → has_ended es ≡ true → has_none es ≡ false
+some_ended [] h = cc
+some_ended (x ∷ es) h = refl
 
 -- and that it has ended
 pub kept_over : (s : Strand) (o : Option Birth) → IsKept s → s.birth ≡ o → IsStarted o → s.inside.stage ≡ stage.Over → Wants s o w.Ended
 kept_over s None h e none is = none
 kept_over s (Some b) h e none is =
     let over : HasStopped s.program s.thread b s.entries s.wanted = subst (λ x. IsAt x s (Some b)) is (subst (IsAt s.inside.stage s) e h.stage) in
-    record { whole = over.whole; ended = over.ended }
+    record {
+      whole = λ plans. whole_part s.program plans s.thread b.func b.args over.steps s.entries over.owed over.passed (some_ended s.entries over.ended) over.walk over.whole;
+      ended = over.ended;
+    }
+
+-- Its entries are a part.
+
+part_at : (s : Strand) (b : Birth) (x : Stage) → KeepsRules s.program → IsAt x s (Some b) → HasOwnPart s (Some b)
+part_at s b stage.Waits l h = λ plans. subst (λ es. IsPart s.program plans (own_with s.thread b.func b.args es)) (sym h.none) (record {
+  steps = [];
+  ahead = [];
+  outcome = Open;
+  trace = waiting_open s.program l b h.function.0 h.function.1;
+  woven = tt;
+  tells = refl;
+  taken = refl;
+})
+part_at s b stage.Runs l h = λ plans.
+    plain_part s.program plans s.thread b.func b.args h.steps s.entries h.owed s.inside.passed h.begun h.walk Open
+    (tree_trace s.program l b.func b.args (items h.steps) Open
+    (open_so_far (lowered s.program) (thread_with s.program b.func) b.func b.args (items h.steps) (position s.inside.machine) h.goes))
+part_at s b stage.Over l h = λ plans. plain_part s.program plans s.thread b.func b.args h.steps s.entries h.owed h.passed (some_ended s.entries h.ended) h.walk Finished h.whole
+
+pub kept_part : (s : Strand) (o : Option Birth) → IsKept s → s.birth ≡ o → IsStarted o → HasOwnPart s o
+kept_part s None h e none = none
+kept_part s (Some b) h e some = part_at s b s.inside.stage h.lawful (subst (IsAt s.inside.stage s) e h.stage)

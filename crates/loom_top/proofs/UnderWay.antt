@@ -1,5 +1,5 @@
 -- A thread, the journal and the words, from turn to turn.
-use Rattle.std.proofs.Common.{ℕ, ◌+◌, ◌<◌, ◌≡◌, ℤ, true, false, List, [], ◌∷◌, ◌++◌, length, length-append, Option, Some, sym, ap, subst, ◌∙◌, arith, codes}
+use Rattle.std.proofs.Common.{ℕ, ◌+◌, ◌<◌, ◌≡◌, ℤ, true, false, List, [], ◌∷◌, ◌++◌, length, length-append, Option, Some, refl, sym, ap, subst, ◌∙◌, arith, codes}
 use Rattle.loom_tree.specs.Tree.{Source}
 use Rattle.loom_lang.specs.Numbers.{function_number}
 use Rattle.loom_trace.specs.declared.entry.Entry.{Entry}
@@ -78,13 +78,13 @@ own_same s f es one same = rw (one, same) refl
 
 pub asking : {p : Source} {f n : ℕ} {s z : Strand} {j : Contents} {vs : List ℤ} {w : Want} {q : Request} → IsUnderWay p f n s j vs → IsSame s s.birth s.entries z
     → Wants z z.birth w → w ≡ want.Ask q → IsAsking p f n z j vs q
-asking {f = f} {z = z} {j = j} {q = q} before same wants is =
+asking {p = p} {f = f} {z = z} {j = j} {q = q} before same wants is =
     let u = same_way before same in
     let a : Requests z (main f) q = subst (λ (b : Option Birth). Wants z b (want.Ask q)) u.birth (subst (λ (x : Want). Wants z z.birth x) is wants) in
     record {
       way = u;
       wanted = a.wanted;
-      next = subst (λ (x : Own). AsksNext _ x q) (own_same z f j.entries u.thread u.entries) (subst (λ (o : Source). AsksNext o (own_of z (main f)) q) u.program a.next);
+      next = subst (λ (x : Own). AsksNext p x q) (own_same z f j.entries u.thread u.entries) (subst (λ (o : Source). AsksNext o (own_of z (main f)) q) u.program a.next);
       numbers = subst (λ (o : Source). HasNumbers o q) u.program a.numbers;
       alone = subst (λ (o : Source). has_one_thread o ≡ true → NeedsNoOther q) u.program a.alone;
       begins = a.begins ∙ ap has_none u.entries;

@@ -1,9 +1,15 @@
-use Rattle.std.proofs.Common.{◌∙◌, sym, ap}
-use Rattle.loom_strand.specs.Turned.{request_of}
+use Rattle.std.proofs.Common.{refl, sym, subst}
+use Rattle.loom_flow.specs.State.{operand, without}
+use Rattle.loom_flow.specs.Question.{write}
+use Rattle.loom_flow.specs.Progress.{asks_act, of_ask}
+use Rattle.loom_trace.specs.declared.request.Request.TheVariants as r
+use Rattle.loom_strand.specs.Question.{IsAskedBy}
+use Rattle.loom_strand.proofs.Cells.{asked_cell}
 use Rattle.loom_strand.proofs.ask.request.Goals as goal
 
-pub returns-in-ReadCell : goal.returns-in-ReadCell
-returns-in-ReadCell c = c.read_cell.ensures ∙ sym (ap (request_of c.args.machine.now.state c.args.i.now.line) c.in-ReadCell.is)
-
 pub returns-in-WriteCell : goal.returns-in-WriteCell
-returns-in-WriteCell c = c.write_cell.ensures ∙ sym (ap (request_of c.args.machine.now.state c.args.i.now.line) c.in-WriteCell.is)
+returns-in-WriteCell c =
+    let z = c.args.machine.now.state in
+    subst (λ x. IsAskedBy c.write_cell.result (of_ask z c.args.line x)) (sym c.in-WriteCell.is)
+    (asked_cell c.args.line c.in-WriteCell.array (operand (without z c.in-WriteCell.b) c.in-WriteCell.n) (λ w. r.Write c.args.line w (operand z c.in-WriteCell.b))
+    (λ w. asks_act c.args.line (write w (operand z c.in-WriteCell.b)) (without (without z c.in-WriteCell.b) c.in-WriteCell.n)) c.write_cell.result (λ w. refl) c.write_cell.ensures)

@@ -1,7 +1,7 @@
 use Rattle.std.proofs.Common.{pos, inl, refl, sym, subst}
 use Rattle.loom_trace.specs.declared.entry.Entry.TheVariants as e
 use Rattle.loom_trace.specs.declared.request.Request.{Request}
-use Rattle.loom_law.specs.Asked.{IsAnswerTo}
+use Rattle.loom_event.specs.Answer.{IsAnswerTo}
 use Rattle.loom_strand.proofs.tests.granted.Goals as goal
 
 pub returns-in-Begin : goal.returns-in-Begin

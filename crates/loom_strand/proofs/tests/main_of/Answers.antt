@@ -3,9 +3,9 @@ use Rattle.loom_tree.specs.Tree.{Function, Source}
 use Rattle.loom_lang.specs.Rules.{locals_of}
 use Rattle.loom_flow.specs.declared.code.Entrance.{Entrance}
 use Rattle.loom_flow.specs.Flat.{Flat}
-use Rattle.loom_flow.specs.Lowered.{size, place_count, entrances}
+use Rattle.loom_flow.specs.FlatCode.{size, place_count, entrances}
 use Rattle.loom_flow.specs.Code.{IsLowered}
-use Rattle.loom_law.specs.Asked.{IsFunctionWith}
+use Rattle.loom_event.specs.Answer.{IsFunctionWith}
 use Rattle.loom_strand.proofs.tests.main_of.Goals as goal
 
 same_entrance : (d e : Entrance) → ◌≡◌ {A = Option Entrance} (Some d) (Some e) → d ≡ e

@@ -1,24 +1,25 @@
-use Rattle.std.proofs.Common.{List, ◌≡◌, ◌∙◌, refl, sym, ap, subst}
+use Rattle.std.proofs.Common.{◌≡◌, ◌∙◌, refl, sym, subst}
 use Rattle.std.specs.Vec.{vec_capacity}
-use Rattle.loom_flow.specs.declared.code.Instr.{Instr}
-use Rattle.loom_flow.specs.declared.code.Entrance.{Entrance}
-use Rattle.loom_flow.specs.Flat.{Flat}
-use Rattle.loom_flow.specs.Lowered.{lowered}
-use Rattle.loom_law.specs.Asked.{IsAnswer}
+use Rattle.loom_flow.specs.Code.{IsLowered}
+use Rattle.loom_flow.specs.FlatCode.{lowered}
+use Rattle.loom_event.specs.Answer.{IsAnswer}
 use Rattle.loom_strand.specs.Strand.{Strand}
-use Rattle.loom_strand.specs.Kept.{IsKept}
-use Rattle.loom_strand.specs.Replied.{reply_of, CanFollow, Follows}
+use Rattle.loom_strand.specs.StrandInvariant.{IsKept}
+use Rattle.loom_strand.specs.Answer.{answer_of, CanFollow, Follows}
 use Rattle.loom_strand.specs.contracts.strand.Strand.{the_view}
 use Rattle.loom_strand.proofs.Resumed.{flat_is}
-use Rattle.loom_strand.proofs.Answered.{after, with_entries}
-use Rattle.loom_strand.proofs.Followed.{can_answer, answered_kept, answer_started, kept_part}
+use Rattle.loom_strand.proofs.Answered.{after, with_entries, can_answer, answered_kept, answer_started}
+use Rattle.loom_strand.proofs.Wanted.{kept_part}
 use Rattle.loom_strand.proofs.strand.Strand.answer.Goals as goal
 
 pub follow-stage-requires : goal.follow-stage-requires
 follow-stage-requires c =
     let s : Strand = the_view c.self.inside in
     let asked : IsAnswer s.thread s.wanted c.args.e = subst (λ (z : Strand). IsAnswer z.thread z.wanted c.args.e) (sym c.self.view_is) c.requires.answers in
-    subst (CanFollow c.self.inside.machine) (sym c.reply_of-reply.ensures) (can_answer s s.birth s.wanted c.args.e c.self.invariant refl refl asked)
+    let program : c.args.flow.now.program ≡ s.program = c.requires.program ∙ (let P : Strand → Type 0 = λ z. z.program ≡ s.program in subst P c.self.view_is refl) in
+    let flat : c.args.flow.now ≡ lowered s.program = flat_is c.args.flow.now s.program c.code.ensures.lowered program in
+    subst (λ d. CanFollow d c.self.inside.machine c.in-Some.birth c.answer_of.result) (sym flat)
+    (subst (CanFollow (lowered s.program) c.self.inside.machine c.in-Some.birth) (sym c.answer_of.ensures) (can_answer s c.in-Some.birth s.wanted c.args.e c.self.invariant c.in-Some.is refl asked))
 
 pub invariant_of-self : goal.invariant_of-self
 invariant_of-self c =
@@ -26,15 +27,11 @@ invariant_of-self c =
     let asked : IsAnswer s.thread s.wanted c.args.e = subst (λ (z : Strand). IsAnswer z.thread z.wanted c.args.e) (sym c.self.view_is) c.requires.answers in
     let program : c.args.flow.now.program ≡ s.program = c.requires.program ∙ (let P : Strand → Type 0 = λ z. z.program ≡ s.program in subst P c.self.view_is refl) in
     let flat : c.args.flow.now ≡ lowered s.program = flat_is c.args.flow.now s.program c.code.ensures.lowered program in
-    let entrances : c.entrances.result.now ≡ (lowered s.program).entrances = c.entrances.ensures.entrances ∙ ap (λ (z : Flat). z.entrances) flat in
-    let code : c.code.result.now ≡ (lowered s.program).code = c.code.ensures.code ∙ ap (λ (z : Flat). z.code) flat in
-    let follows : Follows (lowered s.program).entrances (lowered s.program).code c.self.inside.machine c.follow-stage.new.machine c.self.inside.passed (reply_of s.birth s.wanted c.args.e) c.follow-stage.result.0 c.follow-stage.result.1 =
-    subst
-    (λ y. Follows (lowered s.program).entrances (lowered s.program).code c.self.inside.machine c.follow-stage.new.machine c.self.inside.passed y c.follow-stage.result.0 c.follow-stage.result.1) c.reply_of-reply.ensures
-    (subst (λ (y : List Entrance). Follows y (lowered s.program).code c.self.inside.machine c.follow-stage.new.machine c.self.inside.passed c.reply_of-reply.result c.follow-stage.result.0 c.follow-stage.result.1) entrances
-    (subst (λ (y : List Instr). Follows c.entrances.result.now y c.self.inside.machine c.follow-stage.new.machine c.self.inside.passed c.reply_of-reply.result c.follow-stage.result.0 c.follow-stage.result.1) code c.follow-stage.ensures)) in
+    let follows : Follows (lowered s.program) c.self.inside.machine c.follow-stage.new.machine c.in-Some.birth (answer_of c.args.e) c.follow-stage.result.0 c.follow-stage.result.1 =
+    subst (λ y. Follows (lowered s.program) c.self.inside.machine c.follow-stage.new.machine c.in-Some.birth y c.follow-stage.result.0 c.follow-stage.result.1) c.answer_of.ensures
+    (subst (λ d. Follows d c.self.inside.machine c.follow-stage.new.machine c.in-Some.birth c.answer_of.result c.follow-stage.result.0 c.follow-stage.result.1) flat c.follow-stage.ensures) in
     let kept : IsKept (after s c.args.e c.follow-stage.new.machine c.follow-stage.result.0 c.follow-stage.result.1) =
-    answered_kept s s.birth s.wanted c.args.e c.follow-stage.new.machine c.follow-stage.result.0 c.follow-stage.result.1 c.self.invariant refl refl asked follows in
+    answered_kept s c.in-Some.birth s.wanted c.args.e c.follow-stage.new.machine c.follow-stage.result.0 c.follow-stage.result.1 c.self.invariant c.in-Some.is refl asked follows in
     subst (λ n. IsKept (with_entries s c.push_reserved.new.self.items n c.follow-stage.new.machine c.follow-stage.result.0 c.follow-stage.result.1)) (sym c.push_reserved.ensures.capacity)
     (subst (λ es. IsKept (with_entries s es s.limit c.follow-stage.new.machine c.follow-stage.result.0 c.follow-stage.result.1)) (sym c.push_reserved.ensures.items) kept)
 

@@ -3,6 +3,7 @@
 
 use loom_io::adapters::{DirShelf, OutSink};
 use loom_top::alone::loom_alone;
+use loom_tree::name::NoMemory;
 use std::env;
 use std::io::{ErrorKind, Print};
 use std::process::ExitCode;
@@ -11,35 +12,87 @@ use std::rt::{Env, Files};
 /// The status where memory for the words is wanting.
 const NO_MEMORY: u8 = 6;
 
-// Where a word isn't UTF-8, the call gets no words, and so answers that they are no command.
-fn status<R: Files + Print + Env + AllocGlobal>(rt: &R) -> u8 {
-    let mut shelf = DirShelf { rt, faults: 0 };
-    let mut sink = OutSink { rt, faults: 0 };
-    let args = match env::args(rt) {
-        Ok(args) => args,
-        Err(error) => {
-            return if error.kind() == ErrorKind::OutOfMemory {
-                NO_MEMORY
-            } else {
-                loom_alone(rt.alloc(), &[], &mut shelf, &mut sink)
-            };
+// The words behind the program's name. Where a word isn't UTF-8 there are none, and so the call
+// answers that they are no command.
+fn words_of<R: Env + AllocGlobal>(rt: &R) -> Result<Vec<String>, NoMemory> {
+    let mut words = Vec::new(rt.alloc());
+    match env::args(rt) {
+        Ok(args) => {
+            for arg in args.skip(1) {
+                words.push(arg)?;
+            }
         }
-    };
-    let mut texts = Vec::new(rt.alloc());
-    for arg in args.skip(1) {
-        if texts.push(arg).is_err() {
-            return NO_MEMORY;
+        Err(error) => {
+            if error.kind() == ErrorKind::OutOfMemory {
+                return Err(NoMemory);
+            }
         }
     }
+    Ok(words)
+}
+
+fn status_of<R: Files + Print + Env + AllocGlobal>(rt: &R) -> Result<u8, NoMemory> {
+    let texts = words_of(rt)?;
     let mut words = Vec::new(rt.alloc());
     for text in &texts {
-        if words.push(text.as_str()).is_err() {
-            return NO_MEMORY;
-        }
+        words.push(text.as_str())?;
     }
-    loom_alone(rt.alloc(), &words, &mut shelf, &mut sink)
+    let mut shelf = DirShelf { rt, faults: 0 };
+    let mut sink = OutSink { rt, faults: 0 };
+    Ok(loom_alone(rt.alloc(), &words, &mut shelf, &mut sink))
 }
 
 fn main(rt: HostRuntime) -> ExitCode {
-    ExitCode::from(status(&rt))
+    ExitCode::from(status_of(&rt).unwrap_or(NO_MEMORY))
+}
+
+#[cfg(test)]
+mod tests {
+    use super::*;
+    use std::env::{FillError, VarError};
+    use std::test::Fail;
+
+    // The words of a command, as the system gives them.
+    #[derive(Drop)]
+    struct Words<'a>(&'a [&'a [u8]]);
+
+    impl Env for Words<'_> {
+        fn arg(&self, i: usize, buf: &mut [u8]) -> Result<usize, FillError> {
+            let Some(word) = self.0.get(i) else {
+                return Err(FillError::NotPresent);
+            };
+            if buf.len() < word.len() {
+                return Err(FillError::TooLong);
+            }
+            buf[..word.len()].copy_from_slice(word);
+            Ok(word.len())
+        }
+
+        fn var(&self, _name: &str, _buf: &mut [u8]) -> Result<usize, FillError> {
+            Err(FillError::NotPresent)
+        }
+
+        fn var_at(&self, _i: usize, _buf: &mut [u8]) -> Result<usize, FillError> {
+            Err(FillError::NotPresent)
+        }
+    }
+
+    #[test]
+    fn tells_the_words(rt: HostRuntime) -> Result<(), Fail> {
+        let rows: [(&[&[u8]], usize); 5] = [
+            (&[], 0),
+            (&[b"loom"], 0),
+            (&[b"loom", b"run", b"p1.lm"], 2),
+            (&[b"loom", b"run", b"p1.lm", b"--steps", b"3"], 4),
+            (&[b"loom", b"run", b"\xff"], 0),
+        ];
+        for (i, (given, count)) in rows.iter().enumerate() {
+            let told = words_of(&(Words(given), rt.alloc()))?;
+            assert_eq!(rt; told.len(), *count, "in row {i}");
+            for (word, text) in told.iter().zip(given.iter().skip(1)) {
+                assert_eq!(rt; word.as_bytes(), *text, "in row {i}");
+            }
+        }
+        Ok(())
+    }
 }

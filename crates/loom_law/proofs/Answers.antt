@@ -1,5 +1,5 @@
 -- What a thread asks for gives one more entry of a lawful journal.
-use Rattle.std.proofs.Common.{ℕ, zero, suc, ◌≡◌, ◌==◌, ◌⊎◌, inl, inr, Bool, true, false, List, [], ◌∷◌, ◌++◌, ℤ, pos, length, take, drop, Option, Some, None, refl, sym, ap, subst, ◌∙◌, if◌then◌else◌, arith}
+use Rattle.std.proofs.Common.{ℕ, ◌≡◌, inl, inr, false, List, [], ◌∷◌, ◌++◌, ℤ, pos, length, take, drop, Option, Some, None, refl, sym, ap, subst, ◌∙◌}
 use Rattle.std.proofs.lemmas.List.{take-append-drop}
 use Rattle.loom_tree.specs.Tree.{Source}
 use Rattle.loom_trace.specs.declared.entry.Entry.{Entry}
@@ -8,20 +8,20 @@ use Rattle.loom_trace.specs.declared.entry.What.{What}
 use Rattle.loom_trace.specs.declared.entry.What.TheVariants as w
 use Rattle.loom_trace.specs.declared.request.Request.{Request}
 use Rattle.loom_lang.specs.Places.{Place}
-use Rattle.loom_lang.specs.Trace.{Cause, division, index, not_held, not_spawned, threads, frames, overflow, Act, begin, end, trap, read, write, lock, unlock, down, up, spawn, join, print, Item, made, begins, done, edge, enter, out, Open, IsTrace}
+use Rattle.loom_lang.specs.Trace.{division, index, not_held, not_spawned, threads, frames, overflow, Act, begin, end, trap, read, write, lock, unlock, down, up, spawn, join, print, Item, made, begins, done, edge, enter, out, Open, IsTrace}
 use Rattle.loom_lang.specs.Acts.{Deed, AnswerTheSame}
 use Rattle.loom_lang.specs.Alike.{AreAlike}
 use Rattle.loom_lang.proofs.NextItem.{one_next_item}
-use Rattle.loom_event.specs.Answer.{granted, trapped}
-use Rattle.loom_event.specs.Event.{Event, entry_by, targets}
+use Rattle.loom_event.specs.Answer.{trapped}
+use Rattle.loom_event.specs.Event.{entry_by, targets}
 use Rattle.loom_event.specs.Entries.{thread_of, is_thread}
-use Rattle.loom_event.specs.Replay.{ThreadState, Store, start, thread_at, replay, IsAllowed}
-use Rattle.loom_law.specs.Walk.{Version, Plans, Operation, wait, enters, at, past, post, leave, back, tick, cross, blocked, Queue, Step, goes, makes, items, told, entry_of_operation, Walk, unborn, behind_entry, crossing, after, walked, request_place, place_of_item, place_of_next, Acts, AsksFor, MayCross, MayBlock, MayStand, AreWoven}
-use Rattle.loom_law.specs.Part.{Own, led, IsPart, KeepsAway, AsksToAct, GoesOn}
+use Rattle.loom_event.specs.Replay.{ThreadState, start, thread_at, replay, IsAllowed}
+use Rattle.loom_law.specs.Walk.{Version, Plans, wait, enters, at, past, post, leave, back, tick, cross, blocked, Queue, Step, goes, makes, items, told, Walk, unborn, behind_entry, crossing, after, walked, request_place, place_of_item, place_of_next, Acts, AsksFor, MayCross, MayBlock, MayStand, AreWoven}
+use Rattle.loom_law.specs.Part.{Own, IsPart, KeepsAway, AsksToAct, GoesOn}
 use Rattle.loom_law.specs.Control.{Control, control, taken, entries_of}
-use Rattle.loom_law.specs.Lawful.{Setting, Front, front_of, plans, own, IsFlagged, is_begin, is_cross, owes_cross, IsLawful, MayFollow, Permits}
-use Rattle.loom_law.specs.Laws.{with_newest, own_with, MayTurn}
-use Rattle.loom_law.specs.TurnLaws.{IsAnswered, event_of_deed, MayAnswer, HasAnswers, HasAnswerTurns}
+use Rattle.loom_law.specs.Lawful.{Setting, Front, front_of, plans, own, IsFlagged, is_cross, IsLawful, MayFollow, Permits}
+use Rattle.loom_law.specs.Laws.{with_newest}
+use Rattle.loom_law.specs.TurnLaws.{IsAnswered, event_of_deed, HasAnswers, HasAnswerTurns}
 use Rattle.loom_law.proofs.OnePart.{told_append}
 use Rattle.loom_law.proofs.Earlier.{items_ahead, to_take, an_own, stays, by_test, if_true, if_false, IsOf}
 use Rattle.loom_law.proofs.Lawful.{event_turns}
@@ -506,8 +506,7 @@ answers s es h t q d m =
     let trace : IsTrace p x.func x.args (items steps ++ made d.line d.act ∷ []) Open = goes_with p (plans s) x q d m.asks m.answer in
     let a : ActPart p (plans s) t m.state.func m.state.args vs (with_newest (entry_by t d.line d.act) (Control.version (control s.commands es)) vs) (entries_of t es) d.line d.act steps =
     act_part p (plans s) t m.state.func m.state.args vs (Control.version (control s.commands es)) (entries_of t es) d.line d.act steps trace
-    (woven_ahead p (plans s) x q d m.asks m.answer (free_steps s es h t d steps m.asks.tells m.allowed)) m.asks.tells m.asks.rests m.asks.taken in
-    (
+    (woven_ahead p (plans s) x q d m.asks m.answer (free_steps s es h t d steps m.asks.tells m.allowed)) m.asks.tells m.asks.rests m.asks.taken in (
       record {
         state = m.state;
         there = m.there;

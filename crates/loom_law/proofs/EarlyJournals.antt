@@ -1,5 +1,5 @@
 -- Lawful journals of runs with a filter that is installed before the first entry, or refused, or comes too late.
-use Rattle.std.proofs.Common.{ℕ, Bool, true, false, ◌≡◌, ◌++◌, zero, suc, inl, inr, pos, List, [], ◌∷◌, Some, None, refl, codes, arith}
+use Rattle.std.proofs.Common.{ℕ, true, false, ◌≡◌, zero, suc, inl, inr, pos, List, [], ◌∷◌, Some, None, refl, codes, arith}
 use Rattle.loom_tree.specs.declared.expression.Op.TheVariants as o
 use Rattle.loom_tree.specs.Tree.{num, var, bin, Right, Simple, let_, set, simple, if_, while_, Source}
 use Rattle.loom_tree.specs.Tree as tree

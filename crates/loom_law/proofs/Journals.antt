@@ -1,14 +1,14 @@
 -- Facts on lawful journals that are written out: what each entry of a thread needs, as one test.
-use Rattle.std.proofs.Common.{ℕ, ◌≤◌, ◌<◌, ◌≡◌, ◌==◌, ◌⊎◌, inl, inr, Bool, true, false, not, ◌&&◌, ◌||◌, nat_lt, List, [], ◌∷◌, Option, Some, None, refl, sym, ap, subst, ◌∙◌, arith}
+use Rattle.std.proofs.Common.{ℕ, ◌≤◌, ◌<◌, ◌≡◌, ◌==◌, ◌⊎◌, inl, inr, Bool, true, false, not, ◌&&◌, ◌||◌, nat_lt, List, [], ◌∷◌, Option, Some, None, refl, sym, ap, subst, ◌∙◌, arith, zero, suc, length, slice_index_or}
 use Rattle.std.proofs.lemmas.Bool.{and_parts, not-true, ltb-true}
-use Rattle.std.specs.List.{list_any}
+use Rattle.std.specs.List.{Contains, list_any}
 use Rattle.loom_trace.specs.declared.entry.Entry.{Entry}
 use Rattle.loom_command.specs.Script.{Trigger, at, stall}
 use Rattle.loom_event.specs.Entries.{thread_entries}
 use Rattle.loom_law.specs.Filter.{is_alone}
-use Rattle.loom_law.specs.Control.{Command, command_at, Holder, Control, listed}
+use Rattle.loom_law.specs.Control.{Command, command_at, Holder, listed}
 use Rattle.loom_law.specs.Lawful.{Setting, Front, plans, over, refusal, IsHeldOff, IsDue, IsTriggered, IsOpen, is_cross, owes_cross, IsParked, MayMove}
-use Rattle.loom_law.proofs.Earlier.{same_number, by_test}
+use Rattle.loom_law.proofs.Earlier.{same_number}
 
 -- No command is due
 
@@ -147,3 +147,17 @@ moves {s = s} {f = f} {t = t} {x = x} quiet parked =
       crosses = same_are (is_cross x) (owes_cross x (listed t f.entries)) g.1;
       parked = parked;
     }
+
+-- What holds of each element of a list that is written out
+
+abbrev pub AllOf : {A : Type 0} → (A → Type 0) → List A → Type 0
+AllOf P [] = Unit {0}
+AllOf P (x ∷ xs) = P x × AllOf P xs
+
+pub each : {A : Type 0} (P : A → Type 0) (xs : List A) → AllOf P xs → (x : A) → Contains xs x → P x
+each {A = A} P xs h x c = by_index xs h c.0 c.1 c.2
+  where
+    by_index : (ys : List A) → AllOf P ys → (n : ℕ) → n < length ys → slice_index_or ys n x ≡ x → P x
+    by_index [] h n b e = let no : ⊥ = omega arith in absurd no
+    by_index (y ∷ ys) h zero b e = subst P e h.0
+    by_index (y ∷ ys) h (suc n) b e = by_index ys h.1 n (omega arith) e

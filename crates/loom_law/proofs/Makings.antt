@@ -1,5 +1,5 @@
 -- What a thread asks to make gives one more entry of a lawful journal; a request that is disabled may be told as `Blocked`.
-use Rattle.std.proofs.Common.{ℕ, ◌≡◌, inl, Bool, true, false, List, [], ◌∷◌, ◌++◌, pos, drop, Option, Some, None, refl, sym, ap, subst, ◌∙◌}
+use Rattle.std.proofs.Common.{ℕ, ◌≡◌, inl, true, false, List, [], ◌∷◌, ◌++◌, pos, drop, Option, Some, None, refl, sym, ap, subst, ◌∙◌}
 use Rattle.loom_tree.specs.Tree.{Source}
 use Rattle.loom_trace.specs.declared.entry.Entry.{Entry}
 use Rattle.loom_trace.specs.declared.entry.Entry.TheVariants as e
@@ -12,16 +12,16 @@ use Rattle.loom_lang.specs.Acts.{Deed}
 use Rattle.loom_event.specs.Answer.{granted}
 use Rattle.loom_event.specs.Replay.{ThreadState}
 use Rattle.loom_law.specs.Walk.{Version, Plans, Operation, wait, enters, at, past, post, leave, back, tick, cross, blocked, Queue, Step, goes, makes, items, told, entry_of_operation, Walk, unborn, behind_entry, taking, crossing, after, walked, first_number, Acts, AsksFor, MayCross, AreWoven}
-use Rattle.loom_law.specs.Part.{Own, led, IsPart, HasMoved, KeepsAway, AsksToMake, AsksToAct}
-use Rattle.loom_law.specs.Control.{Control, control, entries_of}
-use Rattle.loom_law.specs.Lawful.{Setting, plans, own, IsFlagged, is_begin, StaysAway, IsLawful}
+use Rattle.loom_law.specs.Part.{Own, led, IsPart, HasMoved, KeepsAway}
+use Rattle.loom_law.specs.Control.{entries_of}
+use Rattle.loom_law.specs.Lawful.{Setting, plans, own, IsFlagged, is_begin, StaysAway}
 use Rattle.loom_law.specs.Laws.{own_with}
-use Rattle.loom_law.specs.TurnLaws.{AsksToDo, MayMake, HasMakingTurns, is_blocked_entry, blocked_behind, ends_blocked, request_of, HasBlocks}
+use Rattle.loom_law.specs.TurnLaws.{AsksToDo, HasMakingTurns, blocked_behind, request_of, HasBlocks}
 use Rattle.loom_law.proofs.OnePart.{told_append, one_move}
 use Rattle.loom_law.proofs.Earlier.{append_assoc, items_ahead, woven_front, takings}
 use Rattle.loom_law.proofs.Turns.{BeforeOp, before_op, moved, walked_coming}
 use Rattle.loom_law.proofs.Lawful.{operation_turns}
-use Rattle.loom_law.proofs.Answers.{IsFree, goes_with, woven_ahead, walked_append, woven_last}
+use Rattle.loom_law.proofs.Answers.{goes_with, woven_ahead, walked_append, woven_last}
 
 asked_part : (s : Setting) (es : List Entry) (t : ℕ) (z : ThreadState) (l : ℕ) (o : Operation) → AsksToDo s es (own s es t z) l o
     → IsPart s.program (plans s) (own_with s es t z (entry_of_operation t l o))

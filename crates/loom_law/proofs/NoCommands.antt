@@ -1,5 +1,5 @@
 -- Journals of runs without commands: no version is listed, no command asked, nobody is held off. What is left of a turn's premises.
-use Rattle.std.proofs.Common.{ℕ, zero, suc, ◌<◌, ◌≤◌, ◌≡◌, ◌==◌, Bool, true, false, List, [], ◌∷◌, ◌++◌, length, take, Some, None, refl, sym, ap, ◌∙◌, if◌then◌else◌, arith}
+use Rattle.std.proofs.Common.{ℕ, zero, suc, ◌<◌, ◌≤◌, ◌≡◌, ◌==◌, Bool, true, false, List, [], ◌∷◌, ◌++◌, length, Some, None, refl, sym, ap, ◌∙◌, if◌then◌else◌, arith}
 use Rattle.loom_trace.specs.declared.entry.Entry.{Entry}
 use Rattle.loom_trace.specs.declared.entry.Entry.TheVariants as e
 use Rattle.loom_trace.specs.declared.entry.Ending.{Ending}
@@ -7,7 +7,7 @@ use Rattle.loom_trace.specs.declared.entry.Ending.TheVariants as k
 use Rattle.loom_trace.specs.declared.entry.What.{What}
 use Rattle.loom_trace.specs.declared.request.Request.{Request}
 use Rattle.loom_lang.specs.Acts.{Deed}
-use Rattle.loom_event.specs.Event.{Event, entry_by, targets}
+use Rattle.loom_event.specs.Event.{Event, entry_by}
 use Rattle.loom_event.specs.Entries.{thread_of, is_stopped, is_at_limit}
 use Rattle.loom_event.specs.Replay.{AllEnded}
 use Rattle.loom_event.specs.Replay.{ThreadState, start, thread_at, replay, IsAllowed}

@@ -13,7 +13,7 @@ use Rattle.loom_lang.proofs.NextItem.{Agree, traces_agree}
 use Rattle.loom_event.specs.Event.{entry_by}
 use Rattle.loom_law.specs.Walk.{Plans, Operation, wait, enters, at, past, post, leave, back, tick, cross, blocked, Step, goes, makes, items, told_item, told, entry_of_operation, Queue, Walk, unborn, after, place_of_item, place_of_next, Owes, Acts, AsksFor, MayCross, MayBlock, MayStand, AreWoven}
 use Rattle.loom_law.specs.Part.{Own}
-use Rattle.loom_law.specs.Laws.{EndsMade, HasOnePart, HasOneMove, HasOneMade}
+use Rattle.loom_law.specs.Laws.{EndsWithEntry, HasOnePart, HasOneMove, HasOneMade}
 
 -- An entry tells its step
 
@@ -389,7 +389,7 @@ pub made_up_to : (t : ℕ) (ss : List Step) (s : Step) (y : Entry) → told t (s
 made_up_to t [] s y h = (told_last t [] s y h, tt)
 made_up_to t (x ∷ ss) s y h = (told_last t (x ∷ ss) s y h, made_up_to t ss s y h)
 
-ends_made : (x : Own) (steps : List Step) → EndsMade x steps → AreMade x.thread steps
+ends_made : (x : Own) (steps : List Step) → EndsWithEntry x steps → AreMade x.thread steps
 ends_made x steps h = subst (AreMade x.thread) (sym h.1.1.0) (made_up_to x.thread h.0 h.1.0 h.1.1.1.0 h.1.1.1.1)
 
 pub one_part : HasOnePart

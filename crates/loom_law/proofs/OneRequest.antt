@@ -1,7 +1,6 @@
 -- What a thread asks for next is one.
-use Rattle.std.proofs.Common.{ℕ, ◌≡◌, ◌⊎◌, inl, inr, Bool, true, false, List, [], ◌∷◌, ◌++◌, refl, sym, ap, subst, ◌∙◌}
+use Rattle.std.proofs.Common.{ℕ, ◌≡◌, ◌⊎◌, inl, inr, true, List, [], ◌∷◌, ◌++◌, refl, sym, ap, subst, ◌∙◌}
 use Rattle.loom_tree.specs.Tree.{Source}
-use Rattle.loom_trace.specs.declared.entry.Entry.{Entry}
 use Rattle.loom_trace.specs.declared.request.Request.{Request}
 use Rattle.loom_lang.specs.Trace.{Act, Item, made, begins, done, edge, enter, out, Outcome, Open, IsTrace}
 use Rattle.loom_lang.specs.Acts.{Deed}
@@ -9,7 +8,7 @@ use Rattle.loom_lang.specs.Alike.{AreAlike}
 use Rattle.loom_lang.proofs.NextItem.{one_next_item, Agree, traces_agree}
 use Rattle.loom_law.specs.Walk.{Plans, Operation, wait, enters, at, past, post, leave, back, tick, cross, blocked, Queue, Step, goes, makes, items, told, entry_of_operation, Walk, unborn, after_operation, after, walked, Owes, MayStand, AreWoven}
 use Rattle.loom_law.specs.Part.{Own, led, IsPart, with_entry, AsksToMake, AsksToAct}
-use Rattle.loom_law.specs.Laws.{SameMade}
+use Rattle.loom_law.specs.Laws.{SameSteps}
 use Rattle.loom_law.specs.TurnLaws.{IsAnswered, is_owed, HasOneRequest, HasNoSplit, HasOneOperation}
 use Rattle.loom_law.proofs.OnePart.{one_made, told_append, same_front}
 use Rattle.loom_law.proofs.Earlier.{items_ahead, woven_front}
@@ -116,7 +115,7 @@ one_point p plans x a b =
     let z : Walk = unborn x.versions in
     let h : IsPart p plans x = a.part in
     let k : IsPart p plans x = b.part in
-    let c : SameMade x h.steps k.steps = one_made p plans x h k in
+    let c : SameSteps x h.steps k.steps = one_made p plans x h k in
     let m : Walk = walked p plans z c.made in
     let agree : Agree (items h.steps ++ h.ahead) h.outcome (items k.steps ++ k.ahead) k.outcome = traces_agree p x.func x.args _ _ _ _ h.trace k.trace in
     let left : items h.steps ++ h.ahead ≡ items c.made ++ (items c.behind ++ h.ahead) = ap (λ ss. items ss ++ h.ahead) c.first ∙ items_ahead c.made c.behind h.ahead in

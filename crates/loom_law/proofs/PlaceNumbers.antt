@@ -1,10 +1,10 @@
 -- A place has one number, and a number one place.
-use Rattle.std.proofs.Common.{ℕ, zero, suc, ◌<◌, ◌≤◌, ◌≡◌, ◌==◌, nat_lt, Bool, true, false, ◌&&◌, List, [], ◌∷◌, ◌++◌, map, flat_map, Option, Some, None, slice_get, refl, sym, ap, subst, ◌∙◌, append_assoc, arith, if◌then◌else◌}
+use Rattle.std.proofs.Common.{ℕ, zero, suc, ◌<◌, ◌≤◌, ◌≡◌, nat_lt, true, false, ◌&&◌, List, [], ◌∷◌, ◌++◌, flat_map, Some, slice_get, refl, ap, subst, ◌∙◌, append_assoc, arith}
 use Rattle.std.proofs.lemmas.Bool.{and_parts, ne_eqb, eq-eqb, ltb-true}
-use Rattle.loom_tree.specs.Tree.{Body, end, simple, if_, while_, Function, Source}
-use Rattle.loom_lang.specs.Rules.{lines, lines_of, is_ascending, KeepsRules}
-use Rattle.loom_lang.specs.Places.{Place, nowhere, entry, inside, back_edge, out, body_places, places_from, places, place_at}
-use Rattle.loom_law.specs.Walk.{is_same_place, position_of, place_number}
+use Rattle.loom_tree.specs.Tree.{Body, end, simple, if_, while_, Function}
+use Rattle.loom_lang.specs.Rules.{lines, is_ascending}
+use Rattle.loom_lang.specs.Places.{Place, nowhere, entry, inside, back_edge, out, body_places, places_from, places}
+use Rattle.loom_law.specs.Walk.{is_same_place, position_of}
 use Rattle.loom_law.specs.Laws.{HasOneNumber}
 
 -- Lists in which no place stands twice

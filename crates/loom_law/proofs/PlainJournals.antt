@@ -1,5 +1,5 @@
 -- Lawful journals of runs without commands, whole.
-use Rattle.std.proofs.Common.{ℕ, Bool, true, false, ◌≡◌, ◌++◌, zero, suc, inl, inr, pos, List, [], ◌∷◌, Some, None, refl, codes, arith, ◌⊎◌}
+use Rattle.std.proofs.Common.{ℕ, true, ◌≡◌, ◌++◌, zero, suc, inl, inr, pos, List, [], ◌∷◌, Some, None, refl, codes, arith, ◌⊎◌}
 use Rattle.loom_tree.specs.declared.expression.Op.TheVariants as o
 use Rattle.loom_tree.specs.Tree.{num, var, bin, Right, simple, Source}
 use Rattle.loom_tree.specs.Tree as tree
@@ -7,7 +7,7 @@ use Rattle.loom_trace.specs.declared.entry.Entry.{Entry}
 use Rattle.loom_trace.specs.declared.entry.Entry.TheVariants as e
 use Rattle.loom_trace.specs.declared.entry.What.TheVariants as w
 use Rattle.loom_trace.specs.declared.entry.Ending.TheVariants as k
-use Rattle.loom_lang.specs.Trace.{Locals, division, begin, end, trap, read, write, lock, spawn, join, print, made, begins, done, enter, out, Finished, Open, IsTrace}
+use Rattle.loom_lang.specs.Trace.{division, begin, end, trap, read, write, lock, spawn, join, print, made, begins, done, enter, out, Finished, Open, IsTrace}
 use Rattle.loom_event.specs.Event.{Event}
 use Rattle.loom_event.specs.Replay.{ThreadState, start, thread_at, replay}
 use Rattle.loom_event.specs.Run.{AreRun}

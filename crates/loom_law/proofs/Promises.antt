@@ -1,14 +1,11 @@
 -- Each lawful journal keeps its promises.
-use Rattle.std.proofs.Common.{ℕ, ◌≡◌, true, List, [], ◌∷◌, ◌++◌, take, length, Option, Some, None, refl, sym, ap, subst, ◌∙◌}
-use Rattle.std.specs.List.{AllByRecursion}
+use Rattle.std.proofs.Common.{◌≡◌, List, [], ◌∷◌, ◌++◌, refl, sym, ap, subst, ◌∙◌}
 use Rattle.loom_trace.specs.declared.entry.Entry.{Entry}
 use Rattle.loom_trace.specs.declared.entry.Entry.TheVariants as e
-use Rattle.loom_event.specs.Event.{targets}
 use Rattle.loom_law.specs.Control.{Command, Control, first_control, after_entry, controlled, control}
 use Rattle.loom_law.specs.Lawful.{Setting, Front, front_at, MayFollow, IsLawful}
-use Rattle.loom_law.specs.Laws.{Balances}
-use Rattle.loom_law.specs.Promises.{FollowsOrders, InstallsOutside, HasOneHolder, ChangesNothing, KeepsPromises, Promises, AlwaysPromises}
-use Rattle.loom_law.proofs.Balance.{AreSaid, IsSound, first_sound, sound_along}
+use Rattle.loom_law.specs.Promises.{FollowsOrders, InstallsOutside, HasOneHolder, ChangesNothing, AlwaysPromises}
+use Rattle.loom_law.proofs.Balance.{IsSound, first_sound, sound_along}
 use Rattle.loom_law.proofs.Obedience.{are_said}
 use Rattle.loom_law.proofs.Enough.{strict}
 use Rattle.loom_law.proofs.Lawful.{always_balanced, always_obeyed}

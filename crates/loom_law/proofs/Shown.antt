@@ -14,7 +14,6 @@ use Rattle.loom_law.specs.Walk.{Version, Operation, enters, past, leave, blocked
 use Rattle.loom_law.specs.Walk as walk
 use Rattle.loom_command.specs.Script as script
 use Rattle.loom_law.specs.Control.{means, install, Command}
-use Rattle.loom_law.specs.Control as control
 use Rattle.loom_law.specs.Part.{Own, IsPart}
 use Rattle.loom_lang.specs.Places.{nowhere}
 use Rattle.loom_event.specs.Event.{Event}
@@ -22,7 +21,7 @@ use Rattle.loom_event.specs.Replay.{start, thread_at, replay}
 use Rattle.loom_event.specs.Run.{AreRun}
 use Rattle.loom_event.proofs.Shown.{event}
 use Rattle.loom_law.specs.Filter.{is_alone}
-use Rattle.loom_law.specs.Control.{Control, command_at, entries_of, listed}
+use Rattle.loom_law.specs.Control.{Control, command_at, listed}
 use Rattle.loom_law.specs.Lawful.{Setting, Front, plans, over, owes_cross, is_cross, IsDue, IsParked, MayMove, MayInstall, HasPart, StandsAt, running, front_at, IsOutside, HasCompletions, HasPosts, IsLawful}
 use Rattle.loom_event.proofs.Runs.{threads_traced, does, events_told, event_of}
 use Rattle.loom_event.proofs.Runs as runs

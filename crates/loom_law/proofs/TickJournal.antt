@@ -1,5 +1,5 @@
 -- The lawful journal of an endless loop that a limit ends: a tick behind a thousand places.
-use Rattle.std.proofs.Common.{ℕ, zero, suc, ◌+◌, ◌<◌, ◌≡◌, ◌==◌, Bool, true, false, pos, List, [], ◌∷◌, ◌++◌, length, Some, None, refl, sym, ap, subst, ◌∙◌, codes, arith}
+use Rattle.std.proofs.Common.{ℕ, zero, suc, ◌+◌, ◌<◌, ◌≡◌, ◌==◌, false, pos, List, [], ◌∷◌, ◌++◌, length, refl, sym, ap, subst, ◌∙◌, codes, arith}
 use Rattle.std.proofs.lemmas.Bool.{ne_eqb}
 use Rattle.loom_tree.specs.Tree.{num, simple, while_, Source}
 use Rattle.loom_tree.specs.Tree as tree
@@ -8,8 +8,8 @@ use Rattle.loom_trace.specs.declared.entry.Entry.TheVariants as e
 use Rattle.loom_trace.specs.declared.entry.Ending.TheVariants as k
 use Rattle.loom_lang.specs.Places.{Place}
 use Rattle.loom_lang.specs.Places as place
-use Rattle.loom_lang.specs.Trace.{Locals, Lists, Act, begin, Item, made, begins, done, edge, enter, Open, turns, IsTrace}
-use Rattle.loom_lang.specs.Acts.{Deed, acts}
+use Rattle.loom_lang.specs.Trace.{Locals, Lists, begin, Item, made, begins, done, edge, enter, Open, turns, IsTrace}
+use Rattle.loom_lang.specs.Acts.{acts}
 use Rattle.loom_command.specs.Script as script
 use Rattle.loom_event.specs.Event.{Event}
 use Rattle.loom_event.specs.Replay.{start, thread_at, replay}

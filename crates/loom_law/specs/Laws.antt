@@ -24,19 +24,20 @@ use Rattle.loom_law.specs.Lawful.{Setting, Front, front_of, front_at, plans, own
 abbrev pub HasHeldRegions : Type 0
 HasHeldRegions = (p : Source) (plans : Plans) (x : Own) (k c : ℕ) (h : IsInside p plans x k c) → holds (led p plans x h.part.steps).held k c ≡ true
 
--- A thread has at most one full part: two whose last steps tell an entry are the same.
-abbrev pub EndsMade : Own → List Step → Type 0
-EndsMade x steps = (front : List Step) × ((last : Step) × ((steps ≡ front ++ last ∷ []) × ((y : Entry) × (told x.thread (last ∷ []) ≡ y ∷ []))))
+-- the last of these steps tells an entry
+abbrev pub EndsWithEntry : Own → List Step → Type 0
+EndsWithEntry x steps = (front : List Step) × ((last : Step) × ((steps ≡ front ++ last ∷ []) × ((y : Entry) × (told x.thread (last ∷ []) ≡ y ∷ []))))
 
+-- A thread has at most one full part: two whose last steps tell an entry are the same.
 abbrev pub HasOnePart : Type 0
-HasOnePart = (p : Source) (plans : Plans) (x : Own) (a b : IsPart p plans x) → EndsMade x a.steps → EndsMade x b.steps → a.steps ≡ b.steps
+HasOnePart = (p : Source) (plans : Plans) (x : Own) (a b : IsPart p plans x) → EndsWithEntry x a.steps → EndsWithEntry x b.steps → a.steps ≡ b.steps
 
 -- So there is one list of steps before its last entry.
 abbrev pub HasOneMove : Type 0
 HasOneMove = (p : Source) (plans : Plans) (x : Own) (before before' : List Step) → HasMoved p plans x before → HasMoved p plans x before' → before ≡ before'
 
 -- Of two parts of a thread each is the steps up to its last entry, the same for both, and marks behind.
-pub record SameMade (x : Own) (a b : List Step) : Type 0 where
+pub record SameSteps (x : Own) (a b : List Step) : Type 0 where
   pub made : List Step
   pub behind : List Step
   pub behind' : List Step
@@ -46,7 +47,7 @@ pub record SameMade (x : Own) (a b : List Step) : Type 0 where
   pub marks' : told x.thread behind' ≡ []
 
 abbrev pub HasOneMade : Type 0
-HasOneMade = (p : Source) (plans : Plans) (x : Own) (a b : IsPart p plans x) → SameMade x a.steps b.steps
+HasOneMade = (p : Source) (plans : Plans) (x : Own) (a b : IsPart p plans x) → SameSteps x a.steps b.steps
 
 -- The unsafe places of a filter are sound: where a thread comes to a safe place, while the filter isn't active, the filter sees nothing of it.
 abbrev pub IsSound : Source → Plan → Type 0

@@ -8,7 +8,7 @@ use Rattle.loom_event.specs.Event.{targets}
 use Rattle.loom_event.specs.Replay.{thread_at}
 use Rattle.loom_event.specs.Run.{IsRun}
 use Rattle.loom_law.specs.Filter.{Plan, before_in}
-use Rattle.loom_law.specs.Control.{Action, install, means, Command, command_at, Control, control}
+use Rattle.loom_law.specs.Control.{install, means, Command, command_at, Control, control}
 use Rattle.loom_law.specs.Lawful.{Setting, Front, front_at, plans, running, IsOutside, HasCompletions, is_held_by, IsObeyed, IsLawful}
 use Rattle.loom_law.specs.Laws.{Balances}
 

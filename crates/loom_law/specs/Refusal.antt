@@ -5,7 +5,7 @@ use Rattle.loom_tree.specs.Tree.{Expression, num, var, cell, neg, inverse, bin, 
 use Rattle.loom_lang.specs.Numbers.{function_number}
 use Rattle.loom_lang.specs.Rules.{is_in, locals_of}
 use Rattle.loom_command.specs.Filter.{LineEvent, OrderStep, Region, between, whole, Clause, order, exclusive, unilateral, Filter}
-use Rattle.loom_command.specs.FilterFault.{Fault, IsBefore}
+use Rattle.loom_command.specs.FilterFault.{Fault}
 use Rattle.loom_law.specs.Filter.{Watch, statement, function, Range, Ruling, Plan, entry_events, ranges_of}
 use Rattle.loom_law.specs.Filter as plan
 use Rattle.loom_law.specs.Paths.{Node, begins, links_of, IsStatement, statements_of, Reaches, watch_at, Comes}

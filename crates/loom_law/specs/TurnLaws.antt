@@ -43,13 +43,13 @@ pub record MayAnswer (s : Setting) (es : List Entry) (xs : List Event) (t : ℕ)
   pub no_begin : (k : ℕ) → Control.asked (control s.commands es) ≡ Some k → is_begin (entry_by t d.line d.act) ≡ true
       → list_any (is_spawn_of t) (since_asked es) ≡ false
 
--- So it may make that turn: the steps before it are those with which it asks. (Shown.)
+-- So it may make that turn: the steps before it are those with which it asks.
 abbrev pub HasAnswers : Type 0
 HasAnswers = (s : Setting) (es : List Entry) (h : IsLawful s es) (t : ℕ) (q : Request) (d : Deed) (m : MayAnswer s es h.events t q d)
     → (turn : MayTurn s es h.events t (entry_by t d.line d.act) (goes (made d.line d.act)))
     × ((turn.state ≡ m.state) × (turn.before ≡ m.asks.steps))
 
--- And the journal with the answer is lawful. (Shown.)
+-- And the journal with the answer is lawful.
 abbrev pub HasAnswerTurns : Type 0
 HasAnswerTurns = (s : Setting) (es : List Entry) (h : IsLawful s es) → IsUnfinished es → (t : ℕ) (q : Request) (d : Deed) → MayAnswer s es h.events t q d
     → (h' : IsLawful s (es ++ entry_by t d.line d.act ∷ [])) × (h'.events ≡ h.events ++ event_of_deed t d ∷ [])
@@ -72,7 +72,7 @@ pub record MayMake (s : Setting) (es : List Entry) (xs : List Event) (t l : ℕ)
       → StaysAway s (own_with s es t state (entry_of_operation t l o)) k
   pub permits : Permits s (front_of s es xs) (entry_of_operation t l o)
 
--- So the journal with the operation is lawful. (Shown.)
+-- So the journal with the operation is lawful.
 abbrev pub HasMakingTurns : Type 0
 HasMakingTurns = (s : Setting) (es : List Entry) (h : IsLawful s es) → IsUnfinished es → (t l : ℕ) (o : Operation) → MayMake s es h.events t l o
     → (h' : IsLawful s (es ++ entry_of_operation t l o ∷ [])) × (h'.events ≡ h.events)
@@ -99,7 +99,7 @@ request_of l (w.Join c) = Some (r.Join l (pos c))
 request_of l (w.Enter k c) = None
 request_of l (w.Wait k n) = None
 
--- A thread that asks for it, and whose last entry isn't `Blocked`, may ask to be told as blocked there. (Shown.)
+-- A thread that asks for it, and whose last entry isn't `Blocked`, may ask to be told as blocked there.
 abbrev pub HasBlocks : Type 0
 HasBlocks = (p : Source) (plans : Plans) (x : Own) (q : Request) (l : ℕ) (what : What) → AsksToAct p plans x q → request_of l what ≡ Some q
     → ends_blocked x.entries ≡ false → AsksToMake p plans x l (blocked what)
@@ -112,17 +112,17 @@ is_owed (cross x v n) = false
 is_owed (blocked what) = false
 is_owed _ = true
 
--- Two acts for which a thread asks answer the same. (Shown.)
+-- Two acts for which a thread asks answer the same.
 abbrev pub HasOneRequest : Type 0
 HasOneRequest = (p : Source) (plans : Plans) (x : Own) (q q' : Request) (d d' : Deed) → AsksToAct p plans x q → IsAnswered q d → AsksToAct p plans x q' → IsAnswered q' d'
     → IsAlike d d'
 
--- Where it asks for an act it owes no operation. (Shown.)
+-- Where it asks for an act it owes no operation.
 abbrev pub HasNoSplit : Type 0
 HasNoSplit = (p : Source) (plans : Plans) (x : Own) (q : Request) (d : Deed) (l : ℕ) (o : Operation) → AsksToAct p plans x q → IsAnswered q d → is_owed o ≡ true
     → AsksToMake p plans x l o → ⊥
 
--- It owes one operation at a time. (Shown.)
+-- It owes one operation at a time.
 abbrev pub HasOneOperation : Type 0
 HasOneOperation = (p : Source) (plans : Plans) (x : Own) (l l' : ℕ) (o o' : Operation) → is_owed o ≡ true → is_owed o' ≡ true → AsksToMake p plans x l o
     → AsksToMake p plans x l' o' → (l ≡ l') × (o ≡ o')

@@ -50,10 +50,10 @@ fn refuses_what_is_no_program(rt: HostRuntime) -> Result<(), Fail> {
         b"fn main() {\nx = 1;\n}\n",
         b"shared x;\nshared x;\nfn main() {\n}\n",
     ];
-    for bytes in texts {
-        let (status, text) = answer_of(rt.alloc(), bytes, &["run", "p.lm"])?;
-        assert_eq!(rt; status, 2);
-        assert_eq!(rt; text.bytes(), "program refused\n".as_bytes());
+    for (i, bytes) in texts.iter().enumerate() {
+        let (status, text) = answer_of(rt.alloc(), *bytes, &["run", "p.lm"])?;
+        assert_eq!(rt; status, 2, "in row {i}");
+        assert_eq!(rt; text.bytes(), "program refused\n".as_bytes(), "in row {i}");
     }
     Ok(())
 }
@@ -66,10 +66,10 @@ fn refuses_more_than_one_thread(rt: HostRuntime) -> Result<(), Fail> {
         b"fn f() {\nskip;\n}\nfn main() {\nlet t = spawn f();\njoin t;\n}\n",
         b"fn main() {\njoin 1;\n}\n",
     ];
-    for bytes in texts {
-        let (status, text) = answer_of(rt.alloc(), bytes, &["run", "p.lm"])?;
-        assert_eq!(rt; status, 2);
-        assert_eq!(rt; text.bytes(), "program refused\n".as_bytes());
+    for (i, bytes) in texts.iter().enumerate() {
+        let (status, text) = answer_of(rt.alloc(), *bytes, &["run", "p.lm"])?;
+        assert_eq!(rt; status, 2, "in row {i}");
+        assert_eq!(rt; text.bytes(), "program refused\n".as_bytes(), "in row {i}");
     }
     Ok(())
 }
@@ -100,10 +100,10 @@ fn tells_other_words(rt: HostRuntime) -> Result<(), Fail> {
         &["walk", "p.lm", "--steps", "5"],
         &["run", "p.lm", "--steps", "5", "--steps", "5"],
     ];
-    for words in lists {
-        let (status, text) = answer_of(rt.alloc(), SUM, words)?;
-        assert_eq!(rt; status, 1);
-        assert_eq!(rt; text.bytes(), "usage\n".as_bytes());
+    for (i, words) in lists.iter().enumerate() {
+        let (status, text) = answer_of(rt.alloc(), SUM, *words)?;
+        assert_eq!(rt; status, 1, "in row {i}");
+        assert_eq!(rt; text.bytes(), "usage\n".as_bytes(), "in row {i}");
     }
     Ok(())
 }
@@ -126,7 +126,7 @@ fn tells_other_limits(rt: HostRuntime) -> Result<(), Fail> {
     for limit in limits {
         let (status, text) = answer_of(rt.alloc(), SUM, &["run", "p.lm", "--steps", limit])?;
         assert_eq!(rt; status, 1, "with {limit}");
-        assert_eq!(rt; text.bytes(), "usage\n".as_bytes());
+        assert_eq!(rt; text.bytes(), "usage\n".as_bytes(), "with {limit}");
     }
     Ok(())
 }
@@ -138,7 +138,11 @@ fn takes_limits(rt: HostRuntime) -> Result<(), Fail> {
         let words = ["run", "other.lm", "--steps", limit];
         let (status, text) = answer_of(rt.alloc(), SUM, &words)?;
         assert_eq!(rt; status, 4, "with {limit}");
-        assert_eq!(rt; text.bytes(), "read fault: other.lm\n".as_bytes());
+        assert_eq!(rt;
+            text.bytes(),
+            "read fault: other.lm\n".as_bytes(),
+            "with {limit}"
+        );
     }
     Ok(())
 }
@@ -186,28 +190,25 @@ fn tells_a_write_fault(rt: HostRuntime) -> Result<(), Fail> {
     Ok(())
 }
 
-// The file that the words name is read once, with the limit of a program, and no other file.
+// The file that the words name is read once, with the limit of a program, and no other file; none
+// is, where they are no command.
 #[test]
 fn reads_the_file_alone(rt: HostRuntime) -> Result<(), Fail> {
-    let lists: [&[&str]; 2] = [&["run", "p.lm"], &["run", "p.lm", "--steps", "3"]];
-    for words in lists {
+    let rows: [(&[&str], u32); 3] = [
+        (&["run", "p.lm"], 1),
+        (&["run", "p.lm", "--steps", "3"], 1),
+        (&["walk", "p.lm"], 0),
+    ];
+    for (i, (words, reads)) in rows.iter().enumerate() {
         let mut shelf = Watch {
             text: SUM,
             right: 0,
             other: 0,
         };
         let mut sink = MemSink::make(rt.alloc(), 100, 100)?;
-        loom_alone(rt.alloc(), words, &mut shelf, &mut sink);
-        assert_eq!(rt; (shelf.right, shelf.other), (1, 0));
+        loom_alone(rt.alloc(), *words, &mut shelf, &mut sink);
+        assert_eq!(rt; (shelf.right, shelf.other), (*reads, 0), "in row {i}");
     }
-    let mut shelf = Watch {
-        text: SUM,
-        right: 0,
-        other: 0,
-    };
-    let mut sink = MemSink::make(rt.alloc(), 100, 100)?;
-    loom_alone(rt.alloc(), &["walk", "p.lm"], &mut shelf, &mut sink);
-    assert_eq!(rt; (shelf.right, shelf.other), (0, 0));
     Ok(())
 }
 

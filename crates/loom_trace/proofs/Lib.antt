@@ -5,3 +5,4 @@ pub mod Fields
 pub mod Numbers
 pub mod Told
 pub mod Unique
+pub mod Bits

@@ -3,3 +3,4 @@ pub mod Journal
 pub mod Text
 pub mod Parts
 pub mod Laws
+pub mod Places

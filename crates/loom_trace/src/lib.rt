@@ -6,6 +6,7 @@ pub mod journal;
 pub mod laws;
 pub mod line;
 mod number;
+pub mod places;
 pub mod request;
 pub mod row;
 #[cfg(test)]

@@ -1,0 +1,8 @@
+pub mod View
+pub mod Record
+pub mod Machine
+pub mod Rule
+pub mod Tells
+pub mod Seats
+pub mod Calls
+pub mod Laws

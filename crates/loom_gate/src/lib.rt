@@ -1,0 +1,14 @@
+//! A gate: threads pass, and one key stops them at places.
+#![tactic(auto)]
+
+pub mod gate;
+pub mod key;
+pub mod laws;
+pub mod log;
+pub mod make;
+pub mod pass;
+pub mod settle;
+mod steps;
+#[cfg(test)]
+mod tests;
+pub mod view;

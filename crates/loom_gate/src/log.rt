@@ -1,0 +1,37 @@
+//! The record of a gate.
+
+/// The place read for one thread at the switch to a version.
+#[derive(Clone, Copy, Debug, Drop)]
+pub struct SwitchRow {
+    pub version: u32,
+    pub thread: u8,
+    pub place: u16,
+}
+
+/// A pass's first entering with a version, and the place that it entered from.
+#[derive(Clone, Copy, Debug, Drop)]
+pub struct PassRow {
+    pub thread: u8,
+    pub version: u32,
+    pub place: u16,
+}
+
+/// Rows of switches, in order of version and thread.
+#[derive(Debug, Drop)]
+pub struct SwitchRows(pub Vec<SwitchRow>);
+
+/// Rows of passes, in order of thread and version.
+#[derive(Debug, Drop)]
+pub struct PassRows(pub Vec<PassRow>);
+
+/// The place where each pass stands at the end, that of thread `t` at index `t - 1`.
+#[derive(Debug, Drop)]
+pub struct Ends(pub Vec<u16>);
+
+/// What a gate did.
+#[derive(Debug, Drop)]
+pub struct GateLog {
+    pub switches: SwitchRows,
+    pub rows: PassRows,
+    pub ends: Ends,
+}

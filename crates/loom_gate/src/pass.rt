@@ -1,0 +1,117 @@
+//! The pass of one thread.
+ghost use Rattle.std.specs.Prelude.{◌≡◌, ◌+◌, ◌<◌, ◌≤◌, ◌/◌, length, vec_capacity};
+ghost use Rattle.loom_gate.specs.View.{tried, with_row};
+ghost use Rattle.loom_gate.specs.Machine.{Amid};
+ghost use Rattle.loom_gate.specs.Seats.{threads_of, places_of, flag_index, view_of_pass, IsPassOf, IsStanding, IsInside, IsInsideAt, FoundBit};
+ghost use Rattle.loom_gate.specs.Calls.{HasEntered, ClearAt, ReadsVersion, rows_after};
+
+use crate::gate::Gate;
+use crate::log::PassRow;
+use crate::steps::{Check, Leave, MARK, Poll, Read, Try};
+use crate::view::View;
+use atomic_table::Seat;
+
+/// What an entering answers.
+#[derive(Clone, Copy, Debug, Drop)]
+pub enum Entered {
+    /// The pass is inside, with this version.
+    Inside(u32),
+    /// The pass stands as before: the flag of its place was up.
+    Flagged(u16),
+}
+
+/// What a thread goes through a gate with. It is inside or stands at a place, at 0 to begin with.
+#[derive(Drop)]
+pub struct Pass {
+    pub(crate) seat: Seat<u8, View>,
+    pub(crate) thread: u8,
+    /// Where it stands, or entered from.
+    pub(crate) place: u16,
+    /// One more than the newest version that it entered with, or 0.
+    pub(crate) fresh: u32,
+    pub(crate) rows: Vec<PassRow>,
+}
+
+// The index of the word of flags that has the bit of a place.
+fn index_of(gate: &Gate, place: u16) -> usize
+    requires { place < places_of gate.now }
+    ensures index { result ≡ flag_index gate.now place }
+    ensures words { place / 64 < gate.now.flags }
+{
+    usize::from(gate.threads) + 1 + usize::from(place / 64)
+}
+
+impl Pass {
+    /// Enters, from the place where the pass stands.
+    pub fn enter(&mut self, gate: &Gate) -> Entered
+        requires gate { IsPassOf gate.now self.old }
+        requires stands { IsStanding self.old }
+        ensures gate { IsPassOf gate.now self.new }
+        ensures same { (self.new.thread ≡ self.old.thread) × (self.new.place ≡ self.old.place) }
+        ensures answer { HasEntered (flag_index gate.now self.old.place) self.old.place result self.new }
+        ensures once { (view_of_pass self.new).checks ≡ (view_of_pass self.old).checks + 1 }
+        ensures clear { ClearAt self.old.thread (tried (view_of_pass self.old)) self.old.place result }
+        ensures version { ReadsVersion self.old.thread result }
+        ensures rows { self.new.rows.items ≡ rows_after self.old.thread self.old.place result self.old.rows.items }
+    {
+        let shared = &gate.table.shared;
+        let own = usize::from(self.thread);
+        shared.store::<Try>(&mut self.seat, own, MARK);
+        let word = shared.load::<Check>(&mut self.seat, index_of(gate, self.place));
+        if (word >> (self.place % 64)) % 2 == 1 {
+            shared.store::<Leave>(&mut self.seat, own, u64::from(self.place));
+            Entered::Flagged(self.place)
+        } else {
+            let version = shared.load::<Read>(&mut self.seat, 0) as u32;
+            self.note(version);
+            Entered::Inside(version)
+        }
+    }
+
+    // Notes an entering with a version, where it is the first.
+    fn note(&mut self, version: u32)
+        requires room { (length self.old.rows.items ≤ self.old.fresh) × (self.old.fresh ≤ version + 1) × (version ≤ 128) × (129 ≤ vec_capacity self.old.rows) }
+        ensures rows { self.new.rows.items ≡ with_row self.old.fresh self.old.thread version self.old.place self.old.rows.items }
+        ensures fresh { self.new.fresh ≡ version + 1 }
+        ensures same { (self.new.seat ≡ self.old.seat) × (self.new.thread ≡ self.old.thread) × (self.new.place ≡ self.old.place) }
+        ensures room { (length self.new.rows.items ≤ 129) × (129 ≤ vec_capacity self.new.rows) }
+    {
+        if self.fresh != version + 1 {
+            self.rows.push_reserved(PassRow {
+                thread: self.thread,
+                version,
+                place: self.place,
+            });
+            self.fresh = version + 1;
+        }
+    }
+
+    /// Whether the flag of a place is up.
+    pub fn poll(&mut self, gate: &Gate, place: u16) -> bool
+        requires gate { IsPassOf gate.now self.old }
+        requires inside { IsInside self.old }
+        requires place { place < places_of gate.now }
+        ensures gate { IsPassOf gate.now self.new }
+        ensures same { (self.new.thread ≡ self.old.thread) × (self.new.place ≡ self.old.place) × (self.new.rows.items ≡ self.old.rows.items) × ((view_of_pass self.new).stage ≡ (view_of_pass self.old).stage) }
+        ensures found { FoundBit (flag_index gate.now place) place result self.new }
+        ensures once { (view_of_pass self.new).checks ≡ (view_of_pass self.old).checks + 1 }
+        ensures version { (v : _) → IsInsideAt v self.old → Amid self.old.thread (view_of_pass self.old) (λ a. a.key.version ≡ v) }
+    {
+        let word = gate.table.shared.load::<Poll>(&mut self.seat, index_of(gate, place));
+        (word >> (place % 64)) % 2 == 1
+    }
+
+    /// Leaves, and stands at a place.
+    pub fn leave(&mut self, gate: &Gate, place: u16)
+        requires gate { IsPassOf gate.now self.old }
+        requires inside { IsInside self.old }
+        requires place { place < places_of gate.now }
+        ensures gate { IsPassOf gate.now self.new }
+        ensures same { (self.new.thread ≡ self.old.thread) × (self.new.rows.items ≡ self.old.rows.items) }
+        ensures stands { IsStanding self.new × (self.new.place ≡ place) }
+        ensures version { (v : _) → IsInsideAt v self.old → Amid self.old.thread (view_of_pass self.old) (λ a. a.key.version ≡ v) }
+    {
+        gate.table.shared.store::<Leave>(&mut self.seat, usize::from(self.thread), u64::from(place));
+        self.place = place;
+    }
+}

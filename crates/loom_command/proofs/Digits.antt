@@ -16,8 +16,8 @@ value_within (suc most) n h = behind (value_within most (n / 10))
     behind again = elim (cases_lt n 10) [
       | inl l ↦ rw (lt-ltb n 10 l) (omega arith)
       | inr l ↦
-        rw (le-ltb n 10 l)
-        (value_behind 0 (48 + n % 10) (digits_within (suc most) (n / 10)) ∙ rw (again (omega (arith, h, l))) (omega arith))
+          rw (le-ltb n 10 l)
+          (value_behind 0 (48 + n % 10) (digits_within (suc most) (n / 10)) ∙ rw (again (omega (arith, h, l))) (omega arith))
     ]
 
 pub value_decimal : (n : ℕ) → value_from 0 (decimal n) ≡ n

@@ -60,11 +60,11 @@ row_told t v place p a =
     let r = rows_then t v p a in
     let more : List PassRow = p.rows ++ record { thread = t; version = v; place = place } ∷ [] in
     dite (ℕ_discrete p.fresh (v + 1))
-      (λ e. ap (λ (b : Bool). if b then p.rows else more) (eq-eqb p.fresh (v + 1) e) ∙ sym (ap (λ (b : Bool). if b then p.rows else more) (r.newest v e)))
-      (λ other. let low = r.fresh in
-        ap (λ (b : Bool). if b then p.rows else more) (ne_eqb p.fresh (v + 1) other)
-        ∙ sym (ap (λ (b : Bool). if b then p.rows else more)
-            (version_none v p.rows (all_map (λ (x : PassRow). (x.thread ≡ t) × (x.version < p.fresh)) (λ (x : PassRow). x.version < v) p.rows (λ x h. let b = h.1 in omega arith) r.below))))
+    (λ e. ap (λ (b : Bool). if b then p.rows else more) (eq-eqb p.fresh (v + 1) e) ∙ sym (ap (λ (b : Bool). if b then p.rows else more) (r.newest v e)))
+    (λ other. let low = r.fresh in
+    ap (λ (b : Bool). if b then p.rows else more) (ne_eqb p.fresh (v + 1) other)
+    ∙ sym (ap (λ (b : Bool). if b then p.rows else more)
+    (version_none v p.rows (all_map (λ (x : PassRow). (x.thread ≡ t) × (x.version < p.fresh)) (λ (x : PassRow). x.version < v) p.rows (λ x h. let b = h.1 in omega arith) r.below))))
 
 pub version_read : (t v : ℕ) (q : PassView) → Amid t q (λ a. v ≡ a.key.version) → Amid t q (λ a. a.key.version ≡ v)
 version_read t v q a = (a.0, a.1, a.2, a.3, a.4, sym a.5)

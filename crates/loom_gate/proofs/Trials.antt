@@ -35,8 +35,8 @@ pub two_below : (places : List ℕ) (a b limit p : ℕ) → a < limit → b < li
 two_below places a b limit p low_a low_b is on = dite (ℕ_discrete p b)
     (λ e. omega arith)
     (λ far. dite (ℕ_discrete p a)
-        (λ e. omega arith)
-        (λ other. absurd (true≢false (sym on ∙ (is ∙ (ap (λ (x : Bool). if x then true else (if p == a then true else false)) (ne_eqb p b far) ∙ ap (λ (x : Bool). if x then true else false) (ne_eqb p a other)))))))
+    (λ e. omega arith)
+    (λ other. absurd (true≢false (sym on ∙ (is ∙ (ap (λ (x : Bool). if x then true else (if p == a then true else false)) (ne_eqb p b far) ∙ ap (λ (x : Bool). if x then true else false) (ne_eqb p a other)))))))
 
 -- the one thread was found at a raised place
 pub all_of_one : (k : KeyView) (n p : ℕ) (old : List Look) → n ≡ 1 → k.looks ≡ set old 1 (SawPlace p) → 1 < length old → has_place k.up p ≡ true → AllStood n k

@@ -261,7 +261,10 @@ pub begun_on : (c : Flat) (f : ℕ) (vs : List ℤ) (g : Function) (en : Entranc
 begun_on c f vs g en there place es q n h = record {
   most_steps = n;
   gives = subst (λ x. flat.thread c x f vs n (made (line_of_function x) begin ∷ enter f (locals_now c (at_start f en vs [] [])) ∷ es) q) (sym there)
-      (inr (enter f (locals_now c (at_start f en vs [] [])) ∷ es, refl,
-      subst (λ o. started c (record { program = c.program; stopped = ended g.line }) f vs n o (enter f (locals_now c (at_start f en vs [] [])) ∷ es) q) (sym place)
-      (inr (es, refl, subst (λ x. runs c (record { program = c.program; stopped = ended (line_of_function x) }) n (before (at_start f en vs [] [])) es q) there h))));
+      (inr (
+        enter f (locals_now c (at_start f en vs [] [])) ∷ es,
+        refl,
+        subst (λ o. started c (record { program = c.program; stopped = ended g.line }) f vs n o (enter f (locals_now c (at_start f en vs [] [])) ∷ es) q) (sym place)
+            (inr (es, refl, subst (λ x. runs c (record { program = c.program; stopped = ended (line_of_function x) }) n (before (at_start f en vs [] [])) es q) there h)),
+      ));
 }

@@ -190,9 +190,14 @@ ticks_by c a b d n k j place mark (Some there) l h w walks e =
     let at : place_at c.program place ≡ Some walks.0 = subst (λ i. place_at c.program i ≡ Some walks.0) (sym due.1) walks.1.0 in
     let number : place_number c.program walks.0 ≡ place = one_number c.program l.lawful place walks.0 at in
     let owed : with_tick c.program walks.0 (suc k) [] ≡ (line_of_place c.program walks.0, tick place) ∷ [] =
-    one_tick c.program walks.0 (suc k) due.0 ∙ ap (λ i. (line_of_place c.program walks.0, tick i) ∷ []) number in
-    (walks.0, (at, subst (λ i. HasGone c a d n i ((line_of_place c.program walks.0, tick place) ∷ [])) (sym e.0)
-    (gone_more c a b d n k (suc k) ((line_of_place c.program walks.0, tick place) ∷ []) mark l h w (subst (λ os. WalksOn c.program (steps_of w.item) k os (suc k)) owed walks.1.1))))
+    one_tick c.program walks.0 (suc k) due.0 ∙ ap (λ i. (line_of_place c.program walks.0, tick i) ∷ []) number in (
+      walks.0,
+      (
+        at,
+        subst (λ i. HasGone c a d n i ((line_of_place c.program walks.0, tick place) ∷ [])) (sym e.0)
+            (gone_more c a b d n k (suc k) ((line_of_place c.program walks.0, tick place) ∷ []) mark l h w (subst (λ os. WalksOn c.program (steps_of w.item) k os (suc k)) owed walks.1.1)),
+      ),
+    )
 
 ticks : (c : Flat) (a b d : Machine) (n k j place : ℕ) (mark : Option Mark) → IsLowered c → HasGone c a b n k [] → IsMove c b d mark → Passes k j (place_passed mark) (Some place)
     → (x : Place) × ((place_at c.program place ≡ Some x) × HasGone c a d n j ((line_of_place c.program x, tick place) ∷ []))

@@ -32,7 +32,6 @@ pub(crate) struct Frames {
 impl Model for Frames {
     ghost use Rattle.std.specs.Prelude.{reverse, vec_capacity};
     ghost use Rattle.loom_strand.specs.Stack.{Stack};
-
     ghost use Rattle.loom_flow.specs.State as state;
 
     ghost Value = { Stack state.Frame };

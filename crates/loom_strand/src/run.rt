@@ -33,7 +33,11 @@ fn pass(passed: &mut u32, place: Option<u16>) -> Option<u16>
 {
     let place = place?;
     *passed += 1;
-    if *passed == TICK_AFTER { Some(place) } else { None }
+    if *passed == TICK_AFTER {
+        Some(place)
+    } else {
+        None
+    }
 }
 
 /// Goes on up to the next request, the next tick or the end of the thread. `passed` counts the entry and back-edge places since the last

@@ -55,6 +55,7 @@ taken_last cs t c (y ∷ es) x h = go (takes t y) (taken_last cs t (after_entry 
   where
     rest : Control
     rest = after_entry cs c y
+
     go : (b : Bool) → taken_from cs t rest (es ++ x ∷ []) ≡ taken_from cs t rest es
         → (if b then Control.version c ∷ taken_from cs t rest (es ++ x ∷ []) else taken_from cs t rest (es ++ x ∷ [])) ≡ (if b then Control.version c ∷ taken_from cs t rest es else taken_from cs t rest es)
     go true i = ap (λ z. Control.version c ∷ z) i

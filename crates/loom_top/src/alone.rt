@@ -9,10 +9,10 @@ ghost use Rattle.loom_top.specs.declared.status.Status.{Status};
 ghost use Rattle.loom_top.specs.Code.{code, ended_as};
 ghost use Rattle.loom_top.specs.Answers.{CanRun, IsRunOf, Put, FileEnds, call_of, Answers, IsValid, IsMissing};
 
-use crate::runnable::is_runnable;
 use crate::code::{code_of, status_of};
 use crate::command::command_of;
 use crate::run::run;
+use crate::runnable::is_runnable;
 use crate::status::Status;
 use crate::write::put_journal;
 use loom_flow::lower::lower;

@@ -2,10 +2,10 @@
 #![tactic(auto)]
 
 pub mod alone;
-mod runnable;
 mod code;
 mod command;
 mod run;
+mod runnable;
 mod start;
 pub mod status;
 #[cfg(test)]

@@ -1,19 +1,16 @@
 -- The record at the end.
-use Rattle.std.proofs.Common.{◌≡◌, ◌≢◌, ℕ, zero, suc, ◌+◌, ◌-◌, ◌<◌, ◌≤◌, ◌==◌, ◌&&◌, eq-eqb, ne_eqb, Bool, true, false, if◌then◌else◌, List, [], ◌∷◌, ◌++◌, map, length, get_or, leb, sym, refl, ap, ◌∙◌, subst, ◌⊎◌, ⊎_elim, arith, All}
-use Rattle.std.specs.List.{flat_map}
+use Rattle.std.proofs.Common.{◌≡◌, ◌≢◌, ℕ, zero, suc, ◌+◌, ◌-◌, ◌<◌, ◌≤◌, ◌&&◌, ne_eqb, Bool, if◌then◌else◌, List, [], ◌∷◌, ◌++◌, map, length, get_or, leb, sym, refl, ap, ◌∙◌, subst, arith, All}
 use mathlib.Core.Logic.{dite}
 use native.Mathlib.Decide.{ℕ_discrete}
 use Rattle.loom_gate.specs.declared.log.PassRow.{PassRow}
 use Rattle.loom_gate.specs.declared.log.SwitchRow.{SwitchRow}
 use Rattle.loom_gate.specs.declared.pass.Pass as pass
-use Rattle.loom_gate.specs.declared.view.Stage.{Stage}
-use Rattle.loom_gate.specs.declared.view.Stage.TheVariants.{Stands}
 use Rattle.loom_gate.specs.declared.view.PassView.{PassView}
 use Rattle.atomic_table.specs.Seated.{TableId}
 use Rattle.loom_gate.specs.View.{start, place_of}
 use Rattle.loom_gate.specs.Record.{is_from, place_from}
 use Rattle.loom_gate.specs.Machine.{IsThread, Machine, Lawful, SwitchFits}
-use Rattle.loom_gate.specs.Seats.{view_of_pass, IsPassAt, IsStanding, ArePassesFrom, rows_of, ends_of}
+use Rattle.loom_gate.specs.Seats.{view_of_pass, IsStanding, ArePassesFrom, rows_of, ends_of}
 use Rattle.loom_gate.proofs.Rows.{all_map}
 
 -- rows of another thread are passed over
@@ -46,14 +43,14 @@ unfolding RowsFrom
 own_rows s t v end [] d low high h = absurd (omega arith)
 own_rows s t v end (p ∷ ps) d low high h = dite (ℕ_discrete s t)
     (λ e. let zero_is : t - s ≡ 0 = omega arith in
-      from_append t v end p.rows.items (rows_of ps)
-      ∙ (ap (λ (x : ℕ). place_from t v x p.rows.items) (later_none (s + 1) t v end ps (omega arith) h.1)
-      ∙ ap (λ (i : ℕ). place_from t v end (get_or (p ∷ ps) i d).rows.items) (sym zero_is)))
+    from_append t v end p.rows.items (rows_of ps)
+    ∙ (ap (λ (x : ℕ). place_from t v x p.rows.items) (later_none (s + 1) t v end ps (omega arith) h.1)
+    ∙ ap (λ (i : ℕ). place_from t v end (get_or (p ∷ ps) i d).rows.items) (sym zero_is)))
     (λ ne. let next : t - s ≡ suc (t - (s + 1)) = omega arith in
-      from_append t v end p.rows.items (rows_of ps)
-      ∙ (from_other t s v (place_from t v end (rows_of ps)) p.rows.items ne h.0
-      ∙ (own_rows (s + 1) t v end ps d (omega arith) (omega arith) h.1
-      ∙ ap (λ (i : ℕ). place_from t v end (get_or (p ∷ ps) i d).rows.items) (sym next))))
+    from_append t v end p.rows.items (rows_of ps)
+    ∙ (from_other t s v (place_from t v end (rows_of ps)) p.rows.items ne h.0
+    ∙ (own_rows (s + 1) t v end ps d (omega arith) (omega arith) h.1
+    ∙ ap (λ (i : ℕ). place_from t v end (get_or (p ∷ ps) i d).rows.items) (sym next))))
 
 module _ (id : TableId) (n places : ℕ) (m : Machine) (l : Lawful n m) where
   rows_from : (s : ℕ) (ps : List pass.Pass) → ArePassesFrom id n places s ps → ((i : ℕ) → i < length ps → m.passes (s + i) ≡ get_or (map view_of_pass ps) i start) → RowsFrom s ps
@@ -62,10 +59,11 @@ module _ (id : TableId) (n places : ℕ) (m : Machine) (l : Lawful n m) where
   rows_from s (p ∷ ps) are is =
       let this : m.passes s ≡ view_of_pass p = ap (λ (x : ℕ). m.passes x) (omega arith) ∙ is 0 (omega arith) in
       let thread : IsThread n s = subst (λ (x : ℕ). IsThread n x) are.0 are.1.1 in
-      let below = (l.rows s thread).below in
-      (subst (λ (rs : List PassRow). All (λ (r : PassRow). r.thread ≡ s) rs) (ap (λ (x : PassView). x.rows) this ∙ sym are.1.5)
-          (all_map (λ (r : PassRow). (r.thread ≡ s) × (r.version < (m.passes s).fresh)) (λ (r : PassRow). r.thread ≡ s) (m.passes s).rows (λ r h. h.0) below),
-       rows_from (s + 1) ps are.2 (λ i h. ap (λ (x : ℕ). m.passes x) (omega arith) ∙ is (suc i) (omega arith)))
+      let below = (l.rows s thread).below in (
+        subst (λ (rs : List PassRow). All (λ (r : PassRow). r.thread ≡ s) rs) (ap (λ (x : PassView). x.rows) this ∙ sym are.1.5)
+            (all_map (λ (r : PassRow). (r.thread ≡ s) × (r.version < (m.passes s).fresh)) (λ (r : PassRow). r.thread ≡ s) (m.passes s).rows (λ r h. h.0) below),
+        rows_from (s + 1) ps are.2 (λ i h. ap (λ (x : ℕ). m.passes x) (omega arith) ∙ is (suc i) (omega arith)),
+      )
 
   ends_at : (ps : List pass.Pass) (i : ℕ) (d : pass.Pass) → i < length ps → get_or (ends_of ps) i 0 ≡ (get_or ps i d).place
   ends_at [] i d h = absurd (omega arith)
@@ -92,15 +90,15 @@ module _ (id : TableId) (n places : ℕ) (m : Machine) (l : Lawful n m) where
       let ps : List pass.Pass = p0 ∷ ps0 in
       all_map (SwitchFits n m) (λ (w : SwitchRow). place_from w.thread w.version (get_or (ends_of ps) (w.thread - 1) 0) (rows_of ps) ≡ w.place) m.key.switches
       (λ w h.
-        let a = h.0.0 in let b = h.0.1 in
-        let i : ℕ = w.thread - 1 in
-        let low : i < length ps = omega arith in
-        let p : pass.Pass = get_or ps i p0 in
-        let view : m.passes w.thread ≡ view_of_pass p = ap (λ (x : ℕ). m.passes x) (omega arith) ∙ (is i low ∙ views_at ps i p0 low) in
-        let end : get_or (ends_of ps) i 0 ≡ place_of (m.passes w.thread).stage = ends_at ps i p0 low ∙ sym (ap (λ (x : PassView). place_of x.stage) view ∙ ap place_of (stand i p0 low)) in
-        let rows : p.rows.items ≡ (m.passes w.thread).rows = rows_at 1 ps i p0 low are ∙ sym (ap (λ (x : PassView). x.rows) view) in
-        own_rows 1 w.thread w.version (get_or (ends_of ps) i 0) ps p0 (omega arith) (omega arith) (rows_from 1 ps are (λ j g. ap (λ (x : ℕ). m.passes x) (omega arith) ∙ is j g))
-        ∙ (ap (λ (x : ℕ). place_from w.thread w.version x p.rows.items) end
-        ∙ (ap (λ (rs : List PassRow). place_from w.thread w.version (place_of (m.passes w.thread).stage) rs) rows
-        ∙ h.2)))
+      let a = h.0.0 in let b = h.0.1 in
+      let i : ℕ = w.thread - 1 in
+      let low : i < length ps = omega arith in
+      let p : pass.Pass = get_or ps i p0 in
+      let view : m.passes w.thread ≡ view_of_pass p = ap (λ (x : ℕ). m.passes x) (omega arith) ∙ (is i low ∙ views_at ps i p0 low) in
+      let end : get_or (ends_of ps) i 0 ≡ place_of (m.passes w.thread).stage = ends_at ps i p0 low ∙ sym (ap (λ (x : PassView). place_of x.stage) view ∙ ap place_of (stand i p0 low)) in
+      let rows : p.rows.items ≡ (m.passes w.thread).rows = rows_at 1 ps i p0 low are ∙ sym (ap (λ (x : PassView). x.rows) view) in
+      own_rows 1 w.thread w.version (get_or (ends_of ps) i 0) ps p0 (omega arith) (omega arith) (rows_from 1 ps are (λ j g. ap (λ (x : ℕ). m.passes x) (omega arith) ∙ is j g))
+      ∙ (ap (λ (x : ℕ). place_from w.thread w.version x p.rows.items) end
+      ∙ (ap (λ (rs : List PassRow). place_from w.thread w.version (place_of (m.passes w.thread).stage) rs) rows
+      ∙ h.2)))
       l.switches

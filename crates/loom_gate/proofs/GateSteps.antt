@@ -1,24 +1,21 @@
 -- Each kind of step keeps the rule of the table.
-use Rattle.std.proofs.Common.{◌≡◌, ◌≢◌, ℕ, zero, suc, ◌+◌, ◌-◌, ◌/◌, ◌%◌, ◌<◌, ◌≤◌, ◌==◌, Bool, true, false, true≢false, if◌then◌else◌, List, [], ◌∷◌, ◌++◌, length, get_or, set, replicate, sym, refl, ap, ◌∙◌, subst, ◌⊎◌, inl, inr, ⊎_elim, arith, Some, length-set, get_or-set_same, get_or-set_other}
+use Rattle.std.proofs.Common.{◌≡◌, ℕ, ◌+◌, ◌-◌, ◌/◌, ◌<◌, ◌≤◌, Bool, true, false, true≢false, if◌then◌else◌, List, [], ◌∷◌, ◌++◌, length, get_or, set, replicate, sym, refl, ap, ◌∙◌, subst, ◌⊎◌, inr, arith, Some, length-set, get_or-set_same, get_or-set_other}
 use mathlib.Core.Logic.{dite}
-use mathlib.Core.Option as maybe
 use mathlib.Core.Option.{some, none}
 use native.Mathlib.Decide.{ℕ_discrete}
-use lib.ListN.{get_elem?}
-use Rattle.atomic_table.specs.Table.{State, Me, step, keeps, stepped, Allows, Splits, Joins, Final, Seen}
+use Rattle.atomic_table.specs.Table.{State, Me, step, keeps, Allows, Splits, Joins, Final, Seen}
 use Rattle.atomic_table.proofs.Lists.{set_else}
 use Rattle.loom_trace.specs.Places.{has_bit, has_place}
 use Rattle.loom_gate.specs.declared.view.Stage.{Stage}
 use Rattle.loom_gate.specs.declared.view.Stage.TheVariants.{Stands, Tries, Clear, Inside}
 use Rattle.loom_gate.specs.declared.view.PassView.{PassView}
-use Rattle.loom_gate.specs.declared.view.Look.{Look}
 use Rattle.loom_gate.specs.declared.view.Look.TheVariants.{Unknown}
 use Rattle.loom_gate.specs.declared.view.KeyView.{KeyView}
 use Rattle.loom_gate.specs.declared.view.View.{View}
 use Rattle.loom_gate.specs.declared.view.View.TheVariants.{Pass, Key, Nobody}
-use Rattle.loom_gate.specs.View.{mark, stand_word, look_of, place_of, start, first_key, more, joined, tried, checked, polled, with_row, entered, left, flagged, looked, switch_rows, switched, thread_of, pass_of, key_of}
-use Rattle.loom_gate.specs.Machine.{IsThread, Machine, Lawful, StageFits, Amid, AmidKey, AllStood, WasRaised}
-use Rattle.loom_gate.specs.Rule.{SeatFits, GateHolds}
+use Rattle.loom_gate.specs.View.{mark, stand_word, look_of, place_of, start, more, joined, tried, checked, polled, with_row, entered, left, flagged, looked, switch_rows, switched, pass_of, key_of}
+use Rattle.loom_gate.specs.Machine.{IsThread, Machine, Lawful, AllStood}
+use Rattle.loom_gate.specs.Rule.{GateHolds}
 use Rattle.loom_gate.specs.Tells as tells
 use Rattle.loom_gate.specs.Tells.{passed, keyed}
 use Rattle.loom_gate.proofs.Machines.{upd, tries_lawful, flagged_lawful, clear_lawful, reads_lawful, polls_lawful, leaves_lawful, flags_lawful, looks_lawful, switches_lawful, word_low, nobody_inside}
@@ -34,7 +31,7 @@ module _ {S : Type 0} (n f : ℕ) where
   tries slots id t place p c at s k len here small =
       let mine = k.seats id (Pass t p) here in
       let law = subst (λ (x : PassView). x.stage ≡ Stands place → Lawful n record { passes = upd k.machine.passes t (record x { stage = Tries place; tries = x.tries + 1 }); key = k.machine.key }) (sym mine.2)
-          (λ at'. tries_lawful n k.machine t place mine.0 at' k.lawful) at in
+      (λ at'. tries_lawful n k.machine t place mine.0 at' k.lawful) at in
       let q : PassView = record p { stage = Tries place; tries = p.tries + 1 } in
       let is : q ≡ tried p = λ i. record p { stage = Tries (place_of (sym at i)); tries = p.tries + 1 } in
       (Pass t (tried p), keeps, tt, subst (λ (x : PassView). GateHolds n f (set s.words t mark) (set s.views id (Pass t x))) is (store_stand n f s.words s.views k id t p q mark here refl law), refl)
@@ -45,7 +42,7 @@ module _ {S : Type 0} (n f : ℕ) where
   leaves slots id t place p c low from s k len here small =
       let mine = k.seats id (Pass t p) here in
       let law = subst (λ (x : PassView). (x.stage ≡ Tries place) ⊎ ((v : ℕ) × (x.stage ≡ Inside v)) → Lawful n record { passes = upd k.machine.passes t (record x { stage = Stands place }); key = k.machine.key }) (sym mine.2)
-          (λ from'. leaves_lawful n k.machine t place mine.0 low from' k.lawful) from in
+      (λ from'. leaves_lawful n k.machine t place mine.0 low from' k.lawful) from in
       (Pass t (left place p), keeps, tt, store_stand n f s.words s.views k id t p (left place p) place here refl law, (refl, (n, k.machine, k.lawful, mine.0, sym mine.2, tt)))
 
   -- kind 3
@@ -55,13 +52,16 @@ module _ {S : Type 0} (n f : ℕ) where
       let mine = k.seats id (Pass t p) here in
       let v : ℕ = k.machine.key.version in
       let law = subst (λ (x : PassView). x.stage ≡ Clear place → Lawful n record { passes = upd k.machine.passes t (record x { stage = Inside v; fresh = v + 1; rows = with_row x.fresh t v place x.rows }); key = k.machine.key }) (sym mine.2)
-          (λ at'. reads_lawful n k.machine t place mine.0 at' k.lawful) at in
+      (λ at'. reads_lawful n k.machine t place mine.0 at' k.lawful) at in
       let q : ℕ → ℕ → PassView = λ w x. record p { stage = Inside w; fresh = w + 1; rows = with_row p.fresh t w x p.rows } in
-      let ok = load_pass n f s.words s.views k id t 0 p (q v place) here (ap stand_word at) law in
-      (Pass t (entered t (get_or s.words 0 0) p), keeps, tt,
-       subst (λ (x : ℕ). GateHolds n f (set s.words 0 (get_or s.words 0 0)) (set s.views id (Pass t (q (get_or s.words 0 0) x)))) (ap place_of (sym at))
-         (subst (λ (w : ℕ). GateHolds n f (set s.words 0 (get_or s.words 0 0)) (set s.views id (Pass t (q w place)))) (sym k.version) ok),
-       (refl, (n, k.machine, k.lawful, mine.0, sym mine.2, k.version)))
+      let ok = load_pass n f s.words s.views k id t 0 p (q v place) here (ap stand_word at) law in (
+        Pass t (entered t (get_or s.words 0 0) p),
+        keeps,
+        tt,
+        subst (λ (x : ℕ). GateHolds n f (set s.words 0 (get_or s.words 0 0)) (set s.views id (Pass t (q (get_or s.words 0 0) x)))) (ap place_of (sym at))
+            (subst (λ (w : ℕ). GateHolds n f (set s.words 0 (get_or s.words 0 0)) (set s.views id (Pass t (q w place)))) (sym k.version) ok),
+        (refl, (n, k.machine, k.lawful, mine.0, sym mine.2, k.version)),
+      )
 
   -- kind 2, in `enter`
   checks : (slots id t place : ℕ) (p : PassView) (c : List (ℕ × S)) → p.stage ≡ Tries place → place / 64 < f
@@ -77,15 +77,21 @@ module _ {S : Type 0} (n f : ℕ) where
       let raised = raised_of n f s.words s.views k i (omega arith) in
       let made : Bool → PassView = λ b. record p { stage = (if b then Tries place else Clear place); checks = p.checks + 1; latest = Some (i, word) } in
       let law : (b : Bool) → has_bit word place ≡ b → Lawful n record { passes = upd k.machine.passes t (made b); key = k.machine.key } =
-          elim [ true ↦ λ e. subst (λ (x : PassView). Lawful n record { passes = upd k.machine.passes t (record x { stage = Tries place; checks = x.checks + 1; latest = Some (i, word) }); key = k.machine.key }) (sym mine.2)
-                   (flagged_lawful n k.machine t place mine.0 at' i word raised k.lawful)
-               | false ↦ λ e. subst (λ (x : PassView). Lawful n record { passes = upd k.machine.passes t (record x { stage = Clear place; checks = x.checks + 1; latest = Some (i, word) }); key = k.machine.key }) (sym mine.2)
-                   (clear_lawful n k.machine t place mine.0 at' (λ on. true≢false (sym on ∙ (sym same ∙ e))) i word raised k.lawful) ] in
+      elim [
+        | true ↦ λ e. subst (λ (x : PassView). Lawful n record { passes = upd k.machine.passes t (record x { stage = Tries place; checks = x.checks + 1; latest = Some (i, word) }); key = k.machine.key }) (sym mine.2)
+            (flagged_lawful n k.machine t place mine.0 at' i word raised k.lawful)
+        | false ↦ λ e. subst (λ (x : PassView). Lawful n record { passes = upd k.machine.passes t (record x { stage = Clear place; checks = x.checks + 1; latest = Some (i, word) }); key = k.machine.key }) (sym mine.2)
+            (clear_lawful n k.machine t place mine.0 at' (λ on. true≢false (sym on ∙ (sym same ∙ e))) i word raised k.lawful)
+      ] in
       let mark_of : (b : Bool) → mark ≡ stand_word (if b then Tries place else Clear place) = elim [ true ↦ refl | false ↦ refl ] in
       let ok = load_pass n f s.words s.views k id t i p (made (has_bit word place)) here (ap stand_word at ∙ mark_of (has_bit word place)) (law (has_bit word place) refl) in
-      let is : made (has_bit word place) ≡ checked i word p = λ j. record p { stage = (if has_bit word (place_of (sym at j)) then Tries (place_of (sym at j)) else Clear (place_of (sym at j))); checks = p.checks + 1; latest = Some (i, word) } in
-      (Pass t (checked i word p), keeps, tt, subst (λ (x : PassView). GateHolds n f (set s.words i word) (set s.views id (Pass t x))) is ok,
-        (refl, (n, k.machine, k.lawful, mine.0, sym mine.2, subst (λ (st : Stage). has_bit word (place_of st) ≡ has_place k.machine.key.up (place_of st)) (sym at) same)))
+      let is : made (has_bit word place) ≡ checked i word p = λ j. record p { stage = (if has_bit word (place_of (sym at j)) then Tries (place_of (sym at j)) else Clear (place_of (sym at j))); checks = p.checks + 1; latest = Some (i, word) } in (
+        Pass t (checked i word p),
+        keeps,
+        tt,
+        subst (λ (x : PassView). GateHolds n f (set s.words i word) (set s.views id (Pass t x))) is ok,
+        (refl, (n, k.machine, k.lawful, mine.0, sym mine.2, subst (λ (st : Stage). has_bit word (place_of st) ≡ has_place k.machine.key.up (place_of st)) (sym at) same)),
+      )
 
   -- kind 2, in `poll`
   polls : (slots id t v place : ℕ) (p : PassView) (c : List (ℕ × S)) → p.stage ≡ Inside v → place / 64 < f
@@ -95,7 +101,7 @@ module _ {S : Type 0} (n f : ℕ) where
       let word : ℕ = get_or s.words i 0 in
       let mine = k.seats id (Pass t p) here in
       let law = subst (λ (x : PassView). Lawful n record { passes = upd k.machine.passes t (record x { checks = x.checks + 1; latest = Some (i, word) }); key = k.machine.key }) (sym mine.2)
-          (polls_lawful n k.machine t mine.0 i word (raised_of n f s.words s.views k i (omega arith)) k.lawful) in
+      (polls_lawful n k.machine t mine.0 i word (raised_of n f s.words s.views k i (omega arith)) k.lawful) in
       (Pass t (polled i word p), keeps, tt, load_pass n f s.words s.views k id t i p (polled i word p) here refl law, (refl, (n, k.machine, k.lawful, mine.0, sym mine.2, tt)))
 
   -- kinds 5 and 8
@@ -110,7 +116,7 @@ module _ {S : Type 0} (n f : ℕ) where
       let set_wide = length-set s.words i x in
       let new : KeyView = record old { up = set old.up w x; looks = replicate (length old.looks) Unknown; ever = (w, x) ∷ old.ever } in
       let is : new ≡ flagged i x l = (λ j. record (sym mine.1 j) { up = set (sym mine.1 j).up w x; looks = replicate (length (sym mine.1 j).looks) Unknown; ever = (w, x) ∷ (sym mine.1 j).ever })
-          ∙ (λ j. record l { up = set l.up (sym back j) x; looks = replicate (length l.looks) Unknown; ever = (sym back j, x) ∷ l.ever }) in
+      ∙ (λ j. record l { up = set l.up (sym back j) x; looks = replicate (length l.looks) Unknown; ever = (sym back j, x) ∷ l.ever }) in
       let ok : GateHolds n f (set s.words i x) (set s.views id (Key new)) = record {
         machine = record { passes = k.machine.passes; key = new };
         owner = k.owner;
@@ -121,7 +127,7 @@ module _ {S : Type 0} (n f : ℕ) where
         stands = λ t h. let a = h.1 in get_or-set_other s.words i t x 0 (λ e. omega arith) ∙ k.stands t h;
         flags = λ j h. dite (ℕ_discrete j w)
             (λ e. subst (λ (y : ℕ). get_or (set s.words i x) ((n + 1) + y) 0 ≡ get_or (set old.up w x) y 0) (sym e)
-                (get_or-set_same s.words i x 0 (omega arith) ∙ sym (get_or-set_same old.up w x 0 (omega arith))))
+            (get_or-set_same s.words i x 0 (omega arith) ∙ sym (get_or-set_same old.up w x 0 (omega arith))))
             (λ other. let p = length-set old.up w x in get_or-set_other s.words i ((n + 1) + j) x 0 (λ e. other (omega arith)) ∙ (k.flags j (omega arith) ∙ sym (get_or-set_other old.up w j x 0 other)));
         seats = key_seats n f s.words s.views k id l new here (omega arith) refl;
         unborn = k.unborn;
@@ -152,9 +158,13 @@ module _ {S : Type 0} (n f : ℕ) where
         unborn = k.unborn;
         finals = k.finals;
         lawful = looks_lawful n k.machine t is_t k.lawful;
-      } in
-      (Key (looked t word l), keeps, tt, subst (λ (y : KeyView). GateHolds n f (set s.words t word) (set s.views id (Key y))) is ok,
-        (refl, subst (λ (x : ℕ). x ≤ mark) (sym (k.stands t is_t)) (word_low k.machine.key.version (k.machine.passes t).tries (k.machine.passes t).fresh (k.machine.passes t).stage (k.lawful.stages t is_t))))
+      } in (
+        Key (looked t word l),
+        keeps,
+        tt,
+        subst (λ (y : KeyView). GateHolds n f (set s.words t word) (set s.views id (Key y))) is ok,
+        (refl, subst (λ (x : ℕ). x ≤ mark) (sym (k.stands t is_t)) (word_low k.machine.key.version (k.machine.passes t).tries (k.machine.passes t).fresh (k.machine.passes t).stage (k.lawful.stages t is_t))),
+      )
 
   -- kind 7
   switches : (slots id v : ℕ) (l : KeyView) (c : List (ℕ × S)) → v ≡ l.version + 1 → l.version < 128 → AllStood n l
@@ -179,9 +189,13 @@ module _ {S : Type 0} (n f : ℕ) where
         unborn = k.unborn;
         finals = k.finals;
         lawful = switches_lawful n k.machine (subst (AllStood n) mine.1 all) (omega arith) k.lawful;
-      } in
-      (Key (switched l), keeps, tt, subst (λ (y : KeyView). GateHolds n f (set s.words 0 v) (set s.views id (Key y))) is ok,
-        (refl, (n, k.machine, k.lawful, sym mine.1, nobody_inside n k.machine (subst (AllStood n) mine.1 all) k.lawful)))
+      } in (
+        Key (switched l),
+        keeps,
+        tt,
+        subst (λ (y : KeyView). GateHolds n f (set s.words 0 v) (set s.views id (Key y))) is ok,
+        (refl, (n, k.machine, k.lawful, sym mine.1, nobody_inside n k.machine (subst (AllStood n) mine.1 all) k.lawful)),
+      )
 
   -- the same at a view that is known to be of a pass or of the key
   pub tries_at : (slots id i t place : ℕ) (p : PassView) (m : Me S View) → i ≡ t → m ≡ (Pass t p, []) → p.stage ≡ Stands place → Allows Rule slots id m i (λ _. mark) (λ _. tells.Tries (step slots i mark 0 none) m mark)

@@ -1,21 +1,19 @@
 -- The machine's steps keep its facts. No table here.
-use Rattle.std.proofs.Common.{◌≡◌, ◌≢◌, ℕ, zero, suc, ◌+◌, ◌-◌, ◌<◌, ◌≤◌, ◌==◌, ◌/◌, eq-eqb, ne_eqb, eqb, Bool, true, false, true≢false, if◌then◌else◌, List, [], ◌∷◌, ◌++◌, length, get_or, set, replicate, sym, refl, ap, ◌∙◌, subst, ◌⊎◌, inl, inr, ⊎_elim, arith, Option, Some, None, MatchOption, length-set, get_or-set_same, get_or-set_other, All}
+use Rattle.std.proofs.Common.{◌≡◌, ◌≢◌, ℕ, zero, suc, ◌+◌, ◌<◌, ◌≤◌, ◌==◌, ◌/◌, eq-eqb, ne_eqb, Bool, true, if◌then◌else◌, List, [], ◌∷◌, ◌++◌, length, get_or, set, replicate, sym, refl, ap, ◌∙◌, subst, ◌⊎◌, inl, inr, ⊎_elim, arith, Option, Some, None, length-set, get_or-set_same, get_or-set_other, All}
 use Rattle.std.proofs.lemmas.List.{length-replicate}
 use mathlib.Core.Logic.{dite}
 use native.Mathlib.Decide.{ℕ_discrete}
 use Rattle.loom_trace.specs.Places.{has_bit, has_place}
 use Rattle.loom_gate.specs.declared.log.PassRow.{PassRow}
-use Rattle.loom_gate.specs.declared.log.SwitchRow.{SwitchRow}
 use Rattle.loom_gate.specs.declared.view.Stage.{Stage}
 use Rattle.loom_gate.specs.declared.view.Stage.TheVariants.{Stands, Tries, Clear, Inside}
 use Rattle.loom_gate.specs.declared.view.PassView.{PassView}
 use Rattle.loom_gate.specs.declared.view.Look.{Look}
 use Rattle.loom_gate.specs.declared.view.Look.TheVariants.{Unknown, SawInside, SawPlace}
-use Rattle.loom_gate.specs.declared.view.KeyView.{KeyView}
-use Rattle.loom_gate.specs.View.{mark, stand_word, look_of, place_of, place_seen, with_row, entered, switched, switch_rows}
-use Rattle.loom_gate.specs.Record.{is_from, place_from, has_version}
+use Rattle.loom_gate.specs.View.{mark, stand_word, look_of, place_of, place_seen, with_row, switch_rows}
+use Rattle.loom_gate.specs.Record.{place_from}
 use Rattle.loom_gate.specs.Machine.{IsThread, Machine, StageFits, LookFits, LatestFits, RowsFit, SwitchFits, Lawful, WasRaised, AllStood}
-use Rattle.loom_gate.proofs.Rows.{all_snoc, all_append, all_map, length_snoc, from_snoc, from_none, from_some, is_here, is_none, version_last, version_none}
+use Rattle.loom_gate.proofs.Rows.{all_snoc, all_append, all_map, length_snoc, from_snoc, from_none, from_some, is_here, version_last}
 
 abbrev pub upd : (ℕ → PassView) → ℕ → PassView → ℕ → PassView
 upd ps t q j = if j == t then q else ps j
@@ -90,12 +88,15 @@ pass_lawful n m t q l a b c r same = record {
   raised = l.raised;
   rows = λ j h. upd_all (λ (j : ℕ) (p : PassView). IsThread n j → RowsFit j m.key.version p) m.passes t q (λ _. r) (λ j _ h. l.rows j h) j h;
   switches = all_map (SwitchFits n m) (SwitchFits n record { passes = upd m.passes t q; key = m.key }) m.key.switches
-      (λ w h. (h.0, h.1,
+      (λ w h. (
+        h.0,
+        h.1,
         upd_all (λ (j : ℕ) (p : PassView). (w.thread ≡ j) → place_from w.thread w.version (place_of p.stage) p.rows ≡ w.place) m.passes t q
-          (λ e. subst (λ (j : ℕ). place_from j w.version (place_of q.stage) q.rows ≡ w.place) (sym e)
-             (same w.version h.1 ∙ subst (λ (j : ℕ). place_from j w.version (place_of (m.passes j).stage) (m.passes j).rows ≡ w.place) e h.2))
-          (λ j _ e. subst (λ (i : ℕ). place_from w.thread w.version (place_of (m.passes i).stage) (m.passes i).rows ≡ w.place) e h.2)
-          w.thread refl))
+            (λ e. subst (λ (j : ℕ). place_from j w.version (place_of q.stage) q.rows ≡ w.place) (sym e)
+            (same w.version h.1 ∙ subst (λ (j : ℕ). place_from j w.version (place_of (m.passes j).stage) (m.passes j).rows ≡ w.place) e h.2))
+            (λ j _ e. subst (λ (i : ℕ). place_from w.thread w.version (place_of (m.passes i).stage) (m.passes i).rows ≡ w.place) e h.2)
+            w.thread refl,
+      ))
       l.switches;
   threads = l.threads;
   wide = l.wide;
@@ -110,12 +111,12 @@ tries_lawful n m t place is at l =
     let fits : StageFits m.key.version p.tries p.fresh (Stands place) = subst (λ (s : Stage). StageFits m.key.version p.tries p.fresh s) at (l.stages t is) in
     let rows = l.rows t is in
     pass_lawful n m t (record p { stage = Tries place; tries = p.tries + 1 }) l (fits, omega arith)
-        (look_stays m.key.up (get_or m.key.looks t Unknown) p (record p { stage = Tries place; tries = p.tries + 1 }) (omega arith)
-            (λ q on h. ⊎_elim (λ (e : p.stage ≡ Stands q). inr (ap Tries (stands_same place q (sym at ∙ e)))) (λ (e : p.stage ≡ Tries q). absurd (stands_tries place q (sym at ∙ e))) h)
-            (l.looks t is))
-        (l.latest t is)
-        record { count = rows.count; fresh = rows.fresh; below = rows.below; newest = rows.newest }
-        (λ w low. ap (λ (s : Stage). place_from t w (place_of s) p.rows) (sym at))
+    (look_stays m.key.up (get_or m.key.looks t Unknown) p (record p { stage = Tries place; tries = p.tries + 1 }) (omega arith)
+    (λ q on h. ⊎_elim (λ (e : p.stage ≡ Stands q). inr (ap Tries (stands_same place q (sym at ∙ e)))) (λ (e : p.stage ≡ Tries q). absurd (stands_tries place q (sym at ∙ e))) h)
+    (l.looks t is))
+    (l.latest t is)
+    record { count = rows.count; fresh = rows.fresh; below = rows.below; newest = rows.newest }
+    (λ w low. ap (λ (s : Stage). place_from t w (place_of s) p.rows) (sym at))
 
 -- kind 2, flagged
 pub flagged_lawful : (n : ℕ) (m : Machine) (t place : ℕ) → IsThread n t → (m.passes t).stage ≡ Tries place → (i word : ℕ) → ((q : ℕ) → (n + 1) + q / 64 ≡ i → has_bit word q ≡ true → WasRaised m.key.ever q) → Lawful n m
@@ -125,10 +126,10 @@ flagged_lawful n m t place is at i word on l =
     let q : PassView = record p { stage = Tries place; checks = p.checks + 1; latest = Some (i, word) } in
     let rows = l.rows t is in
     pass_lawful n m t q l (subst (λ (s : Stage). StageFits m.key.version p.tries p.fresh s) at (l.stages t is))
-        (look_stays m.key.up (get_or m.key.looks t Unknown) p q (omega arith) (λ x on h. ⊎_elim (λ (e : p.stage ≡ Stands x). inl (sym at ∙ e)) (λ (e : p.stage ≡ Tries x). inr (sym at ∙ e)) h) (l.looks t is))
-        on
-        record { count = rows.count; fresh = rows.fresh; below = rows.below; newest = rows.newest }
-        (λ w low. ap (λ (s : Stage). place_from t w (place_of s) p.rows) (sym at))
+    (look_stays m.key.up (get_or m.key.looks t Unknown) p q (omega arith) (λ x on h. ⊎_elim (λ (e : p.stage ≡ Stands x). inl (sym at ∙ e)) (λ (e : p.stage ≡ Tries x). inr (sym at ∙ e)) h) (l.looks t is))
+    on
+    record { count = rows.count; fresh = rows.fresh; below = rows.below; newest = rows.newest }
+    (λ w low. ap (λ (s : Stage). place_from t w (place_of s) p.rows) (sym at))
 
 -- kind 2, clear
 pub clear_lawful : (n : ℕ) (m : Machine) (t place : ℕ) → IsThread n t → (m.passes t).stage ≡ Tries place → (has_place m.key.up place ≡ true → ⊥) → (i word : ℕ) → ((q : ℕ) → (n + 1) + q / 64 ≡ i → has_bit word q ≡ true → WasRaised m.key.ever q) → Lawful n m
@@ -138,12 +139,12 @@ clear_lawful n m t place is at off i word on l =
     let q : PassView = record p { stage = Clear place; checks = p.checks + 1; latest = Some (i, word) } in
     let rows = l.rows t is in
     pass_lawful n m t q l (subst (λ (s : Stage). StageFits m.key.version p.tries p.fresh s) at (l.stages t is))
-        (look_stays m.key.up (get_or m.key.looks t Unknown) p q (omega arith)
-            (λ x on h. ⊎_elim (λ (e : p.stage ≡ Stands x). absurd (stands_tries x place (sym e ∙ at))) (λ (e : p.stage ≡ Tries x). absurd (off (subst (λ (y : ℕ). has_place m.key.up y ≡ true) (tries_same x place (sym e ∙ at)) on))) h)
-            (l.looks t is))
-        on
-        record { count = rows.count; fresh = rows.fresh; below = rows.below; newest = rows.newest }
-        (λ w low. ap (λ (s : Stage). place_from t w (place_of s) p.rows) (sym at))
+    (look_stays m.key.up (get_or m.key.looks t Unknown) p q (omega arith)
+    (λ x on h. ⊎_elim (λ (e : p.stage ≡ Stands x). absurd (stands_tries x place (sym e ∙ at))) (λ (e : p.stage ≡ Tries x). absurd (off (subst (λ (y : ℕ). has_place m.key.up y ≡ true) (tries_same x place (sym e ∙ at)) on))) h)
+    (l.looks t is))
+    on
+    record { count = rows.count; fresh = rows.fresh; below = rows.below; newest = rows.newest }
+    (λ w low. ap (λ (s : Stage). place_from t w (place_of s) p.rows) (sym at))
 
 -- kind 2, inside
 pub polls_lawful : (n : ℕ) (m : Machine) (t : ℕ) → IsThread n t → (i word : ℕ) → ((q : ℕ) → (n + 1) + q / 64 ≡ i → has_bit word q ≡ true → WasRaised m.key.ever q) → Lawful n m
@@ -153,8 +154,8 @@ polls_lawful n m t is i word on l =
     let q : PassView = record p { checks = p.checks + 1; latest = Some (i, word) } in
     let rows = l.rows t is in
     pass_lawful n m t q l (l.stages t is) (look_stays m.key.up (get_or m.key.looks t Unknown) p q (omega arith) (λ x on h. h) (l.looks t is)) on
-        record { count = rows.count; fresh = rows.fresh; below = rows.below; newest = rows.newest }
-        (λ w low. refl)
+    record { count = rows.count; fresh = rows.fresh; below = rows.below; newest = rows.newest }
+    (λ w low. refl)
 
 -- the rows after an entering with version v, which is the machine's
 abbrev in_rows : ℕ → ℕ → ℕ → PassView → PassView
@@ -163,21 +164,21 @@ in_rows t v place p = record p { stage = Inside v; fresh = v + 1; rows = with_ro
 rows_fit : (t v place : ℕ) (p : PassView) → RowsFit t v p → RowsFit t v (in_rows t v place p)
 rows_fit t v place p r = dite (ℕ_discrete p.fresh (v + 1))
     (λ e. subst (λ (b : Bool). RowsFit t v record p { stage = Inside v; fresh = v + 1; rows = (if b then p.rows else p.rows ++ record { thread = t; version = v; place = place } ∷ []) }) (sym (eq-eqb p.fresh (v + 1) e))
-        (let c = r.count in record {
-          count = omega arith;
-          fresh = omega arith;
-          below = all_map (λ (x : PassRow). (x.thread ≡ t) × (x.version < p.fresh)) (λ (x : PassRow). (x.thread ≡ t) × (x.version < v + 1)) p.rows (λ x h. let a = h.1 in (h.0, omega arith)) r.below;
-          newest = λ k d. r.newest k (e ∙ d);
-        }))
+    (let c = r.count in record {
+      count = omega arith;
+      fresh = omega arith;
+      below = all_map (λ (x : PassRow). (x.thread ≡ t) × (x.version < p.fresh)) (λ (x : PassRow). (x.thread ≡ t) × (x.version < v + 1)) p.rows (λ x h. let a = h.1 in (h.0, omega arith)) r.below;
+      newest = λ k d. r.newest k (e ∙ d);
+    }))
     (λ other. subst (λ (b : Bool). RowsFit t v record p { stage = Inside v; fresh = v + 1; rows = (if b then p.rows else p.rows ++ record { thread = t; version = v; place = place } ∷ []) }) (sym (ne_eqb p.fresh (v + 1) other))
-        (let c = r.count in let f = r.fresh in let s = length_snoc p.rows record { thread = t; version = v; place = place } in record {
-          count = omega arith;
-          fresh = omega arith;
-          below = all_snoc (λ (x : PassRow). (x.thread ≡ t) × (x.version < v + 1)) p.rows record { thread = t; version = v; place = place }
-              (all_map (λ (x : PassRow). (x.thread ≡ t) × (x.version < p.fresh)) (λ (x : PassRow). (x.thread ≡ t) × (x.version < v + 1)) p.rows (λ x h. let a = h.1 in (h.0, omega arith)) r.below)
-              (refl, omega arith);
-          newest = λ k d. version_last k p.rows record { thread = t; version = v; place = place } (omega arith);
-        }))
+    (let c = r.count in let f = r.fresh in let s = length_snoc p.rows record { thread = t; version = v; place = place } in record {
+      count = omega arith;
+      fresh = omega arith;
+      below = all_snoc (λ (x : PassRow). (x.thread ≡ t) × (x.version < v + 1)) p.rows record { thread = t; version = v; place = place }
+          (all_map (λ (x : PassRow). (x.thread ≡ t) × (x.version < p.fresh)) (λ (x : PassRow). (x.thread ≡ t) × (x.version < v + 1)) p.rows (λ x h. let a = h.1 in (h.0, omega arith)) r.below)
+          (refl, omega arith);
+      newest = λ k d. version_last k p.rows record { thread = t; version = v; place = place } (omega arith);
+    }))
 
 threads_of : (t f : ℕ) (rows : List PassRow) → All (λ (r : PassRow). (r.thread ≡ t) × (r.version < f)) rows → All (λ (r : PassRow). r.thread ≡ t) rows
 threads_of t f rows h = all_map (λ (r : PassRow). (r.thread ≡ t) × (r.version < f)) (λ (r : PassRow). r.thread ≡ t) rows (λ r h. h.0) h
@@ -186,11 +187,11 @@ rows_tell : (t v place : ℕ) (p : PassView) → RowsFit t v p → (w x : ℕ) �
 rows_tell t v place p r w x low =
     let row : PassRow = record { thread = t; version = v; place = place } in
     dite (ℕ_discrete p.fresh (v + 1))
-      (λ e. ap (λ (b : Bool). place_from t w x (if b then p.rows else p.rows ++ row ∷ [])) (eq-eqb p.fresh (v + 1) e)
-        ∙ from_some t w v x place p.rows (threads_of t p.fresh p.rows r.below) (r.newest v e) low)
-      (λ other. ap (λ (b : Bool). place_from t w x (if b then p.rows else p.rows ++ row ∷ [])) (ne_eqb p.fresh (v + 1) other)
-        ∙ (from_snoc t w x p.rows row
-        ∙ ap (λ (b : Bool). place_from t w (if b then place else x) p.rows) (is_here t w row refl low)))
+    (λ e. ap (λ (b : Bool). place_from t w x (if b then p.rows else p.rows ++ row ∷ [])) (eq-eqb p.fresh (v + 1) e)
+    ∙ from_some t w v x place p.rows (threads_of t p.fresh p.rows r.below) (r.newest v e) low)
+    (λ other. ap (λ (b : Bool). place_from t w x (if b then p.rows else p.rows ++ row ∷ [])) (ne_eqb p.fresh (v + 1) other)
+    ∙ (from_snoc t w x p.rows row
+    ∙ ap (λ (b : Bool). place_from t w (if b then place else x) p.rows) (is_here t w row refl low)))
 
 -- kind 3
 pub reads_lawful : (n : ℕ) (m : Machine) (t place : ℕ) → IsThread n t → (m.passes t).stage ≡ Clear place → Lawful n m
@@ -200,10 +201,10 @@ reads_lawful n m t place is at l =
     let q : PassView = in_rows t m.key.version place p in
     let fits : StageFits m.key.version p.tries p.fresh (Clear place) = subst (λ (s : Stage). StageFits m.key.version p.tries p.fresh s) at (l.stages t is) in
     pass_lawful n m t q l (refl, fits.1, refl)
-        (look_stays m.key.up (get_or m.key.looks t Unknown) p q (omega arith) (λ x on h. absurd (clear_not_found p.stage 0 x (inr (place, at)) h)) (l.looks t is))
-        (l.latest t is)
-        (rows_fit t m.key.version place p (l.rows t is))
-        (λ w low. rows_tell t m.key.version place p (l.rows t is) w 0 low ∙ ap (λ (s : Stage). place_from t w (place_of s) p.rows) (sym at))
+    (look_stays m.key.up (get_or m.key.looks t Unknown) p q (omega arith) (λ x on h. absurd (clear_not_found p.stage 0 x (inr (place, at)) h)) (l.looks t is))
+    (l.latest t is)
+    (rows_fit t m.key.version place p (l.rows t is))
+    (λ w low. rows_tell t m.key.version place p (l.rows t is) w 0 low ∙ ap (λ (s : Stage). place_from t w (place_of s) p.rows) (sym at))
 
 -- kind 4: from the place that was tried, or from inside
 pub leaves_lawful : (n : ℕ) (m : Machine) (t place : ℕ) → IsThread n t → place < mark → ((m.passes t).stage ≡ Tries place) ⊎ ((v : ℕ) × ((m.passes t).stage ≡ Inside v)) → Lawful n m
@@ -213,21 +214,21 @@ leaves_lawful n m t place is low from l =
     let q : PassView = record p { stage = Stands place } in
     let rows = l.rows t is in
     pass_lawful n m t q l low
-        (look_stays m.key.up (get_or m.key.looks t Unknown) p q (omega arith)
-            (λ x on h. ⊎_elim
-                (λ (at : p.stage ≡ Tries place). ⊎_elim (λ (e : p.stage ≡ Stands x). absurd (stands_tries x place (sym e ∙ at))) (λ (e : p.stage ≡ Tries x). inl (ap Stands (tries_same place x (sym at ∙ e)))) h)
-                (λ (at : (v : ℕ) × (p.stage ≡ Inside v)). absurd (clear_not_found p.stage at.0 x (inl at.1) h))
-                from)
-            (l.looks t is))
-        (l.latest t is)
-        record { count = rows.count; fresh = rows.fresh; below = rows.below; newest = rows.newest }
-        (λ w early. ⊎_elim
-            (λ (at : p.stage ≡ Tries place). ap (λ (s : Stage). place_from t w (place_of s) p.rows) (sym at))
-            (λ (at : (v : ℕ) × (p.stage ≡ Inside v)).
-                let f : StageFits m.key.version p.tries p.fresh (Inside at.0) = subst (λ (s : Stage). StageFits m.key.version p.tries p.fresh s) at.1 (l.stages t is) in
-                let f0 = f.0 in
-                from_some t w at.0 place (place_of p.stage) p.rows (threads_of t p.fresh p.rows rows.below) (rows.newest at.0 f.2) (omega arith))
-            from)
+    (look_stays m.key.up (get_or m.key.looks t Unknown) p q (omega arith)
+    (λ x on h. ⊎_elim
+    (λ (at : p.stage ≡ Tries place). ⊎_elim (λ (e : p.stage ≡ Stands x). absurd (stands_tries x place (sym e ∙ at))) (λ (e : p.stage ≡ Tries x). inl (ap Stands (tries_same place x (sym at ∙ e)))) h)
+    (λ (at : (v : ℕ) × (p.stage ≡ Inside v)). absurd (clear_not_found p.stage at.0 x (inl at.1) h))
+    from)
+    (l.looks t is))
+    (l.latest t is)
+    record { count = rows.count; fresh = rows.fresh; below = rows.below; newest = rows.newest }
+    (λ w early. ⊎_elim
+    (λ (at : p.stage ≡ Tries place). ap (λ (s : Stage). place_from t w (place_of s) p.rows) (sym at))
+    (λ (at : (v : ℕ) × (p.stage ≡ Inside v)).
+    let f : StageFits m.key.version p.tries p.fresh (Inside at.0) = subst (λ (s : Stage). StageFits m.key.version p.tries p.fresh s) at.1 (l.stages t is) in
+    let f0 = f.0 in
+    from_some t w at.0 place (place_of p.stage) p.rows (threads_of t p.fresh p.rows rows.below) (rows.newest at.0 f.2) (omega arith))
+    from)
 
 unknown : (k t : ℕ) → get_or (replicate k Unknown) t Unknown ≡ Unknown
 unknown zero t = refl
@@ -271,8 +272,8 @@ looks_lawful n m t is l =
       stages = l.stages;
       looks = λ j h. dite (ℕ_discrete j t)
           (λ e. subst (λ (x : ℕ). LookFits m.key.up (get_or (set m.key.looks t new) x Unknown) (m.passes x)) (sym e)
-              (subst (λ (x : Look). LookFits m.key.up x (m.passes t)) (sym (get_or-set_same m.key.looks t new Unknown (omega arith)))
-                  (look_fits m.key.up m.key.version (m.passes t) (m.passes t).stage refl (l.stages t is))))
+          (subst (λ (x : Look). LookFits m.key.up x (m.passes t)) (sym (get_or-set_same m.key.looks t new Unknown (omega arith)))
+          (look_fits m.key.up m.key.version (m.passes t) (m.passes t).stage refl (l.stages t is))))
           (λ other. subst (λ (x : Look). LookFits m.key.up x (m.passes j)) (sym (get_or-set_other m.key.looks t j new Unknown other)) (l.looks j h));
       latest = l.latest;
       raised = l.raised;
@@ -314,12 +315,14 @@ new_rows n m (suc t) low all l m' ps v =
     let rows = l.rows (suc t) is in
     let fresh = rows.fresh in
     let old : All (λ (r : PassRow). (r.thread ≡ suc t) × (r.version < m.key.version + 1)) p.rows =
-        all_map (λ (r : PassRow). (r.thread ≡ suc t) × (r.version < p.fresh)) (λ (r : PassRow). (r.thread ≡ suc t) × (r.version < m.key.version + 1)) p.rows (λ r h. let a = h.1 in (h.0, omega arith)) rows.below in
+    all_map (λ (r : PassRow). (r.thread ≡ suc t) × (r.version < p.fresh)) (λ (r : PassRow). (r.thread ≡ suc t) × (r.version < m.key.version + 1)) p.rows (λ r h. let a = h.1 in (h.0, omega arith)) rows.below in
     all_snoc (SwitchFits n m') (switch_rows (m.key.version + 1) m.key.looks t) record { version = m.key.version + 1; thread = suc t; place = place_seen (get_or m.key.looks (suc t) Unknown) }
-        (new_rows n m t (omega arith) all l m' ps v)
-        (is, omega arith,
-         ap (λ (f : ℕ → PassView). place_from (suc t) (m.key.version + 1) (place_of (f (suc t)).stage) (f (suc t)).rows) ps
-         ∙ (from_none (suc t) (m.key.version + 1) (place_of p.stage) p.rows old ∙ (stands ∙ sym seen)))
+    (new_rows n m t (omega arith) all l m' ps v) (
+      is,
+      omega arith,
+      ap (λ (f : ℕ → PassView). place_from (suc t) (m.key.version + 1) (place_of (f (suc t)).stage) (f (suc t)).rows) ps
+          ∙ (from_none (suc t) (m.key.version + 1) (place_of p.stage) p.rows old ∙ (stands ∙ sym seen)),
+    )
 
 -- kind 7
 pub switches_lawful : (n : ℕ) (m : Machine) → AllStood n m.key → m.key.version < 128 → Lawful n m

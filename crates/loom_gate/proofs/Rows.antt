@@ -1,5 +1,5 @@
 -- Rows of the record.
-use Rattle.std.proofs.Common.{◌≡◌, ◌≢◌, ℕ, zero, suc, ◌+◌, ◌<◌, ◌≤◌, ◌==◌, ◌&&◌, eq-eqb, ne_eqb, eqb, leb, le-leb, leb-true, leb-false, Bool, true, false, true≢false, if◌then◌else◌, List, [], ◌∷◌, ◌++◌, length, sym, refl, ap, ◌∙◌, subst, arith, All}
+use Rattle.std.proofs.Common.{◌≡◌, ℕ, zero, suc, ◌+◌, ◌<◌, ◌≤◌, ◌==◌, ◌&&◌, eq-eqb, ne_eqb, leb, le-leb, leb-true, leb-false, Bool, true, false, true≢false, if◌then◌else◌, List, [], ◌∷◌, ◌++◌, length, sym, refl, ap, ◌∙◌, arith, All}
 use Rattle.std.proofs.lemmas.Bool.{lt-leb}
 use Rattle.loom_gate.specs.declared.log.PassRow.{PassRow}
 use Rattle.loom_gate.specs.Record.{is_from, place_from, has_version}
@@ -44,21 +44,22 @@ from_none t v end (x ∷ xs) h =
 pub from_some : (t v k x y : ℕ) (rs : List PassRow) → All (λ (r : PassRow). r.thread ≡ t) rs → has_version k rs ≡ true → v ≤ k → place_from t v x rs ≡ place_from t v y rs
 from_some t v k x y [] ts h low = absurd (true≢false (sym h))
 from_some t v k x y (r ∷ rs) ts h low =
-    let go : (b : Bool) → leb v r.version ≡ b → place_from t v x (r ∷ rs) ≡ place_from t v y (r ∷ rs) = elim
-        [ true ↦ λ e. let here = is_here t v r (ts 0 r (omega arith)) (leb-true v r.version e) in
-            ap (λ (c : Bool). if c then r.place else place_from t v x rs) here ∙ sym (ap (λ (c : Bool). if c then r.place else place_from t v y rs) here)
-        | false ↦ λ e. let early = leb-false v r.version e in
-            ap (λ (z : ℕ). if is_from t v r then r.place else z)
-              (from_some t v k x y rs (λ i d l. ts (suc i) d (omega arith)) (sym (ap (λ (b : Bool). if b then true else has_version k rs) (ne_eqb r.version k (λ e2. omega arith))) ∙ h) low) ] in
+    let go : (b : Bool) → leb v r.version ≡ b → place_from t v x (r ∷ rs) ≡ place_from t v y (r ∷ rs) = elim [
+      | true ↦ λ e. let here = is_here t v r (ts 0 r (omega arith)) (leb-true v r.version e) in
+          ap (λ (c : Bool). if c then r.place else place_from t v x rs) here ∙ sym (ap (λ (c : Bool). if c then r.place else place_from t v y rs) here)
+      | false ↦ λ e. let early = leb-false v r.version e in
+          ap (λ (z : ℕ). if is_from t v r then r.place else z)
+          (from_some t v k x y rs (λ i d l. ts (suc i) d (omega arith)) (sym (ap (λ (b : Bool). if b then true else has_version k rs) (ne_eqb r.version k (λ e2. omega arith))) ∙ h) low)
+    ] in
     go (leb v r.version) refl
 
 pub version_last : (v : ℕ) (rs : List PassRow) (r : PassRow) → r.version ≡ v → has_version v (rs ++ r ∷ []) ≡ true
 version_last v [] r e = ap (λ (b : Bool). if b then true else false) (eq-eqb r.version v e)
 version_last v (x ∷ xs) r e = ap (λ (z : Bool). if x.version == v then true else z) (version_last v xs r e) ∙ same (x.version == v)
   where
-  same : (b : Bool) → (if b then true else true) ≡ true
-  same true = refl
-  same false = refl
+    same : (b : Bool) → (if b then true else true) ≡ true
+    same true = refl
+    same false = refl
 
 -- rows of earlier versions have none with this one
 pub version_none : (v : ℕ) (rs : List PassRow) → All (λ (r : PassRow). r.version < v) rs → has_version v rs ≡ false

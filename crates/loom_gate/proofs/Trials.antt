@@ -1,5 +1,5 @@
 -- For the tests: gates of one thread.
-use Rattle.std.proofs.Common.{◌≡◌, ◌≢◌, ℕ, suc, ◌+◌, ◌<◌, ◌≤◌, ◌==◌, eq-eqb, ne_eqb, Bool, true, false, true≢false, if◌then◌else◌, List, [], ◌∷◌, ◌++◌, length, get_or, set, sym, refl, ap, ◌∙◌, subst, arith, get_or-set_same, All, Option, Some, None}
+use Rattle.std.proofs.Common.{◌≡◌, ℕ, ◌<◌, ◌==◌, ne_eqb, Bool, true, false, true≢false, if◌then◌else◌, List, [], ◌∷◌, ◌++◌, length, get_or, set, sym, refl, ap, ◌∙◌, subst, arith, get_or-set_same, All, Option, Some, None}
 use Rattle.std.specs.Prelude.{IfSome, option_to_list}
 use mathlib.Core.Logic.{dite}
 use native.Mathlib.Decide.{ℕ_discrete}
@@ -9,7 +9,7 @@ use Rattle.loom_gate.specs.declared.pass.Pass as pass
 use Rattle.loom_gate.specs.declared.view.Look.{Look}
 use Rattle.loom_gate.specs.declared.view.Look.TheVariants.{Unknown, SawPlace}
 use Rattle.loom_gate.specs.declared.view.KeyView.{KeyView}
-use Rattle.loom_gate.specs.Machine.{IsThread, AllStood}
+use Rattle.loom_gate.specs.Machine.{AllStood}
 use Rattle.loom_gate.specs.Seats.{IsPassAt, ArePassesFrom, IsStanding}
 use Rattle.loom_gate.proofs.Rows.{length_snoc}
 
@@ -35,8 +35,8 @@ pub two_below : (places : List ℕ) (a b limit p : ℕ) → a < limit → b < li
 two_below places a b limit p low_a low_b is on = dite (ℕ_discrete p b)
     (λ e. omega arith)
     (λ far. dite (ℕ_discrete p a)
-        (λ e. omega arith)
-        (λ other. absurd (true≢false (sym on ∙ (is ∙ (ap (λ (x : Bool). if x then true else (if p == a then true else false)) (ne_eqb p b far) ∙ ap (λ (x : Bool). if x then true else false) (ne_eqb p a other)))))))
+    (λ e. omega arith)
+    (λ other. absurd (true≢false (sym on ∙ (is ∙ (ap (λ (x : Bool). if x then true else (if p == a then true else false)) (ne_eqb p b far) ∙ ap (λ (x : Bool). if x then true else false) (ne_eqb p a other)))))))
 
 -- the one thread was found at a raised place
 pub all_of_one : (k : KeyView) (n p : ℕ) (old : List Look) → n ≡ 1 → k.looks ≡ set old 1 (SawPlace p) → 1 < length old → has_place k.up p ≡ true → AllStood n k

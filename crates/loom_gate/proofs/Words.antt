@@ -1,12 +1,12 @@
 -- A machine's step, put on the words and the views: no table here.
-use Rattle.std.proofs.Common.{◌≡◌, ◌≢◌, ℕ, zero, suc, ◌+◌, ◌-◌, ◌/◌, ◌%◌, ◌<◌, ◌≤◌, ◌==◌, Bool, true, false, true≢false, if◌then◌else◌, List, [], ◌∷◌, ◌++◌, length, get_or, set, replicate, sym, refl, ap, ◌∙◌, subst, ◌⊎◌, inl, inr, ⊎_elim, arith, eq-eqb, ne_eqb, length-set, get_or-set_same, get_or-set_other}
+use Rattle.std.proofs.Common.{◌≡◌, ◌≢◌, ℕ, zero, suc, ◌+◌, ◌/◌, ◌%◌, ◌<◌, ◌≤◌, ◌==◌, Bool, true, false, true≢false, if◌then◌else◌, List, [], ◌∷◌, ◌++◌, length, get_or, set, replicate, sym, refl, ap, ◌∙◌, subst, ◌⊎◌, inl, inr, ⊎_elim, arith, eq-eqb, ne_eqb, length-set, get_or-set_same, get_or-set_other}
 use mathlib.Core.Logic.{dite}
-use mathlib.Core.Option.{some, none, some-injective, some-ne-none}
+use mathlib.Core.Option.{some, some-injective, some-ne-none}
 use native.Mathlib.Decide.{ℕ_discrete}
 use lib.ListN.{get_elem?}
 use Rattle.std.proofs.lemmas.List.{length-replicate}
 use Rattle.std.proofs.lemmas.Nat.Bits.{bit_at-zero}
-use Rattle.atomic_table.proofs.Lists.{at_set, set_else}
+use Rattle.atomic_table.proofs.Lists.{at_set}
 use Rattle.loom_trace.specs.Places.{has_bit, has_place}
 use Rattle.loom_gate.specs.declared.view.PassView.{PassView}
 use Rattle.loom_gate.specs.declared.view.Look.{Look}
@@ -14,8 +14,8 @@ use Rattle.loom_gate.specs.declared.view.Look.TheVariants.{Unknown}
 use Rattle.loom_gate.specs.declared.view.KeyView.{KeyView}
 use Rattle.loom_gate.specs.declared.view.View.{View}
 use Rattle.loom_gate.specs.declared.view.View.TheVariants.{Pass, Key, Nobody}
-use Rattle.loom_gate.specs.View.{mark, stand_word, start, first_key, more, joined}
-use Rattle.loom_gate.specs.Machine.{IsThread, Machine, Lawful, LookFits, WasRaised}
+use Rattle.loom_gate.specs.View.{stand_word, start, first_key, more, joined}
+use Rattle.loom_gate.specs.Machine.{Machine, Lawful, LookFits, WasRaised}
 use Rattle.loom_gate.specs.Rule.{SeatFits, GateHolds}
 use Rattle.loom_gate.proofs.Machines.{upd, upd_same, upd_other}
 
@@ -134,7 +134,7 @@ module _ (n f : ℕ) where
         version = get_or-set_other ws t 0 x 0 (λ e. omega arith) ∙ k.version;
         stands = λ j is. dite (ℕ_discrete j t)
             (λ e. subst (λ (y : ℕ). get_or (set ws t x) y 0 ≡ stand_word (upd k.machine.passes t q y).stage) (sym e)
-                (get_or-set_same ws t x 0 (omega arith) ∙ (word ∙ ap (λ (r : PassView). stand_word r.stage) (sym (upd_same k.machine.passes t q)))))
+            (get_or-set_same ws t x 0 (omega arith) ∙ (word ∙ ap (λ (r : PassView). stand_word r.stage) (sym (upd_same k.machine.passes t q)))))
             (λ other. get_or-set_other ws t j x 0 other ∙ (k.stands j is ∙ ap (λ (r : PassView). stand_word r.stage) (sym (upd_other k.machine.passes t j q other))));
         flags = λ w low. get_or-set_other ws t ((n + 1) + w) x 0 (λ e. omega arith) ∙ k.flags w low;
         seats = all_set (SeatFits n record { passes = upd k.machine.passes t q; key = k.machine.key } k.owner k.holder) vs id (Pass t q)
@@ -159,7 +159,7 @@ module _ (n f : ℕ) where
         version = k.version;
         stands = λ j is. dite (ℕ_discrete j t)
             (λ e. subst (λ (y : ℕ). get_or ws y 0 ≡ stand_word (upd k.machine.passes t q y).stage) (sym e)
-                (k.stands t mine.0 ∙ (ap (λ (r : PassView). stand_word r.stage) (sym mine.2) ∙ (word ∙ ap (λ (r : PassView). stand_word r.stage) (sym (upd_same k.machine.passes t q))))))
+            (k.stands t mine.0 ∙ (ap (λ (r : PassView). stand_word r.stage) (sym mine.2) ∙ (word ∙ ap (λ (r : PassView). stand_word r.stage) (sym (upd_same k.machine.passes t q))))))
             (λ other. k.stands j is ∙ ap (λ (r : PassView). stand_word r.stage) (sym (upd_other k.machine.passes t j q other)));
         flags = k.flags;
         seats = all_set (SeatFits n record { passes = upd k.machine.passes t q; key = k.machine.key } k.owner k.holder) vs id (Pass t q)
@@ -198,10 +198,10 @@ module _ (n f : ℕ) where
       let owner : ℕ → ℕ = λ t. if t == l.born + 1 then length us else k.owner t in
       let law = k.lawful in
       let before : (j : ℕ) (u : View) → get_elem? us j ≡ some u → is_not (l.born + 1) u =
-          all_set (λ (j : ℕ) (u : View). is_not (l.born + 1) u) vs id (Key (more l)) (no_key (l.born + 1) (more l)) (λ j u _ e. early n k.machine k.owner k.holder l.born j u (omega arith) (k.seats j u e)) in
+      all_set (λ (j : ℕ) (u : View). is_not (l.born + 1) u) vs id (Key (more l)) (no_key (l.born + 1) (more l)) (λ j u _ e. early n k.machine k.owner k.holder l.born j u (omega arith) (k.seats j u e)) in
       let others : (j : ℕ) (u : View) → get_elem? us j ≡ some u → SeatFits n new owner k.holder j u =
-          λ j u e. owned n new k.owner (l.born + 1) (length us) k.holder j u (before j u e)
-              (key_seats ws vs k id l (more old) at (omega arith) refl j u (subst (λ (y : KeyView). get_elem? (set vs id (Key (more y))) j ≡ some u) mine.1 e)) in
+      λ j u e. owned n new k.owner (l.born + 1) (length us) k.holder j u (before j u e)
+      (key_seats ws vs k id l (more old) at (omega arith) refl j u (subst (λ (y : KeyView). get_elem? (set vs id (Key (more y))) j ≡ some u) mine.1 e)) in
       let few : length old.finals ≡ 0 = ap (λ (y : KeyView). length y.finals) (sym mine.1) ∙ ap (λ (xs : List PassView). length xs) alone in
       record {
         machine = new;
@@ -214,7 +214,7 @@ module _ (n f : ℕ) where
         flags = k.flags;
         seats = λ j u e. ⊎_elim (others j u)
             (λ (x : (j ≡ length us) × (Pass (l.born + 1) start ≡ u)). subst (λ (y : ℕ × View). SeatFits n new owner k.holder y.0 y.1) (λ i. (sym x.0 i, x.1 i))
-                ((omega arith, omega arith), ap (λ (b : Bool). if b then length us else k.owner (l.born + 1)) (eq-eqb (l.born + 1) (l.born + 1) refl), sym (k.unborn (l.born + 1) (omega arith)), omega arith, omega arith))
+            ((omega arith, omega arith), ap (λ (b : Bool). if b then length us else k.owner (l.born + 1)) (eq-eqb (l.born + 1) (l.born + 1) refl), sym (k.unborn (l.born + 1) (omega arith)), omega arith, omega arith))
             (at_snoc_here us (Pass (l.born + 1) start) u j e);
         unborn = λ t h. k.unborn t (omega arith);
         finals = k.finals;
@@ -244,9 +244,9 @@ module _ (n f : ℕ) where
         flags = k.flags;
         seats = all_set (SeatFits n new k.owner k.holder) (set vs id (Key (joined l p))) other Nobody tt
             (λ j u far e. ⊎_elim
-                (λ (x : (j ≡ id) × (Key (joined l p) ≡ u)). subst (λ (y : ℕ × View). SeatFits n new k.owner k.holder y.0 y.1) (λ i. (sym x.0 i, x.1 i)) here)
-                (λ (x : (j ≢ id) × (get_elem? vs j ≡ some u)). seat_by_join n k.machine k.owner k.holder t p j u many (λ z. far (z ∙ pass.1)) (λ z. x.0 (z ∙ mine.0)) (k.seats j u x.1))
-                (at_set vs id j (Key (joined l p)) u e));
+            (λ (x : (j ≡ id) × (Key (joined l p) ≡ u)). subst (λ (y : ℕ × View). SeatFits n new k.owner k.holder y.0 y.1) (λ i. (sym x.0 i, x.1 i)) here)
+            (λ (x : (j ≢ id) × (get_elem? vs j ≡ some u)). seat_by_join n k.machine k.owner k.holder t p j u many (λ z. far (z ∙ pass.1)) (λ z. x.0 (z ∙ mine.0)) (k.seats j u x.1))
+            (at_set vs id j (Key (joined l p)) u e));
         unborn = k.unborn;
         finals = λ j h. dite (ℕ_discrete j (length old.finals))
             (λ e. ap (λ (x : ℕ). k.machine.passes x) (ap (λ (x : ℕ). x + 1) e ∙ many) ∙ (sym pass.2 ∙ sym (ap (λ (x : ℕ). get_or (old.finals ++ p ∷ []) x start) e ∙ index_snoc old.finals p start)))

@@ -78,7 +78,9 @@ impl Key {
     {
         let first = usize::from(gate.threads) + 1;
         'words: for w in 0..gate.flags {
-            gate.table.shared.store::<Flag>(&mut self.seat, first + w, words[w]);
+            gate.table
+                .shared
+                .store::<Flag>(&mut self.seat, first + w, words[w]);
         }
     }
 
@@ -115,7 +117,9 @@ impl Key {
         ensures same { (self.new.up ≡ self.old.up) × ((view_of_key self.new).up ≡ (view_of_key self.old).up) × ((view_of_key self.new).looks ≡ (view_of_key self.old).looks) }
     {
         let version = self.version + 1;
-        gate.table.shared.store::<Switch>(&mut self.seat, 0, u64::from(version));
+        gate.table
+            .shared
+            .store::<Switch>(&mut self.seat, 0, u64::from(version));
         'threads: for t in 0..gate.threads {
             let thread = t + 1;
             self.rows.push_reserved(SwitchRow {

@@ -97,7 +97,10 @@ impl Pass {
         ensures once { (view_of_pass self.new).checks ≡ (view_of_pass self.old).checks + 1 }
         ensures version { (v : _) → IsInsideAt v self.old → Amid self.old.thread (view_of_pass self.old) (λ a. a.key.version ≡ v) }
     {
-        let word = gate.table.shared.load::<Poll>(&mut self.seat, index_of(gate, place));
+        let word = gate
+            .table
+            .shared
+            .load::<Poll>(&mut self.seat, index_of(gate, place));
         (word >> (place % 64)) % 2 == 1
     }
 
@@ -111,7 +114,9 @@ impl Pass {
         ensures stands { IsStanding self.new × (self.new.place ≡ place) }
         ensures version { (v : _) → IsInsideAt v self.old → Amid self.old.thread (view_of_pass self.old) (λ a. a.key.version ≡ v) }
     {
-        gate.table.shared.store::<Leave>(&mut self.seat, usize::from(self.thread), u64::from(place));
+        gate.table
+            .shared
+            .store::<Leave>(&mut self.seat, usize::from(self.thread), u64::from(place));
         self.place = place;
     }
 }

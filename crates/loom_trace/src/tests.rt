@@ -1,8 +1,9 @@
-//! Texts written by hand, and one journal.
+//! Texts written by hand, one journal, and one set of places.
 
 use crate::entry::{Ending, Entry, What};
 use crate::journal::Journal;
 use crate::line::Line;
+use crate::places::Places;
 use crate::row::{Args, Events, PlaceRow};
 use crate::text::put_entry;
 
@@ -333,4 +334,14 @@ fn a_journal_keeps_its_entries(rt: HostRuntime) {
     assert_eq!(rt; journal.len(), 2);
     assert!(rt; shows(journal.get(0).copy(), b"1:2 back"));
     assert!(rt; shows(journal.get(1).copy(), b"asked 9"));
+}
+
+#[test]
+fn a_set_has_the_places_put(rt: HostRuntime) {
+    let mut places = Places::none();
+    assert!(rt; !places.has(63));
+    places.put(63);
+    places.put(8320);
+    assert!(rt; places.has(63) && places.has(8320));
+    assert!(rt; !places.has(0) && !places.has(64));
 }

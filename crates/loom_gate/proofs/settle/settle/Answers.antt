@@ -1,4 +1,4 @@
-use Rattle.std.proofs.Common.{rules, ◌≡◌, ℕ, ◌+◌, ◌-◌, ◌<◌, ◌≤◌, List, [], ◌∷◌, ◌++◌, map, length, get_or, arith, ap, sym, subst, ◌∙◌, append-nil, All}
+use Rattle.std.proofs.Common.{◌≡◌, ℕ, ◌+◌, ◌-◌, List, [], ◌∷◌, ◌++◌, map, length, get_or, arith, ap, sym, subst, ◌∙◌, append-nil, All}
 use Rattle.std.specs.Vec.Iter.{into_iter_items}
 use Rattle.loom_gate.specs.declared.log.PassRow.{PassRow}
 use Rattle.loom_gate.specs.declared.log.SwitchRow.{SwitchRow}
@@ -17,9 +17,13 @@ join_seat-requires c =
     let i = c.passes.invariant in
     let s0 = c.args.gate.sized.0 in
     let steps : into_iter_items c.passes.pass-iterator ≡ c.in-Some.pass ∷ into_iter_items c.next.new.self = c.in-Some.ensures.steps.0 in
-    let are = subst (λ (ps : List pass.Pass). ArePassesFrom c.args.gate.table.shared.table_id c.args.gate.table.shared.key.threads c.args.gate.table.shared.key.places (length (key_of c.passes.seat.me.0).finals + 1) ps) steps i.are in
-    (i.table, are.1.0, ap (λ m. m.1) are.1.2, omega arith,
-     joins_at _ _ _ _ c.passes.seat.me.0 c.in-Some.pass.seat.me.0 (key_of c.passes.seat.me.0) c.in-Some.pass.thread (view_of_pass c.in-Some.pass) (ap (λ m. m.0) i.view) (ap (λ m. m.0) are.1.2) (sym are.0))
+    let are = subst (λ (ps : List pass.Pass). ArePassesFrom c.args.gate.table.shared.table_id c.args.gate.table.shared.key.threads c.args.gate.table.shared.key.places (length (key_of c.passes.seat.me.0).finals + 1) ps) steps i.are in (
+      i.table,
+      are.1.0,
+      ap (λ m. m.1) are.1.2,
+      omega arith,
+      joins_at _ _ _ _ c.passes.seat.me.0 c.in-Some.pass.seat.me.0 (key_of c.passes.seat.me.0) c.in-Some.pass.thread (view_of_pass c.in-Some.pass) (ap (λ m. m.0) i.view) (ap (λ m. m.0) are.1.2) (sym are.0),
+    )
 
 pub returns-clause-sound : goal.returns-clause-sound
 returns-clause-sound c =
@@ -35,5 +39,5 @@ returns-clause-sound c =
     let switches : k.0.key.switches ≡ c.args.key.rows.items = ap (λ x. x.switches) k.2 ∙ i.switches in
     let all = c.requires.passes.0 in let count = i.count in
     subst (λ (x : List SwitchRow × List ℕ × List PassRow). All (λ (w : SwitchRow). place_from w.thread w.version (get_or x.1 (w.thread - 1) 0) x.2 ≡ w.place) x.0)
-        (λ j. (switches j, sym ends j, sym rows j))
-        (sound _ _ _ k.0 k.1 ps c.requires.passes.1 all c.requires.stand (λ t h. k.3 t (omega arith) ∙ ap (λ (vs : List PassView). get_or vs t start) views))
+    (λ j. (switches j, sym ends j, sym rows j))
+    (sound _ _ _ k.0 k.1 ps c.requires.passes.1 all c.requires.stand (λ t h. k.3 t (omega arith) ∙ ap (λ (vs : List PassView). get_or vs t start) views))

@@ -1,4 +1,4 @@
-use Rattle.std.proofs.Common.{rules, ◌≡◌, ◌<◌, ◌≤◌, ◌+◌, length, get_or, arith, sym, ◌∙◌, ap}
+use Rattle.std.proofs.Common.{◌≡◌, ◌+◌, length, get_or, arith, ◌∙◌, ap}
 use Rattle.std.specs.Prelude.{slice_index}
 use Rattle.loom_gate.specs.Seats.{view_of_key}
 use Rattle.loom_gate.proofs.GateSteps.{switches_at}
@@ -19,7 +19,14 @@ threads-preserved c =
     let wide : length c.threads.self.places.items ≡ length c.args.self.now.places.items = ap (λ v. length v.items) same in
     let all = c.requires.gate.8 in let e = c.from-in-threads.ensures in
     let place : c.index.result.now ≡ slice_index c.args.self.now.places.items (c.threads.t + 1) =
-        c.index.ensures ∙ (other_default c.threads.self.places.items c.from-in-threads.result c.index.result.now 0 (omega arith) ∙ (λ j. get_or (same j).items (e j) 0)) in
-    (rows_more (c.args.self.now.version + 1) _ c.threads.t c.index.result.now _ _ _ c.push_reserved.ensures.items i.0
-        (place ∙ seen_place _ _ found.0 found.1 (c.requires.gate.9 (c.threads.t + 1))),
-     c.push_reserved.ensures.capacity ∙ i.1, omega arith, i.3, i.4, i.5, i.6, rows_length _ _ _)
+    c.index.ensures ∙ (other_default c.threads.self.places.items c.from-in-threads.result c.index.result.now 0 (omega arith) ∙ (λ j. get_or (same j).items (e j) 0)) in (
+      rows_more (c.args.self.now.version + 1) _ c.threads.t c.index.result.now _ _ _ c.push_reserved.ensures.items i.0
+          (place ∙ seen_place _ _ found.0 found.1 (c.requires.gate.9 (c.threads.t + 1))),
+      c.push_reserved.ensures.capacity ∙ i.1,
+      omega arith,
+      i.3,
+      i.4,
+      i.5,
+      i.6,
+      rows_length _ _ _,
+    )

@@ -1,5 +1,5 @@
 -- What calls tell, from what their steps told.
-use Rattle.std.proofs.Common.{◌≡◌, ◌≢◌, ℕ, ◌+◌, ◌/◌, ◌<◌, ◌≤◌, ◌==◌, eq-eqb, ne_eqb, Bool, true, false, if◌then◌else◌, List, [], ◌∷◌, ◌++◌, length, get_or, set, sym, refl, ap, ◌∙◌, subst, ◌⊎◌, ⊎_elim, arith, Some, All, length-set, get_or-set_same, get_or-set_other}
+use Rattle.std.proofs.Common.{◌≡◌, ℕ, ◌+◌, ◌<◌, ◌≤◌, eq-eqb, ne_eqb, Bool, true, false, if◌then◌else◌, List, [], ◌∷◌, ◌++◌, length, sym, ap, ◌∙◌, subst, arith}
 use mathlib.Core.Logic.{dite}
 use native.Mathlib.Decide.{ℕ_discrete}
 use Rattle.atomic_table.specs.Table.{Me}
@@ -9,11 +9,11 @@ use Rattle.loom_gate.specs.declared.view.Stage.{Stage}
 use Rattle.loom_gate.specs.declared.view.Stage.TheVariants.{Stands, Tries, Clear, Inside}
 use Rattle.loom_gate.specs.declared.view.PassView.{PassView}
 use Rattle.loom_gate.specs.declared.view.View.{View}
-use Rattle.loom_gate.specs.declared.view.View.TheVariants.{Pass, Key}
+use Rattle.loom_gate.specs.declared.view.View.TheVariants.{Pass}
 use Rattle.loom_gate.specs.View.{place_of, tried, checked, with_row, thread_of, pass_of}
 use Rattle.loom_gate.specs.Record.{has_version}
-use Rattle.loom_gate.specs.Machine.{Machine, StageFits, RowsFit, Amid}
-use Rattle.loom_gate.specs.Tells.{passed, keyed}
+use Rattle.loom_gate.specs.Machine.{StageFits, RowsFit, Amid}
+use Rattle.loom_gate.specs.Tells.{passed}
 use Rattle.loom_gate.proofs.Rows.{all_map, version_none}
 
 module _ {S : Type 0} where

@@ -1,12 +1,12 @@
 -- The laws.
-use Rattle.std.proofs.Common.{◌≡◌, ℕ, Bool, true, false, true≢false, if◌then◌else◌, List, sym, refl, ap, ◌∙◌, subst, ◌⊎◌, inl, inr, ⊎_elim}
+use Rattle.std.proofs.Common.{◌≡◌, ℕ, true, sym, ap, ◌∙◌, subst, inl, inr, ⊎_elim}
 use Rattle.loom_trace.specs.Places.{has_bit, has_place}
 use Rattle.loom_gate.specs.declared.view.Stage.{Stage}
-use Rattle.loom_gate.specs.declared.view.Stage.TheVariants.{Stands, Tries, Clear, Inside}
+use Rattle.loom_gate.specs.declared.view.Stage.TheVariants.{Stands, Tries, Inside}
 use Rattle.loom_gate.specs.declared.view.PassView.{PassView}
-use Rattle.loom_gate.specs.View.{place_of, tried, checked, left}
+use Rattle.loom_gate.specs.View.{place_of}
 use Rattle.loom_gate.specs.Machine.{StageFits}
-use Rattle.loom_gate.specs.Laws.{InsideHasVersion, FoundIsAt, RaisedKeepsOut, SwitchMeetsNobody, IsAt, PassStep}
+use Rattle.loom_gate.specs.Laws.{InsideHasVersion, FoundIsAt, RaisedKeepsOut, SwitchMeetsNobody, IsAt}
 use Rattle.loom_gate.specs.Laws.PassStep.{try, check, back, read, poll, leave}
 use Rattle.loom_gate.proofs.Machines.{found_there, nobody_inside, clear_not_found}
 use Rattle.loom_gate.proofs.CallFacts.{checked_set}

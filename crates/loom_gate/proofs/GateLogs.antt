@@ -1,19 +1,16 @@
 -- The record at the end.
-use Rattle.std.proofs.Common.{◌≡◌, ◌≢◌, ℕ, zero, suc, ◌+◌, ◌-◌, ◌<◌, ◌≤◌, ◌==◌, ◌&&◌, eq-eqb, ne_eqb, Bool, true, false, if◌then◌else◌, List, [], ◌∷◌, ◌++◌, map, length, get_or, leb, sym, refl, ap, ◌∙◌, subst, ◌⊎◌, ⊎_elim, arith, All}
-use Rattle.std.specs.List.{flat_map}
+use Rattle.std.proofs.Common.{◌≡◌, ◌≢◌, ℕ, zero, suc, ◌+◌, ◌-◌, ◌<◌, ◌≤◌, ◌&&◌, ne_eqb, Bool, if◌then◌else◌, List, [], ◌∷◌, ◌++◌, map, length, get_or, leb, sym, refl, ap, ◌∙◌, subst, arith, All}
 use mathlib.Core.Logic.{dite}
 use native.Mathlib.Decide.{ℕ_discrete}
 use Rattle.loom_gate.specs.declared.log.PassRow.{PassRow}
 use Rattle.loom_gate.specs.declared.log.SwitchRow.{SwitchRow}
 use Rattle.loom_gate.specs.declared.pass.Pass as pass
-use Rattle.loom_gate.specs.declared.view.Stage.{Stage}
-use Rattle.loom_gate.specs.declared.view.Stage.TheVariants.{Stands}
 use Rattle.loom_gate.specs.declared.view.PassView.{PassView}
 use Rattle.atomic_table.specs.Seated.{TableId}
 use Rattle.loom_gate.specs.View.{start, place_of}
 use Rattle.loom_gate.specs.Record.{is_from, place_from}
 use Rattle.loom_gate.specs.Machine.{IsThread, Machine, Lawful, SwitchFits}
-use Rattle.loom_gate.specs.Seats.{view_of_pass, IsPassAt, IsStanding, ArePassesFrom, rows_of, ends_of}
+use Rattle.loom_gate.specs.Seats.{view_of_pass, IsStanding, ArePassesFrom, rows_of, ends_of}
 use Rattle.loom_gate.proofs.Rows.{all_map}
 
 -- rows of another thread are passed over

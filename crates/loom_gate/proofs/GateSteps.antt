@@ -1,24 +1,21 @@
 -- Each kind of step keeps the rule of the table.
-use Rattle.std.proofs.Common.{◌≡◌, ◌≢◌, ℕ, zero, suc, ◌+◌, ◌-◌, ◌/◌, ◌%◌, ◌<◌, ◌≤◌, ◌==◌, Bool, true, false, true≢false, if◌then◌else◌, List, [], ◌∷◌, ◌++◌, length, get_or, set, replicate, sym, refl, ap, ◌∙◌, subst, ◌⊎◌, inl, inr, ⊎_elim, arith, Some, length-set, get_or-set_same, get_or-set_other}
+use Rattle.std.proofs.Common.{◌≡◌, ℕ, ◌+◌, ◌-◌, ◌/◌, ◌<◌, ◌≤◌, Bool, true, false, true≢false, if◌then◌else◌, List, [], ◌∷◌, ◌++◌, length, get_or, set, replicate, sym, refl, ap, ◌∙◌, subst, ◌⊎◌, inr, arith, Some, length-set, get_or-set_same, get_or-set_other}
 use mathlib.Core.Logic.{dite}
-use mathlib.Core.Option as maybe
 use mathlib.Core.Option.{some, none}
 use native.Mathlib.Decide.{ℕ_discrete}
-use lib.ListN.{get_elem?}
-use Rattle.atomic_table.specs.Table.{State, Me, step, keeps, stepped, Allows, Splits, Joins, Final, Seen}
+use Rattle.atomic_table.specs.Table.{State, Me, step, keeps, Allows, Splits, Joins, Final, Seen}
 use Rattle.atomic_table.proofs.Lists.{set_else}
 use Rattle.loom_trace.specs.Places.{has_bit, has_place}
 use Rattle.loom_gate.specs.declared.view.Stage.{Stage}
 use Rattle.loom_gate.specs.declared.view.Stage.TheVariants.{Stands, Tries, Clear, Inside}
 use Rattle.loom_gate.specs.declared.view.PassView.{PassView}
-use Rattle.loom_gate.specs.declared.view.Look.{Look}
 use Rattle.loom_gate.specs.declared.view.Look.TheVariants.{Unknown}
 use Rattle.loom_gate.specs.declared.view.KeyView.{KeyView}
 use Rattle.loom_gate.specs.declared.view.View.{View}
 use Rattle.loom_gate.specs.declared.view.View.TheVariants.{Pass, Key, Nobody}
-use Rattle.loom_gate.specs.View.{mark, stand_word, look_of, place_of, start, first_key, more, joined, tried, checked, polled, with_row, entered, left, flagged, looked, switch_rows, switched, thread_of, pass_of, key_of}
-use Rattle.loom_gate.specs.Machine.{IsThread, Machine, Lawful, StageFits, Amid, AmidKey, AllStood, WasRaised}
-use Rattle.loom_gate.specs.Rule.{SeatFits, GateHolds}
+use Rattle.loom_gate.specs.View.{mark, stand_word, look_of, place_of, start, more, joined, tried, checked, polled, with_row, entered, left, flagged, looked, switch_rows, switched, pass_of, key_of}
+use Rattle.loom_gate.specs.Machine.{IsThread, Machine, Lawful, AllStood}
+use Rattle.loom_gate.specs.Rule.{GateHolds}
 use Rattle.loom_gate.specs.Tells as tells
 use Rattle.loom_gate.specs.Tells.{passed, keyed}
 use Rattle.loom_gate.proofs.Machines.{upd, tries_lawful, flagged_lawful, clear_lawful, reads_lawful, polls_lawful, leaves_lawful, flags_lawful, looks_lawful, switches_lawful, word_low, nobody_inside}

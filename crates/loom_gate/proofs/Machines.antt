@@ -1,21 +1,19 @@
 -- The machine's steps keep its facts. No table here.
-use Rattle.std.proofs.Common.{◌≡◌, ◌≢◌, ℕ, zero, suc, ◌+◌, ◌-◌, ◌<◌, ◌≤◌, ◌==◌, ◌/◌, eq-eqb, ne_eqb, eqb, Bool, true, false, true≢false, if◌then◌else◌, List, [], ◌∷◌, ◌++◌, length, get_or, set, replicate, sym, refl, ap, ◌∙◌, subst, ◌⊎◌, inl, inr, ⊎_elim, arith, Option, Some, None, MatchOption, length-set, get_or-set_same, get_or-set_other, All}
+use Rattle.std.proofs.Common.{◌≡◌, ◌≢◌, ℕ, zero, suc, ◌+◌, ◌<◌, ◌≤◌, ◌==◌, ◌/◌, eq-eqb, ne_eqb, Bool, true, if◌then◌else◌, List, [], ◌∷◌, ◌++◌, length, get_or, set, replicate, sym, refl, ap, ◌∙◌, subst, ◌⊎◌, inl, inr, ⊎_elim, arith, Option, Some, None, length-set, get_or-set_same, get_or-set_other, All}
 use Rattle.std.proofs.lemmas.List.{length-replicate}
 use mathlib.Core.Logic.{dite}
 use native.Mathlib.Decide.{ℕ_discrete}
 use Rattle.loom_trace.specs.Places.{has_bit, has_place}
 use Rattle.loom_gate.specs.declared.log.PassRow.{PassRow}
-use Rattle.loom_gate.specs.declared.log.SwitchRow.{SwitchRow}
 use Rattle.loom_gate.specs.declared.view.Stage.{Stage}
 use Rattle.loom_gate.specs.declared.view.Stage.TheVariants.{Stands, Tries, Clear, Inside}
 use Rattle.loom_gate.specs.declared.view.PassView.{PassView}
 use Rattle.loom_gate.specs.declared.view.Look.{Look}
 use Rattle.loom_gate.specs.declared.view.Look.TheVariants.{Unknown, SawInside, SawPlace}
-use Rattle.loom_gate.specs.declared.view.KeyView.{KeyView}
-use Rattle.loom_gate.specs.View.{mark, stand_word, look_of, place_of, place_seen, with_row, entered, switched, switch_rows}
-use Rattle.loom_gate.specs.Record.{is_from, place_from, has_version}
+use Rattle.loom_gate.specs.View.{mark, stand_word, look_of, place_of, place_seen, with_row, switch_rows}
+use Rattle.loom_gate.specs.Record.{place_from}
 use Rattle.loom_gate.specs.Machine.{IsThread, Machine, StageFits, LookFits, LatestFits, RowsFit, SwitchFits, Lawful, WasRaised, AllStood}
-use Rattle.loom_gate.proofs.Rows.{all_snoc, all_append, all_map, length_snoc, from_snoc, from_none, from_some, is_here, is_none, version_last, version_none}
+use Rattle.loom_gate.proofs.Rows.{all_snoc, all_append, all_map, length_snoc, from_snoc, from_none, from_some, is_here, version_last}
 
 abbrev pub upd : (ℕ → PassView) → ℕ → PassView → ℕ → PassView
 upd ps t q j = if j == t then q else ps j

@@ -1,10 +1,7 @@
 -- The passes as they are made, and as they are taken in.
-use Rattle.std.proofs.Common.{◌≡◌, ℕ, zero, suc, ◌+◌, ◌*◌, ◌<◌, ◌≤◌, List, [], ◌∷◌, ◌++◌, map, length, get_or, set, sym, refl, ap, ◌∙◌, subst, ◌⊎◌, arith, append_assoc, All}
-use Rattle.std.specs.Vec.{vec_capacity}
-use Rattle.std.specs.List.{flat_map}
+use Rattle.std.proofs.Common.{◌≡◌, ℕ, zero, suc, ◌+◌, ◌<◌, List, [], ◌∷◌, ◌++◌, length, get_or, sym, refl, ap, ◌∙◌, subst, arith, append_assoc}
 use Rattle.atomic_table.specs.Seated.{TableId}
 use Rattle.atomic_table.specs.Table.{Me}
-use Rattle.loom_gate.specs.declared.log.PassRow.{PassRow}
 use Rattle.loom_gate.specs.declared.pass.Pass as pass
 use Rattle.loom_gate.specs.declared.log.SwitchRow.{SwitchRow}
 use Rattle.loom_gate.specs.declared.view.Look.{Look}
@@ -14,9 +11,8 @@ use Rattle.loom_gate.specs.declared.view.KeyView.{KeyView}
 use Rattle.loom_gate.specs.declared.view.View.{View}
 use Rattle.loom_gate.specs.declared.view.View.TheVariants.{Pass, Key}
 use Rattle.loom_gate.specs.View.{start, more, joined, pass_of, key_of, place_seen, switch_rows}
-use Rattle.loom_gate.specs.Machine.{IsThread}
 use Rattle.loom_gate.proofs.Rows.{length_snoc}
-use Rattle.loom_gate.specs.Seats.{view_of_pass, IsPassAt, ArePassesFrom, rows_of, ends_of, SeenAs}
+use Rattle.loom_gate.specs.Seats.{IsPassAt, ArePassesFrom, SeenAs}
 
 pub passes_snoc : (id : TableId) (n places t : ℕ) (ps : List pass.Pass) (p : pass.Pass) → ArePassesFrom id n places t ps → p.thread ≡ t + length ps → IsPassAt id n places p → ArePassesFrom id n places t (ps ++ p ∷ [])
 passes_snoc id n places t [] p are next is = ((let zero_is : t + 0 ≡ t = omega arith in next ∙ zero_is), is, tt)

@@ -1,5 +1,5 @@
 -- For the tests: gates of one thread.
-use Rattle.std.proofs.Common.{◌≡◌, ◌≢◌, ℕ, suc, ◌+◌, ◌<◌, ◌≤◌, ◌==◌, eq-eqb, ne_eqb, Bool, true, false, true≢false, if◌then◌else◌, List, [], ◌∷◌, ◌++◌, length, get_or, set, sym, refl, ap, ◌∙◌, subst, arith, get_or-set_same, All, Option, Some, None}
+use Rattle.std.proofs.Common.{◌≡◌, ℕ, ◌<◌, ◌==◌, ne_eqb, Bool, true, false, true≢false, if◌then◌else◌, List, [], ◌∷◌, ◌++◌, length, get_or, set, sym, refl, ap, ◌∙◌, subst, arith, get_or-set_same, All, Option, Some, None}
 use Rattle.std.specs.Prelude.{IfSome, option_to_list}
 use mathlib.Core.Logic.{dite}
 use native.Mathlib.Decide.{ℕ_discrete}
@@ -9,7 +9,7 @@ use Rattle.loom_gate.specs.declared.pass.Pass as pass
 use Rattle.loom_gate.specs.declared.view.Look.{Look}
 use Rattle.loom_gate.specs.declared.view.Look.TheVariants.{Unknown, SawPlace}
 use Rattle.loom_gate.specs.declared.view.KeyView.{KeyView}
-use Rattle.loom_gate.specs.Machine.{IsThread, AllStood}
+use Rattle.loom_gate.specs.Machine.{AllStood}
 use Rattle.loom_gate.specs.Seats.{IsPassAt, ArePassesFrom, IsStanding}
 use Rattle.loom_gate.proofs.Rows.{length_snoc}
 

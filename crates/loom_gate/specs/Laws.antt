@@ -1,5 +1,5 @@
 -- What the rule of a gate says of every moment, and what one step of a pass can do.
-use Rattle.std.specs.Prelude.{◌≡◌, ◌⊎◌, ℕ, Bool, true, List, slice_index_or}
+use Rattle.std.specs.Prelude.{◌≡◌, ◌⊎◌, ℕ, true, List, slice_index_or}
 use Rattle.loom_trace.specs.Places.{has_bit, has_place}
 use Rattle.loom_gate.specs.declared.view.Stage.TheVariants.{Stands, Tries, Clear, Inside}
 use Rattle.loom_gate.specs.declared.view.PassView.{PassView}

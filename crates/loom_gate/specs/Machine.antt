@@ -1,5 +1,5 @@
 -- The gate as a machine: what its passes and its key know at one moment, and what is so at every moment. No table here.
-use Rattle.std.specs.Prelude.{◌≡◌, ◌⊎◌, ℕ, ◌+◌, ◌/◌, ◌<◌, ◌≤◌, Bool, true, false, List, [], ◌∷◌, length, slice_index_or, Option, Some, None, All}
+use Rattle.std.specs.Prelude.{◌≡◌, ◌⊎◌, ℕ, ◌+◌, ◌/◌, ◌<◌, ◌≤◌, true, List, [], ◌∷◌, length, slice_index_or, Option, Some, None, All}
 use Rattle.loom_trace.specs.Places.{has_bit, has_place}
 use Rattle.loom_gate.specs.declared.log.PassRow.{PassRow}
 use Rattle.loom_gate.specs.declared.log.SwitchRow.{SwitchRow}

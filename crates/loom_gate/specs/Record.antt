@@ -1,5 +1,5 @@
 -- The record of a gate.
-use Rattle.std.specs.Prelude.{◌≡◌, ℕ, ◌+◌, ◌-◌, ◌==◌, ◌&&◌, leb, Bool, true, false, if◌then◌else◌, List, [], ◌∷◌, ◌++◌, slice_index_or, All}
+use Rattle.std.specs.Prelude.{◌≡◌, ℕ, ◌-◌, ◌==◌, ◌&&◌, leb, Bool, true, false, if◌then◌else◌, List, [], ◌∷◌, slice_index_or, All}
 use Rattle.loom_gate.specs.declared.log.PassRow.{PassRow}
 use Rattle.loom_gate.specs.declared.log.SwitchRow.{SwitchRow}
 use Rattle.loom_gate.specs.declared.log.GateLog.{GateLog}

@@ -5,7 +5,7 @@ use Rattle.loom_trace.specs.Places.{has_bit, has_place}
 use Rattle.loom_gate.specs.declared.view.PassView.{PassView}
 use Rattle.loom_gate.specs.declared.view.KeyView.{KeyView}
 use Rattle.loom_gate.specs.declared.view.View.{View}
-use Rattle.loom_gate.specs.declared.view.View.TheVariants.{Pass, Key, Nobody}
+use Rattle.loom_gate.specs.declared.view.View.TheVariants.{Pass, Key}
 use Rattle.loom_gate.specs.View.{mark, place_of, thread_of, pass_of, key_of, tried, checked, polled, entered, left, flagged, looked, switched}
 use Rattle.loom_gate.specs.Machine.{Amid, AmidKey, NobodyInside}
 

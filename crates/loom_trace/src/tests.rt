@@ -1,8 +1,9 @@
-//! Texts written by hand, and one journal.
+//! Texts written by hand, one journal, and one set of places.
 
 use crate::entry::{Ending, Entry, What};
 use crate::journal::Journal;
 use crate::line::Line;
+use crate::places::Places;
 use crate::row::{Args, Events, PlaceRow};
 use crate::text::put_entry;
 
@@ -341,4 +342,14 @@ fn has_memory_at_each_limit(rt: HostRuntime) {
         let journal = Journal::make(rt.alloc(), limit);
         assert!(rt; journal.is_ok(), "with {limit}");
     }
+}
+
+#[test]
+fn a_set_has_the_places_put(rt: HostRuntime) {
+    let mut places = Places::none();
+    assert!(rt; !places.has(63));
+    places.put(63);
+    places.put(8320);
+    assert!(rt; places.has(63) && places.has(8320));
+    assert!(rt; !places.has(0) && !places.has(64));
 }

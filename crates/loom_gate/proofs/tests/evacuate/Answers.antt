@@ -1,4 +1,4 @@
-use Rattle.std.proofs.Common.{rules, ◌≡◌, ◌<◌, ◌≤◌, ◌+◌, arith, ◌∙◌, sym, ap, set}
+use Rattle.std.proofs.Common.{arith, ◌∙◌, sym, ap, set}
 use Rattle.loom_trace.specs.Places.{has_place}
 use Rattle.loom_gate.specs.Seats.{threads_of, view_of_key}
 use Rattle.loom_gate.specs.Calls.{look_told}

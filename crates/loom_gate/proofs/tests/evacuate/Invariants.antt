@@ -1,4 +1,4 @@
-use Rattle.std.proofs.Common.{◌≡◌, ℕ, ◌≤◌, ◌<◌, ◌+◌, true}
+use Rattle.std.proofs.Common.{◌≡◌, ℕ, true}
 use Rattle.loom_trace.specs.Places.{has_place}
 use Rattle.loom_gate.specs.Seats.{IsKeyOf, view_of_key}
 use Rattle.loom_gate.proofs.tests.evacuate.Given as goal

@@ -1,4 +1,4 @@
-use Rattle.std.proofs.Common.{◌≡◌, length, ◌∙◌}
+use Rattle.std.proofs.Common.{◌∙◌}
 use Rattle.loom_gate.proofs.Trials.{only_pass, only_rest}
 use Rattle.loom_gate.proofs.tests.only.Goals as goal
 

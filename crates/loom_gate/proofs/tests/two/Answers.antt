@@ -1,4 +1,4 @@
-use Rattle.std.proofs.Common.{rules, ◌≡◌, ◌<◌, ◌∙◌, ap, if◌then◌else◌, true, ◌==◌}
+use Rattle.std.proofs.Common.{◌∙◌, ap, if◌then◌else◌, true, ◌==◌}
 use Rattle.loom_gate.proofs.Trials.{two_below}
 use Rattle.loom_gate.proofs.tests.two.Goals as goal
 

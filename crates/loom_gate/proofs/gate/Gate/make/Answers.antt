@@ -1,4 +1,4 @@
-use Rattle.std.proofs.Common.{rules, ◌≡◌, ℕ, ◌<◌, ◌≤◌, ◌+◌, ◌/◌, ◌++◌, ◌∷◌, [], arith, ap, sym, ◌∙◌, length, replicate, refl}
+use Rattle.std.proofs.Common.{rules, ◌≡◌, ◌+◌, ◌/◌, [], arith, ap, sym, ◌∙◌, length, replicate, refl}
 use Rattle.loom_gate.specs.declared.pass.Pass as pass
 use Rattle.loom_gate.specs.View.{key_of, first_key}
 use Rattle.loom_gate.specs.Rule.{flag_words}

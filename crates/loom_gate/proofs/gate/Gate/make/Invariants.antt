@@ -1,7 +1,7 @@
-use Rattle.std.proofs.Common.{◌≡◌, ℕ, ◌+◌, ◌*◌, ◌<◌, ◌≤◌, length, [], All, replicate}
+use Rattle.std.proofs.Common.{◌≡◌, ◌≤◌, length, [], All}
 use Rattle.std.specs.Vec.{vec_capacity}
 use Rattle.loom_gate.specs.declared.view.View.TheVariants.{Key}
-use Rattle.loom_gate.specs.View.{key_of, first_key}
+use Rattle.loom_gate.specs.View.{first_key}
 use Rattle.loom_gate.specs.Rule.{flag_words}
 use Rattle.loom_gate.specs.Seats.{ArePassesFrom, IsStanding}
 use Rattle.loom_gate.proofs.gate.Gate.make.Given as goal

@@ -1,5 +1,4 @@
-use Rattle.std.proofs.Common.{rules, ◌≡◌, ◌<◌, ◌≤◌, ◌+◌, arith, sym, subst}
-use Rattle.loom_gate.specs.Machine.{IsThread}
+use Rattle.std.proofs.Common.{arith}
 use Rattle.loom_gate.specs.Seats.{view_of_key}
 use Rattle.loom_gate.proofs.GateSteps.{looks_at}
 use Rattle.loom_gate.proofs.key.Key.look.Goals as goal

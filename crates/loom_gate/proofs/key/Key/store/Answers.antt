@@ -1,4 +1,4 @@
-use Rattle.std.proofs.Common.{rules, ◌≡◌, ◌+◌, ◌<◌, ◌≤◌, arith}
+use Rattle.std.proofs.Common.{arith}
 use Rattle.loom_gate.specs.Seats.{view_of_key}
 use Rattle.loom_gate.proofs.GateSteps.{flags_at}
 use Rattle.loom_gate.proofs.key.Key.store.Goals as goal

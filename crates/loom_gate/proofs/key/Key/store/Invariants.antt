@@ -1,4 +1,4 @@
-use Rattle.std.proofs.Common.{◌≡◌, ℕ, ◌+◌, ◌<◌, ◌≤◌, length, replicate}
+use Rattle.std.proofs.Common.{◌≡◌, ℕ, ◌+◌, ◌<◌, ◌≤◌, replicate}
 use Rattle.std.specs.Prelude.{slice_index_or}
 use Rattle.loom_gate.specs.declared.view.Look.TheVariants.{Unknown}
 use Rattle.loom_gate.specs.Seats.{threads_of, view_of_key, IsKeyOf}

@@ -1,4 +1,4 @@
-use Rattle.std.proofs.Common.{rules, ◌≡◌, ◌<◌, ◌≤◌, ◌+◌, length, get_or, arith, sym, ◌∙◌, ap}
+use Rattle.std.proofs.Common.{◌≡◌, ◌+◌, length, get_or, arith, ◌∙◌, ap}
 use Rattle.std.specs.Prelude.{slice_index}
 use Rattle.loom_gate.specs.Seats.{view_of_key}
 use Rattle.loom_gate.proofs.GateSteps.{switches_at}

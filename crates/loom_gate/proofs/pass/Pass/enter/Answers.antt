@@ -1,4 +1,4 @@
-use Rattle.std.proofs.Common.{rules, ◌≡◌, ◌<◌, ◌≤◌, ◌/◌, ◌+◌, eq-eqb, ne_eqb, inl, inr, arith, ◌∙◌, ap, sym, subst, if◌then◌else◌, List, [], ◌∷◌, ◌++◌}
+use Rattle.std.proofs.Common.{eq-eqb, ne_eqb, inl, arith, ◌∙◌, ap, sym, if◌then◌else◌, List, [], ◌∷◌, ◌++◌}
 use Rattle.loom_gate.specs.declared.view.Stage.TheVariants.{Tries}
 use Rattle.loom_gate.specs.declared.log.PassRow.{PassRow}
 use Rattle.loom_gate.specs.declared.view.PassView.{PassView}

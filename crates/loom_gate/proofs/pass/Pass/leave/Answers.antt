@@ -1,4 +1,4 @@
-use Rattle.std.proofs.Common.{rules, ◌≡◌, ◌<◌, inr, arith, ap, subst}
+use Rattle.std.proofs.Common.{◌<◌, inr, arith, ap, subst}
 use Rattle.loom_gate.specs.View.{thread_of}
 use Rattle.loom_gate.specs.Machine.{Amid}
 use Rattle.loom_gate.specs.Seats.{view_of_pass}

@@ -1,4 +1,4 @@
-use Rattle.std.proofs.Common.{◌≡◌, ℕ, ◌<◌, ◌/◌, ◌==◌, true, if◌then◌else◌, List, length, arith, ap, ◌∙◌}
+use Rattle.std.proofs.Common.{ℕ, ◌==◌, true, if◌then◌else◌, List, arith, ap, ◌∙◌}
 use Rattle.loom_trace.specs.Places.{has_place}
 use Rattle.loom_trace.proofs.Bits.{has_put_at}
 use Rattle.loom_trace.proofs.places.Places.put.Goals as goal

@@ -1,7 +1,7 @@
 -- The locals of a frame.
 use Rattle.std.proofs.Common.{pos, min, ◌+◌, get_or, take, ℕ, zero, suc, ◌≡◌, ◌≤◌, ◌<◌, List, [], ◌∷◌, ℤ, slice_set, length, refl, sym, ap, ◌∙◌, arith}
 use Rattle.std.proofs.lemmas.List.{set_past, take_min}
-use Rattle.loom_flow.specs.Flat.{put_at, filled}
+use Rattle.loom_flow.specs.State.{put_at, filled}
 
 pub put_set : (x : ℕ) (v : ℤ) (ws : List ℤ) → put_at x v ws ≡ slice_set ws x v
 put_set x v [] = refl

@@ -4,7 +4,7 @@ use Rattle.loom_flow.specs.declared.code.Operand.{Operand}
 use Rattle.loom_flow.specs.declared.code.Operand.TheVariants as o
 use Rattle.loom_flow.specs.declared.code.Target.{Target}
 use Rattle.loom_flow.specs.declared.code.Target.TheVariants as t
-use Rattle.loom_flow.specs.Flat.{values_without}
+use Rattle.loom_flow.specs.State.{values_without}
 use Rattle.loom_flow.specs.Depth.{put}
 
 pub put_one : (d : Target) → put d ≤ 1

@@ -3,8 +3,8 @@ use Rattle.std.proofs.Common.{ℕ, pos, ◌<◌, get_or, ◌-◌, ◌≡◌, ◌
 use Rattle.std.proofs.lemmas.List.{get_or-reverse, get_or_past, get_or_default, reverse-append, reverse-reverse, length-reverse, length-drop, length-append, take_at}
 use Rattle.std.proofs.lemmas.List.{take_all, take-append-drop, drop_at, drop_all}
 use Rattle.std.proofs.lemmas.Bool.{cases_lt}
-use Rattle.loom_flow.specs.Flat.{Frame, top, value_of}
-use Rattle.loom_strand.specs.Held.{newest}
+use Rattle.loom_flow.specs.State.{top, value_of}
+use Rattle.loom_strand.specs.Stack.{first}
 
 pub put_last : {A : Type 0} (xs : List A) (x : A) → reverse (xs ++ x ∷ []) ≡ x ∷ reverse xs
 put_last xs x = reverse-append xs (x ∷ [])
@@ -38,12 +38,12 @@ top_of (v ∷ vs) = ap value_of (sym (last_of v vs))
 pub top_last : (xs : List ℤ) → top (reverse xs) ≡ value_of (slice_get xs (length xs - 1))
 top_last xs = subst (λ ys. top (reverse xs) ≡ value_of (slice_get ys (length ys - 1))) (reverse-reverse xs) (top_of (reverse xs))
 
-newest_of : (fs : List Frame) → newest fs ≡ slice_get (reverse fs) (length (reverse fs) - 1)
-newest_of [] = refl
-newest_of (f ∷ fs) = sym (last_of f fs)
+first_of : {A : Type 0} (fs : List A) → first fs ≡ slice_get (reverse fs) (length (reverse fs) - 1)
+first_of [] = refl
+first_of (f ∷ fs) = sym (last_of f fs)
 
-pub newest_last : (xs : List Frame) → newest (reverse xs) ≡ slice_get xs (length xs - 1)
-newest_last xs = subst (λ ys. newest (reverse xs) ≡ slice_get ys (length ys - 1)) (reverse-reverse xs) (newest_of (reverse xs))
+pub first_last : {A : Type 0} (xs : List A) → first (reverse xs) ≡ slice_get xs (length xs - 1)
+first_last xs = subst (λ ys. first (reverse xs) ≡ slice_get ys (length ys - 1)) (reverse-reverse xs) (first_of (reverse xs))
 
 take_some : {A : Type 0} (k : ℕ) (xs : List A) → k ≤ length xs → take k (reverse xs) ≡ reverse (drop (length xs - k) xs)
 take_some k xs h =

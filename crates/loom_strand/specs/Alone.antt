@@ -26,8 +26,8 @@ abbrev pub functions_alone : List Function → Bool
 functions_alone [] = true
 functions_alone (f ∷ fs) = body_alone f.body && functions_alone fs
 
-abbrev pub is_alone : Source → Bool
-is_alone p = functions_alone p.funcs
+abbrev pub has_one_thread : Source → Bool
+has_one_thread p = functions_alone p.funcs
 
 -- A request for no other thread.
 abbrev pub NeedsNoOther : Request → Type 0

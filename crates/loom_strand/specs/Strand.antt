@@ -1,24 +1,26 @@
 -- A thread.
-use Rattle.std.specs.Prelude.{ℕ, ◌≡◌, true, false, List, [], Option, Some, None}
+use Rattle.std.specs.Prelude.{ℕ, ◌≡◌, true, false, List, [], ◌++◌, Option, Some, None}
 use Rattle.loom_tree.specs.Tree.{Source}
+use Rattle.loom_lang.specs.Trace.{Finished, IsTrace}
 use Rattle.loom_trace.specs.declared.entry.Entry.{Entry}
 use Rattle.loom_trace.specs.declared.request.Request.{Request}
-use Rattle.loom_law.specs.Part.{IsPart}
-use Rattle.loom_law.specs.Asked.{HasNumbers}
+use Rattle.loom_trace.specs.declared.request.Request.TheVariants as r
+use Rattle.loom_event.specs.Answer.{HasNumbers}
+use Rattle.loom_law.specs.Walk.{Plans, tick, Step, items, told, unborn, AreWoven}
+use Rattle.loom_law.specs.Part.{Own, led, IsPart, AsksToMake, AsksToAct}
 use Rattle.loom_strand.specs.declared.stage.Birth.{Birth}
 use Rattle.loom_strand.specs.declared.stage.Stage.{Stage}
 use Rattle.loom_strand.specs.declared.stage.Want.{Want}
 use Rattle.loom_strand.specs.declared.stage.Want.TheVariants as w
-use Rattle.loom_strand.specs.Held.{Held}
-use Rattle.loom_strand.specs.Alone.{is_alone, NeedsNoOther}
-use Rattle.loom_strand.specs.Next.{Asks, IsEnded, is_begin, has_none, has_ended}
+use Rattle.loom_strand.specs.Machine.{Machine}
+use Rattle.loom_strand.specs.Alone.{has_one_thread, NeedsNoOther}
+use Rattle.loom_strand.specs.Entries.{asks_begin, has_none, has_ended, versions_with}
 
--- What a thread keeps of its run: how far it is, how many entry and back-edge places it passed since its last entry or the tick that it
--- asks for, and its machine.
+-- What a thread keeps of its run: how far it is, how many entry and back-edge places it passed since its last entry, and its machine.
 pub record Inside : Type 0 where
   pub stage : Stage
   pub passed : ℕ
-  pub held : Held
+  pub machine : Machine
 
 pub record Strand : Type 0 where
   pub program : Source
@@ -53,27 +55,44 @@ abbrev pub IsStarted : Option Birth → Type 0
 IsStarted None = ⊥
 IsStarted (Some b) = Unit {0}
 
--- The entries are those of a trace of its function with its arguments.
-abbrev pub HasPart : Strand → Option Birth → Type 0
-HasPart s None = ⊥
-HasPart s (Some b) = IsPart s.program s.thread b.func b.args s.entries
+-- what is the thread's own
+abbrev pub own_of : Strand → Birth → Own
+own_of s b = record { thread = s.thread; func = b.func; args = b.args; versions = versions_with s.entries; entries = s.entries }
 
--- It asks for this next. It asks for its begin where it has no entry yet.
-pub record AsksFor (s : Strand) (b : Birth) (q : Request) : Type 0 where
+-- The entries are a part, whatever filters mean.
+abbrev pub HasOwnPart : Strand → Option Birth → Type 0
+HasOwnPart s None = ⊥
+HasOwnPart s (Some b) = (plans : Plans) → IsPart s.program plans (own_of s b)
+
+-- It asks for this next, whatever filters mean: for an act, or for a tick.
+abbrev pub AsksNext : Source → Own → Request → Type 0
+AsksNext p x (r.Tick l k) = (plans : Plans) → AsksToMake p plans x l (tick k)
+AsksNext p x q = (plans : Plans) → AsksToAct p plans x q
+
+-- It makes this request. It asks for its begin where it has no entry yet.
+pub record Requests (s : Strand) (b : Birth) (q : Request) : Type 0 where
   pub wanted : s.wanted ≡ Some q
-  pub next : Asks s.program s.thread b.func b.args s.entries q
+  pub next : AsksNext s.program (own_of s b) q
   pub numbers : HasNumbers s.program q
-  pub begins : is_begin q ≡ has_none s.entries
+  pub begins : asks_begin q ≡ has_none s.entries
   pub lives : has_ended s.entries ≡ false
   -- no other thread, where the program makes none
-  pub alone : is_alone s.program ≡ true → NeedsNoOther q
+  pub alone : has_one_thread s.program ≡ true → NeedsNoOther q
+
+-- The entries are a whole part, whatever filters mean: nothing comes behind them.
+pub record IsWholePart (p : Source) (plans : Plans) (x : Own) : Type 0 where
+  pub steps : List Step
+  pub trace : IsTrace p x.func x.args (items steps) Finished
+  pub woven : AreWoven p plans (unborn x.versions) steps []
+  pub tells : told x.thread steps ≡ x.entries
+  pub taken : (led p plans x steps).coming ≡ []
 
 -- It has ended.
 pub record IsOver (s : Strand) (b : Birth) : Type 0 where
-  pub whole : IsEnded s.program s.thread b.func b.args s.entries
+  pub whole : (plans : Plans) → IsWholePart s.program plans (own_of s b)
   pub ended : has_ended s.entries ≡ true
 
 abbrev pub Wants : Strand → Option Birth → Want → Type 0
 Wants s None x = ⊥
-Wants s (Some b) (w.Ask q) = AsksFor s b q
+Wants s (Some b) (w.Ask q) = Requests s b q
 Wants s (Some b) w.Ended = IsOver s b

@@ -1,12 +1,16 @@
-//! What instructions ask for.
-ghost use Rattle.std.specs.Prelude.{◌≡◌, ◌≤◌};
-ghost use Rattle.loom_flow.specs.Flat.{operand, without, arguments};
+//! What instructions ask for, and how they take the answer.
+ghost use Rattle.std.specs.Prelude.{ℕ, ◌≡◌, ◌<◌, ◌≤◌, length};
+ghost use Rattle.loom_flow.specs.State.{operand, without, arguments};
+ghost use Rattle.loom_flow.specs.Progress.{of_ask};
 ghost use Rattle.loom_trace.specs.declared.request.Request.TheVariants as r;
-ghost use Rattle.loom_strand.specs.Turned.{HasFewArguments, cell_at, cell_request, request_of};
+ghost use Rattle.loom_strand.specs.declared.machine.Phase.TheVariants as phase;
+ghost use Rattle.loom_strand.specs.Machine.{AskHasFewArguments, TakesAnswer};
+ghost use Rattle.loom_strand.specs.Operator.{cell_at};
+ghost use Rattle.loom_strand.specs.Question.{cell_request, IsAskedBy};
 
 use crate::machine::Machine;
-use crate::operate::cell_at;
-use loom_flow::code::{Array, Instr, Operand, Step};
+use crate::operator::cell_at;
+use loom_flow::code::{Array, Ask, Operand};
 use loom_trace::request::Request;
 
 fn read(line: u32, word: u16) -> Request
@@ -78,36 +82,48 @@ fn spawn(machine: &Machine, line: u32, func: u8, n: u8) -> Request
     }
 }
 
-/// What an instruction asks for, where it asks.
-pub(crate) fn request(machine: &Machine, i: &Instr) -> Request
-    requires { HasFewArguments i.now.step }
-    ensures { result ≡ request_of machine.now.state i.now.line i.now.step }
+/// What an instruction of this line asks for; a trap where an index isn't one of its array.
+pub(crate) fn request(machine: &Machine, line: u32, ask: Ask) -> Request
+    requires { AskHasFewArguments ask }
+    ensures { IsAskedBy result (of_ask machine.now.state line ask) }
 {
-    let line = i.line;
-    match i.step {
-        Step::Read(word, _) => read(line, word),
-        Step::ReadCell(array, n, _) => read_cell(machine, line, array, n),
-        Step::Apply(_, _, _, _) => Request::Trap { line, reason: 1 },
-        Step::Write(word, a) => write(machine, line, word, a),
-        Step::WriteCell(array, n, b) => write_cell(machine, line, array, n, b),
-        Step::Lock(m) => Request::Lock { line, m },
-        Step::Unlock(m) => Request::Unlock { line, m },
-        Step::Down(s) => Request::Down { line, s },
-        Step::Up(s) => Request::Up { line, s },
-        Step::Join(a) => join(machine, line, a),
-        Step::Print(a) => print(machine, line, a),
-        Step::Spawn(func, n, _) => spawn(machine, line, func, n),
-        Step::Call(_, _) => Request::Trap { line, reason: 6 },
-        Step::Move(_, _) => Request::End { line },
-        Step::Negate(_, _) => Request::End { line },
-        Step::Invert(_, _) => Request::End { line },
-        Step::Discard => Request::End { line },
-        Step::Return(_) => Request::End { line },
-        Step::Begin => Request::End { line },
-        Step::Done => Request::End { line },
-        Step::Edge(_) => Request::End { line },
-        Step::Jump(_) => Request::End { line },
-        Step::JumpIfZero(_, _) => Request::End { line },
-        Step::Out => Request::End { line },
+    match ask {
+        Ask::Read(word, _) => read(line, word),
+        Ask::ReadCell(array, n, _) => read_cell(machine, line, array, n),
+        Ask::Write(word, a) => write(machine, line, word, a),
+        Ask::WriteCell(array, n, b) => write_cell(machine, line, array, n, b),
+        Ask::Lock(m) => Request::Lock { line, m },
+        Ask::Unlock(m) => Request::Unlock { line, m },
+        Ask::Down(s) => Request::Down { line, s },
+        Ask::Up(s) => Request::Up { line, s },
+        Ask::Join(a) => join(machine, line, a),
+        Ask::Print(a) => print(machine, line, a),
+        Ask::Spawn(func, n, _) => spawn(machine, line, func, n),
+    }
+}
+
+/// Behind the answer to what an instruction asked for, with the value that it gives.
+#[tactic(auto, using(crate::proofs::Room::put_one, crate::proofs::Room::fewer))]
+pub(crate) fn take(machine: &mut Machine, ask: Ask, v: i64)
+    requires phase { machine.old.phase ≡ phase.Before }
+    requires before { machine.old.state.at < 18446744073709551615 }
+    requires room { length machine.old.state.values < machine.old.most_values }
+    ensures { (line : ℕ) → TakesAnswer machine.old machine.new v (of_ask machine.old.state line ask) }
+{
+    match ask {
+        Ask::Read(_, d) => machine.store(d, v),
+        Ask::ReadCell(_, n, d) => machine.replace(n, d, v),
+        Ask::Write(_, a) => machine.pass(a),
+        Ask::WriteCell(_, n, b) => machine.pass_two(n, b),
+        Ask::Lock(_) => machine.forward(),
+        Ask::Unlock(_) => machine.forward(),
+        Ask::Down(_) => machine.forward(),
+        Ask::Up(_) => machine.forward(),
+        Ask::Join(a) => machine.pass(a),
+        Ask::Print(a) => machine.pass(a),
+        Ask::Spawn(_, n, d) => {
+            machine.drop_arguments(n);
+            machine.store(d, v);
+        }
     }
 }

@@ -1,6 +1,6 @@
 //! The frames of a thread.
 ghost use Rattle.std.specs.Prelude.{◌≡◌, ◌<◌, [], ◌∷◌, IfOk, length, drop};
-ghost use Rattle.loom_strand.specs.Held.{newest};
+ghost use Rattle.loom_strand.specs.Stack.{first};
 
 use loom_tree::name::NoMemory;
 use std::alloc::Global;
@@ -15,9 +15,9 @@ pub(crate) struct Frame {
 }
 
 impl Model for Frame {
-    ghost use Rattle.loom_flow.specs.Flat as flat;
+    ghost use Rattle.loom_flow.specs.State as state;
 
-    ghost Value = { flat.Frame };
+    ghost Value = { state.Frame };
 
     ghost view = { λ f. record { func = f.func; locals = f.locals; site = f.site } };
 }
@@ -31,9 +31,11 @@ pub(crate) struct Frames {
 
 impl Model for Frames {
     ghost use Rattle.std.specs.Prelude.{reverse, vec_capacity};
-    ghost use Rattle.loom_strand.specs.Held.{FrameStack};
+    ghost use Rattle.loom_strand.specs.Stack.{Stack};
 
-    ghost Value = { FrameStack };
+    ghost use Rattle.loom_flow.specs.State as state;
+
+    ghost Value = { Stack state.Frame };
 
     ghost view = { λ s. record { items = reverse s.items.items; most = vec_capacity s.items } };
 }
@@ -56,9 +58,9 @@ impl Frames {
     }
 
     /// Takes off the newest frame, if there is one.
-    #[tactic(auto, using(crate::proofs::Stacks::newest_last, crate::proofs::Stacks::drop_last))]
+    #[tactic(auto, using(crate::proofs::Stacks::first_last, crate::proofs::Stacks::drop_last))]
     pub fn pop(&mut self) -> Option<Frame>
-        ensures newest { result ≡ newest self.old.items }
+        ensures newest { result ≡ first self.old.items }
         ensures rest { self.new ≡ record { items = drop 1 self.old.items; most = self.old.most } }
     {
         self.items.pop()

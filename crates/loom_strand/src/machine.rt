@@ -1,9 +1,13 @@
 //! The machine of a thread.
 ghost use Rattle.std.specs.Prelude.{slice_get, ◌≡◌, ◌<◌, ◌≤◌, ◌+◌, [], ◌∷◌, IfOk, Some, length, is_some, unwrap_or, pos, replicate};
-ghost use Rattle.loom_flow.specs.Flat.{State, operand, without, given, forward, jumped, arguments, without_arguments, frame_locals, resume};
+ghost use Rattle.loom_flow.specs.Flat.{Flat, resume};
+ghost use Rattle.loom_flow.specs.State.{operand, without, given, forward, jumped, arguments, without_arguments, frame_locals, at_start};
+ghost use Rattle.loom_flow.specs.Position.{before, leaves, over};
+ghost use Rattle.loom_flow.specs.Progress.{returns};
 ghost use Rattle.loom_lang.specs.Values.{is_zero};
 ghost use Rattle.loom_flow.specs.Depth.{put};
-ghost use Rattle.loom_strand.specs.Held.{holding, blank, at_start, inside, back, branched};
+ghost use Rattle.loom_strand.specs.declared.machine.Phase.TheVariants as phase;
+ghost use Rattle.loom_strand.specs.Machine.{HasFirstSite, holding, standing, blank, frames_below, new_machine, branched};
 
 use crate::frame::{Frame, Frames};
 use crate::values::Values;
@@ -13,9 +17,24 @@ use loom_tree::name::NoMemory;
 use std::alloc::Global;
 use std::marker::Model;
 
+/// How many frames may wait below the newest one.
+pub(crate) const FRAMES_BELOW: usize = 255;
+
+/// Where a thread is in its newest frame.
+#[derive(Clone, Copy, Debug, Drop)]
+pub(crate) enum Phase {
+    /// Before an instruction.
+    Before,
+    /// The frame is to end with this result: its last statement is complete.
+    Leaves(i64),
+    /// There is no frame: the last one has ended.
+    Over,
+}
+
 /// Where a thread is, with room for its values and its frames.
 #[derive(Debug, Drop)]
 pub(crate) struct Machine {
+    phase: Phase,
     at: usize,
     values: Values,
     func: u8,
@@ -24,11 +43,12 @@ pub(crate) struct Machine {
 }
 
 impl Model for Machine {
-    ghost use Rattle.loom_strand.specs.Held.{Held};
+    ghost use Rattle.loom_strand.specs.Machine.{Machine};
 
-    ghost Value = { Held };
+    ghost Value = { Machine };
 
     ghost view = { λ m. record {
+      phase = m.phase;
       state = record { at = m.at; values = m.values.items; func = m.func; locals = m.locals; below = m.below.items };
       most_values = m.values.most;
       most_frames = m.below.most;
@@ -36,13 +56,14 @@ impl Model for Machine {
 }
 
 impl Machine {
-    /// With room for so many values and frames. An `Err` is want of memory.
-    pub fn make(alloc: Global, values: usize, frames: usize) -> Result<Machine, NoMemory>
-        ensures { IfOk result (λ m. m ≡ record { state = blank; most_values = values; most_frames = frames }) }
+    /// With room for so many values. An `Err` is want of memory.
+    pub fn make(alloc: Global, values: usize) -> Result<Machine, NoMemory>
+        ensures { IfOk result (λ m. m ≡ new_machine values) }
     {
         let values = Values::make(alloc, values)?;
-        let below = Frames::make(alloc, frames)?;
+        let below = Frames::make(alloc, FRAMES_BELOW)?;
         Ok(Machine {
+            phase: Phase::Before,
             at: 0,
             values,
             func: 0,
@@ -51,15 +72,44 @@ impl Machine {
         })
     }
 
-    /// To the start of a function. No frame waits, and there is no value.
+    /// To the start of a function, where there is no value and no frame.
     pub fn begin(&mut self, func: u8, entrance: Entrance, args: Args)
-        requires { self.old.state ≡ blank }
-        ensures { self.new ≡ holding self.old (at_start func entrance args) }
+        requires blank { self.old.state ≡ blank }
+        requires phase { self.old.phase ≡ phase.Before }
+        ensures { self.new ≡ standing self.old (before (at_start func entrance args [] [])) }
+    {
+        self.start(func, entrance, args);
+    }
+
+    // To the start of a function, above these values and frames.
+    fn start(&mut self, func: u8, entrance: Entrance, args: Args)
+        ensures { self.new ≡ holding self.old (at_start func entrance args self.old.state.values self.old.state.below) }
     {
         let locals = first_locals(entrance, args);
         self.at = entrance.start as usize;
         self.func = func;
         self.locals = locals;
+    }
+
+    /// In which phase the newest frame is.
+    pub fn phase(&self) -> Phase
+        ensures { result ≡ self.now.phase }
+    {
+        self.phase
+    }
+
+    /// Its last frame has ended.
+    pub fn stop(&mut self)
+        ensures { self.new ≡ standing self.old over }
+    {
+        self.phase = Phase::Over;
+    }
+
+    /// The number of the function of the newest frame.
+    pub fn func(&self) -> u8
+        ensures { result ≡ self.now.state.func }
+    {
+        self.func
     }
 
     /// The number of the next instruction.
@@ -133,7 +183,7 @@ impl Machine {
     }
 
     /// Leaves a value where it belongs, and goes to the next instruction.
-    pub fn leave(&mut self, target: Target, v: i64)
+    pub fn store(&mut self, target: Target, v: i64)
         requires before { self.old.state.at < 18446744073709551615 }
         requires room { length self.old.state.values + put target ≤ self.old.most_values }
         ensures { self.new ≡ holding self.old (forward (given self.old.state target v)) }
@@ -150,7 +200,7 @@ impl Machine {
         ensures { self.new ≡ holding self.old (forward (given (without self.old.state a) target v)) }
     {
         self.drop_operand(a);
-        self.leave(target, v);
+        self.store(target, v);
     }
 
     /// The same where two are, the second one first.
@@ -171,6 +221,15 @@ impl Machine {
     {
         self.drop_operand(a);
         self.forward();
+    }
+
+    /// Takes off two operands, the second one first, and goes to the next instruction.
+    pub fn pass_two(&mut self, a: Operand, b: Operand)
+        requires { self.old.state.at < 18446744073709551615 }
+        ensures { self.new ≡ holding self.old (forward (without (without self.old.state b) a)) }
+    {
+        self.drop_operand(b);
+        self.pass(a);
     }
 
     /// Takes off an operand, and goes to an instruction if it is 0, or to the next one.
@@ -230,7 +289,7 @@ impl Machine {
     /// Into a new frame, called from this place.
     pub fn enter(&mut self, entrance: Entrance, func: u8, args: Args, place: u16)
         requires { length self.old.state.below < self.old.most_frames }
-        ensures { self.new ≡ holding self.old (inside self.old.state place func args entrance) }
+        ensures { self.new ≡ holding self.old (at_start func entrance args self.old.state.values ((record { func = self.old.state.func; locals = self.old.state.locals; site = place }) ∷ self.old.state.below)) }
     {
         let locals = self.locals;
         self.below.push(Frame {
@@ -238,40 +297,35 @@ impl Machine {
             locals,
             site: place,
         });
-        self.at = entrance.start as usize;
-        self.func = func;
-        let first = first_locals(entrance, args);
-        self.locals = first;
+        self.start(func, entrance, args);
     }
 
-    /// Back into the frame below, with the result of the one that ends. Whether there is one.
-    pub fn return_with(&mut self, sites: &[Site], v: i64) -> bool
-        requires { length self.old.state.values < self.old.most_values }
-        ensures found { result ≡ is_some (back sites.now self.old.state v self.old.state.below) }
-        ensures back { self.new ≡ holding self.old (unwrap_or (back sites.now self.old.state v self.old.state.below) self.old.state) }
+    /// The frame is to end with the value of an operand, which is taken off.
+    pub fn leave(&mut self, a: Operand)
+        ensures { self.new ≡ standing self.old (leaves (without self.old.state a) (operand self.old.state a)) }
+    {
+        let v = self.operand(a);
+        self.drop_operand(a);
+        self.phase = Phase::Leaves(v);
+    }
+
+    /// The frame has ended with this result: back into the one below, if there is one.
+    pub fn back(&mut self, sites: &[Site], v: i64)
+        requires room { length self.old.state.values < self.old.most_values }
+        requires site { HasFirstSite sites.now self.old.state.below }
+        ensures { (c : Flat) → c.sites ≡ sites.now → self.new ≡ standing self.old (returns c self.old.state.values v self.old.state.below) }
     {
         match self.below.pop() {
             Some(frame) => {
                 self.values.push(v);
-                self.at = resume_at(sites, frame.site);
+                self.at = sites[frame.site as usize].resume as usize;
                 self.func = frame.func;
                 let locals = frame.locals;
                 self.locals = locals;
-                true
+                self.phase = Phase::Before;
             }
-            None => false,
+            None => self.phase = Phase::Over,
         }
-    }
-}
-
-// Where a frame goes on.
-#[tactic(auto, using(std::proofs::lemmas::Option::slice_get_cases))]
-fn resume_at(sites: &[Site], place: u16) -> usize
-    ensures { result ≡ resume (slice_get sites.now place) }
-{
-    match sites.get(place as usize) {
-        Some(site) => site.resume as usize,
-        None => 0,
     }
 }
 

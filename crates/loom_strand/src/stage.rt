@@ -3,7 +3,7 @@
 use loom_trace::request::Request;
 use loom_trace::row::Args;
 
-/// The function of a thread and its arguments.
+/// The function of a thread, by its number, and its arguments.
 #[derive(Clone, Copy, Debug, Drop)]
 pub struct Birth {
     pub func: u8,
@@ -12,12 +12,11 @@ pub struct Birth {
 
 /// How far a thread is.
 #[derive(Clone, Copy, Debug, Drop)]
-pub enum Stage {
+pub(crate) enum Stage {
     /// It hasn't begun.
     Waits,
+    /// It has begun, and hasn't ended.
     Runs,
-    /// It asks for its end.
-    Stops,
     /// It has ended.
     Over,
 }
@@ -25,6 +24,7 @@ pub enum Stage {
 /// What a private run comes to.
 #[derive(Clone, Copy, Debug, Drop)]
 pub enum Want {
+    /// The thread asks for this.
     Ask(Request),
     /// The thread has ended.
     Ended,

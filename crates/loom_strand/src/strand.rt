@@ -3,13 +3,12 @@ ghost use Rattle.std.specs.Prelude.{◌≡◌, ◌<◌, [], ◌∷◌, ◌++◌,
 ghost use Rattle.loom_lang.specs.Places.{line_of_function};
 ghost use Rattle.loom_flow.specs.Code.{IsLowered};
 ghost use Rattle.loom_trace.specs.declared.request.Request.{Request};
-ghost use Rattle.loom_law.specs.Asked.{IsAnswer, IsFunctionWith};
+ghost use Rattle.loom_event.specs.Answer.{IsAnswer, IsFunctionWith};
 ghost use Rattle.loom_strand.specs.declared.stage.Stage.TheVariants as stage;
-ghost use Rattle.loom_strand.specs.Strand.{IsNew, IsSame, IsStarted, HasPart, Wants};
+ghost use Rattle.loom_strand.specs.Strand.{IsNew, IsSame, IsStarted, HasOwnPart, Wants};
 
+use crate::answer::{answer_of, follow};
 use crate::machine::Machine;
-use crate::progress::entrance_of;
-use crate::reply::{follow, reply_of};
 use crate::run::run;
 use crate::stage::{Birth, Stage, Want};
 use crate::turn::Stop;
@@ -23,9 +22,6 @@ use std::alloc::Global;
 use std::marker::Model;
 use std::sync::Arc;
 
-// How many frames may wait below the newest one.
-const FRAMES: usize = 255;
-
 /// One thread: what it did so far, and where it is.
 ///
 /// It keeps its entries, with room for as many as it may make, and shares the program with the flat code that it runs.
@@ -36,7 +32,7 @@ pub struct Strand {
     birth: Option<Birth>,
     stage: Stage,
     wanted: Option<Request>,
-    // entry and back-edge places since the last entry, or the tick that is asked for; of no account once the thread stops
+    // entry and back-edge places since the last entry, the one of a tick that is asked for among them
     passed: u32,
     machine: Machine,
     entries: Vec<Entry>,
@@ -48,7 +44,7 @@ impl Model for Strand {
     ghost use Rattle.std.specs.Coded.{codes};
     ghost use Rattle.loom_tree.specs.Code.{source_code};
     ghost use Rattle.loom_strand.specs.Strand.{Strand};
-    ghost use Rattle.loom_strand.specs.Kept.{IsKept};
+    ghost use Rattle.loom_strand.specs.StrandInvariant.{IsKept};
 
     ghost Value = { Strand };
 
@@ -61,7 +57,7 @@ impl Model for Strand {
       birth = s.birth;
       entries = s.entries.items;
       wanted = s.wanted;
-      inside = record { stage = s.stage; passed = s.passed; held = s.machine };
+      inside = record { stage = s.stage; passed = s.passed; machine = s.machine };
     } };
 
     ghost invariant = { λ s. IsKept (record {
@@ -71,20 +67,17 @@ impl Model for Strand {
       birth = s.birth;
       entries = s.entries.items;
       wanted = s.wanted;
-      inside = record { stage = s.stage; passed = s.passed; held = s.machine };
+      inside = record { stage = s.stage; passed = s.passed; machine = s.machine };
     }) };
 }
 
 // The line of a function.
-#[tactic(auto, using(crate::proofs::Entrances::entrance_place, crate::proofs::Entrances::entrance_line, crate::proofs::Entrances::no_line))]
 fn line_of(flow: &Flow, func: u8) -> u32
+    requires { func < length flow.now.entrances }
     ensures line { result ≡ line_of_function (slice_get flow.now.program.funcs func) }
     ensures lowered { IsLowered flow.now }
 {
-    match entrance_of(flow, func) {
-        Some(entrance) => flow.place_line(entrance.place),
-        None => 0,
-    }
+    flow.place_line(flow.entrances()[func as usize].place)
 }
 
 impl Strand {
@@ -94,7 +87,7 @@ impl Strand {
         ensures { IfOk result (λ s. IsNew flow.now.program thread limit s) }
     {
         let program = flow.share()?;
-        let machine = Machine::make(alloc, flow.most_values() + 1, FRAMES)?;
+        let machine = Machine::make(alloc, flow.most_values() + 1)?;
         let entries = Vec::with_capacity(alloc, limit as usize)?;
         Ok(Strand {
             program,
@@ -149,21 +142,21 @@ impl Strand {
         let Some(birth) = self.birth else {
             return;
         };
-        let line = line_of(flow, birth.func);
         match self.stage {
-            Stage::Waits => self.wanted = Some(Request::Begin { line }),
-            Stage::Runs => match run(&mut self.machine, &mut self.passed, flow) {
-                Stop::Asks(request) => self.wanted = Some(request),
-                Stop::Ticks(place) => {
-                    let line = flow.place_line(place);
-                    self.wanted = Some(Request::Tick { line, place });
-                }
-                Stop::Ends => {
-                    self.stage = Stage::Stops;
-                    self.wanted = Some(Request::End { line });
-                }
-            },
-            Stage::Stops => self.wanted = Some(Request::End { line }),
+            Stage::Waits => {
+                let line = line_of(flow, birth.func);
+                self.wanted = Some(Request::Begin { line });
+            }
+            Stage::Runs => {
+                let request = match run(&mut self.machine, &mut self.passed, flow) {
+                    Stop::Asks(request) => request,
+                    Stop::Ticks(line, place) => Request::Tick { line, place },
+                    Stop::Ends => Request::End {
+                        line: line_of(flow, birth.func),
+                    },
+                };
+                self.wanted = Some(request);
+            }
             Stage::Over => {}
         }
     }
@@ -174,16 +167,12 @@ impl Strand {
         requires answers { IsAnswer self.old.thread self.old.wanted e }
         requires room { length self.old.entries < self.old.limit }
         ensures same { IsSame self.old self.old.birth (self.old.entries ++ e ∷ []) self.new }
-        ensures part { HasPart self.new self.new.birth }
+        ensures part { HasOwnPart self.new self.new.birth }
     {
-        let reply = reply_of(self.birth, self.wanted, &e);
-        let (stage, passed) = follow(
-            &mut self.machine,
-            flow.entrances(),
-            flow.code(),
-            reply,
-            self.passed,
-        );
+        let Some(birth) = self.birth else {
+            unreachable!();
+        };
+        let (stage, passed) = follow(&mut self.machine, flow, birth, answer_of(&e));
         self.stage = stage;
         self.passed = passed;
         self.wanted = None;

@@ -1,33 +1,39 @@
-//! What comes of an instruction.
+//! What comes of a step.
 
 use loom_trace::request::Request;
 
-/// Which entry or back-edge place an instruction passes.
+/// A mark that a thread passes: an edge of a statement or of a frame, or a loop's back edge.
 #[derive(Clone, Copy, Debug, Drop)]
 pub(crate) enum Mark {
-    Silent,
-    /// The entry place of the function of this number.
-    Entry(u8),
+    /// A statement begins.
+    Begins,
+    /// A statement is complete.
+    Done,
     /// The back edge of this place.
     Edge(u16),
+    /// A frame begins, at this entry place.
+    Enter(u16),
+    /// A frame has ended.
+    Out,
 }
 
+/// What comes of a step of the machine.
 #[derive(Clone, Copy, Debug, Drop)]
 pub(crate) enum Turn {
-    Went(Mark),
-    /// It asks for something, and the machine stays where it is.
-    Asks,
+    /// It goes on, past a mark or past none.
+    Goes(Option<Mark>),
+    /// It asks for this, and stays where it is.
+    Asks(Request),
+    /// The thread is to end.
     Ends,
-    /// There is no instruction.
-    Nothing,
 }
 
 /// What a private run comes to.
 #[derive(Clone, Copy, Debug, Drop)]
 pub(crate) enum Stop {
     Asks(Request),
-    /// This entry or back-edge place is the thousandth since the last entry.
-    Ticks(u16),
-    /// The last frame ended.
+    /// A tick of this line, at this place: the thousandth entry or back-edge place since the last entry.
+    Ticks(u32, u16),
+    /// The thread is to end.
     Ends,
 }

@@ -1,6 +1,6 @@
 //! The values of a thread.
 ghost use Rattle.std.specs.Prelude.{◌≡◌, ◌<◌, ◌≤◌, [], ◌∷◌, IfOk, length, take, drop, reverse};
-ghost use Rattle.loom_flow.specs.Flat.{top};
+ghost use Rattle.loom_flow.specs.State.{top};
 
 use loom_trace::row::Args;
 use loom_tree::name::NoMemory;
@@ -16,9 +16,11 @@ pub(crate) struct Values {
 
 impl Model for Values {
     ghost use Rattle.std.specs.Prelude.{reverse, vec_capacity};
-    ghost use Rattle.loom_strand.specs.Held.{ValueStack};
+    ghost use Rattle.loom_strand.specs.Stack.{Stack};
 
-    ghost Value = { ValueStack };
+    ghost use Rattle.std.specs.Prelude.{ℤ};
+
+    ghost Value = { Stack ℤ };
 
     ghost view = { λ s. record { items = reverse s.items.items; most = vec_capacity s.items } };
 }

@@ -1,6 +1,6 @@
 use Rattle.std.proofs.Common.{◌≡◌, ◌∙◌, ap, pos, get_or, slice_set, to_z, of_z, w64, arith, rules}
 use Rattle.std.proofs.lemmas.Int.{to_z-of_z}
-use Rattle.loom_flow.specs.Flat.{filled}
+use Rattle.loom_flow.specs.State.{filled}
 use Rattle.loom_strand.proofs.Locals.{filled_next, filled_all}
 use Rattle.loom_strand.proofs.machine.first_locals.Goals as goal
 

@@ -1,5 +1,5 @@
 use Rattle.std.proofs.Common.{◌≡◌, take}
-use Rattle.loom_flow.specs.Flat.{filled}
+use Rattle.loom_flow.specs.State.{filled}
 use Rattle.loom_strand.proofs.machine.first_locals.Given as goal
 
 abbrev pub invariant-given : goal.invariant-given

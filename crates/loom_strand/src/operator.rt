@@ -1,7 +1,7 @@
 //! The values of operators, and the cells of arrays.
 ghost use Rattle.std.specs.Prelude.{◌≡◌, Some, None};
 ghost use Rattle.loom_lang.specs.Values.{truth, inverted, applied};
-ghost use Rattle.loom_strand.specs.Turned.{worked, cell_at};
+ghost use Rattle.loom_strand.specs.Operator.{operator_value, cell_at};
 
 use loom_flow::code::Array;
 use loom_tree::expression::Op;
@@ -20,8 +20,8 @@ pub(crate) fn inverted(v: i64) -> i64
 }
 
 /// The value of an operator; none where a divisor is 0.
-pub(crate) fn worked(op: Op, a: i64, b: i64) -> Option<i64>
-    ensures { result ≡ worked op a b }
+pub(crate) fn operator_value(op: Op, a: i64, b: i64) -> Option<i64>
+    ensures { result ≡ operator_value op a b }
 {
     match op {
         Op::Or => Some(truth(a != 0 || b != 0)),

@@ -1,0 +1,31 @@
+-- The life of a thread, by its entries and its requests.
+use Rattle.std.specs.Prelude.{Bool, true, false, List, [], ◌∷◌}
+use Rattle.loom_trace.specs.declared.entry.Entry.{Entry}
+use Rattle.loom_trace.specs.declared.entry.Entry.TheVariants as e
+use Rattle.loom_trace.specs.declared.request.Request.{Request}
+use Rattle.loom_trace.specs.declared.request.Request.TheVariants as r
+use Rattle.loom_law.specs.Walk.{Version}
+use Rattle.loom_strand.specs.PlainWalk.{first_version}
+
+abbrev pub asks_begin : Request → Bool
+asks_begin (r.Begin l) = true
+asks_begin _ = false
+
+abbrev pub has_none : List Entry → Bool
+has_none [] = true
+has_none (x ∷ xs) = false
+
+abbrev pub is_end : Entry → Bool
+is_end (e.End t l) = true
+is_end _ = false
+
+-- the last entry is `End`
+abbrev pub has_ended : List Entry → Bool
+has_ended [] = false
+has_ended (x ∷ []) = is_end x
+has_ended (x ∷ y ∷ xs) = has_ended (y ∷ xs)
+
+-- the versions that a thread with these entries has taken: with its begin the first one
+abbrev pub versions_with : List Entry → List Version
+versions_with [] = []
+versions_with (x ∷ xs) = first_version ∷ []

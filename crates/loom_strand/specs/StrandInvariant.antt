@@ -1,0 +1,139 @@
+-- What a thread keeps between its calls.
+use Rattle.std.specs.Prelude.{ℕ, suc, ◌≡◌, ◌≤◌, ◌<◌, ◌⊎◌, true, false, List, [], ◌∷◌, ◌++◌, length, ℤ, Option, Some, None, slice_get}
+use Rattle.loom_tree.specs.Tree.{Source}
+use Rattle.loom_lang.specs.Rules.{KeepsRules}
+use Rattle.loom_lang.specs.Places.{line_of_function}
+use Rattle.loom_lang.specs.Trace.{Item, Outcome, Finished, Thread, IsTrace, ended}
+use Rattle.loom_flow.specs.Flat.{Flat, resume}
+use Rattle.loom_flow.specs.State.{Frame, State}
+use Rattle.loom_flow.specs.Position.{Position, before, leaves, over}
+use Rattle.loom_flow.specs.Progress.{progress}
+use Rattle.loom_flow.specs.FlatTrace.{runs, IsFlatTrace}
+use Rattle.loom_flow.specs.FlatCode.{lowered}
+use Rattle.loom_flow.specs.Depth.{depth_before}
+use Rattle.loom_trace.specs.declared.entry.Entry.{Entry}
+use Rattle.loom_trace.specs.declared.request.Request.{Request}
+use Rattle.loom_trace.specs.declared.request.Request.TheVariants as r
+use Rattle.loom_event.specs.Answer.{IsFunctionWith}
+use Rattle.loom_law.specs.Walk.{tick_after, tick, Step, items, Owed}
+use Rattle.loom_strand.specs.declared.stage.Birth.{Birth}
+use Rattle.loom_strand.specs.declared.stage.Stage.{Stage}
+use Rattle.loom_strand.specs.declared.stage.Stage.TheVariants as stage
+use Rattle.loom_strand.specs.declared.machine.Phase.TheVariants as phase
+use Rattle.loom_strand.specs.Machine.{Machine, position, blank, frames_below}
+use Rattle.loom_strand.specs.Question.{request_at}
+use Rattle.loom_strand.specs.PlainWalk.{IsPlainWalk}
+use Rattle.loom_strand.specs.Entries.{has_none, has_ended}
+use Rattle.loom_strand.specs.Strand.{Strand}
+
+-- The machine
+
+-- A frame that waits goes on inside the code, with the one value that it waits for.
+pub record GoesOnIn (c : Flat) (f : Frame) : Type 0 where
+  pub site : f.site < length c.sites
+  pub inside : resume (slice_get c.sites f.site) < length c.code
+  pub values : depth_before c (resume (slice_get c.sites f.site)) ≡ Some 1
+
+abbrev pub AllGoOn : Flat → List Frame → Type 0
+AllGoOn c [] = Unit {0}
+AllGoOn c (f ∷ fs) = GoesOnIn c f × AllGoOn c fs
+
+pub record HasFrames (c : Flat) (z : State) : Type 0 where
+  pub few : length z.below ≤ frames_below
+  pub go_on : AllGoOn c z.below
+
+-- Before an instruction of the code as many values wait as are foreseen there.
+pub record IsBefore (c : Flat) (z : State) : Type 0 where
+  pub inside : z.at < length c.code
+  pub values : depth_before c z.at ≡ Some (length z.values)
+  pub frames : HasFrames c z
+
+-- Where a frame is to end no value waits.
+pub record IsLeaving (c : Flat) (z : State) : Type 0 where
+  pub values : length z.values ≡ 0
+  pub frames : HasFrames c z
+
+abbrev pub IsSound : Flat → Position → Type 0
+IsSound c (before z) = IsBefore c z
+IsSound c (leaves z v) = IsLeaving c z
+IsSound c over = Unit {0}
+
+-- There is room for one value more than any instruction finds.
+pub record HasRoom (c : Flat) (m : Machine) : Type 0 where
+  pub values : (at d : ℕ) → at < length c.code → depth_before c at ≡ Some d → d < m.most_values
+  pub some : 0 < m.most_values
+  pub frames : m.most_frames ≡ frames_below
+
+-- Items and entries
+
+-- What the flat code may give from a position on goes on these items.
+abbrev pub GoesOnFrom : Flat → Thread → ℕ → List ℤ → List Item → Position → Type 0
+GoesOnFrom c t f vs so_far z = (es : List Item) (q : Outcome) (n : ℕ) → runs c t n z es q → IsFlatTrace c f vs (so_far ++ es) q
+
+abbrev pub end_line : Source → ℕ → ℕ
+end_line p f = line_of_function (slice_get p.funcs f)
+
+abbrev pub thread_with : Source → ℕ → Thread
+thread_with p f = record { program = p; stopped = ended (end_line p f) }
+
+-- What is asked for
+
+-- nothing yet: nothing is owed, and no place more was passed than goes without a tick
+abbrev pub IsIdle : Option Request → Owed → ℕ → Type 0
+IsIdle wanted os n = (wanted ≡ None) × ((os ≡ []) × (n < tick_after))
+
+-- the tick that is owed
+abbrev pub AsksTick : Option Request → Owed → Type 0
+AsksTick wanted os = (line : ℕ) × ((place : ℕ) × ((wanted ≡ Some (r.Tick line place)) × (os ≡ (line, tick place) ∷ [])))
+
+-- what comes of the position
+abbrev pub AsksHere : Flat → ℕ → Position → Option Request → Owed → Type 0
+AsksHere c line z wanted os = (q : Request) × ((wanted ≡ Some q) × ((request_at line (progress c z) ≡ Some q) × (os ≡ [])))
+
+-- Stages
+
+-- only its begin, or nothing yet
+abbrev pub AsksBegin : ℕ → Option Request → Type 0
+AsksBegin line wanted = (wanted ≡ None) ⊎ (wanted ≡ Some (r.Begin line))
+
+pub record IsWaiting (p : Source) (b : Birth) (es : List Entry) (wanted : Option Request) : Type 0 where
+  pub none : es ≡ []
+  pub function : IsFunctionWith p b.func b.args
+  pub asks : AsksBegin (end_line p b.func) wanted
+
+pub record IsRunning (p : Source) (t : ℕ) (b : Birth) (es : List Entry) (wanted : Option Request) (n : ℕ) (z : Position) : Type 0 where
+  pub steps : List Step
+  pub owed : Owed
+  pub walk : IsPlainWalk p t steps es owed n
+  pub goes : GoesOnFrom (lowered p) (thread_with p b.func) b.func b.args (items steps) z
+  pub sound : IsSound (lowered p) z
+  pub asks : IsIdle wanted owed n ⊎ (AsksTick wanted owed ⊎ AsksHere (lowered p) (end_line p b.func) z wanted owed)
+  pub begun : has_none es ≡ false
+  pub lives : has_ended es ≡ false
+
+pub record HasStopped (p : Source) (t : ℕ) (b : Birth) (es : List Entry) (wanted : Option Request) : Type 0 where
+  pub steps : List Step
+  pub owed : Owed
+  pub passed : ℕ
+  pub walk : IsPlainWalk p t steps es owed passed
+  pub whole : IsTrace p b.func b.args (items steps) Finished
+  pub ended : has_ended es ≡ true
+  pub asks : wanted ≡ None
+
+abbrev pub IsAt : Stage → Strand → Option Birth → Type 0
+IsAt stage.Waits s None = (s.entries ≡ []) × (s.wanted ≡ None)
+IsAt stage.Waits s (Some b) = IsWaiting s.program b s.entries s.wanted
+IsAt stage.Runs s (Some b) = IsRunning s.program s.thread b s.entries s.wanted s.inside.passed (position s.inside.machine)
+IsAt stage.Over s (Some b) = HasStopped s.program s.thread b s.entries s.wanted
+IsAt _ s None = ⊥
+
+-- The machine of a thread that hasn't begun is as it was made.
+abbrev pub IsBlank : Stage → Machine → Type 0
+IsBlank stage.Waits m = (m.state ≡ blank) × (m.phase ≡ phase.Before)
+IsBlank _ m = Unit {0}
+
+pub record IsKept (s : Strand) : Type 0 where
+  pub lawful : KeepsRules s.program
+  pub room : HasRoom (lowered s.program) s.inside.machine
+  pub blank : IsBlank s.inside.stage s.inside.machine
+  pub stage : IsAt s.inside.stage s s.birth

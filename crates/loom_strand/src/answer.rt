@@ -1,0 +1,86 @@
+//! What an answer does to a thread.
+ghost use Rattle.std.specs.Prelude.{◌≡◌, ◌<◌, length};
+ghost use Rattle.loom_flow.specs.Progress.{progress};
+ghost use Rattle.loom_strand.specs.Machine.{position, TakesAnswer};
+ghost use Rattle.loom_strand.specs.Answer.{answer_of, IsAsking, CanFollow, Follows};
+
+use crate::ask::take;
+use crate::machine::Machine;
+use crate::stage::{Birth, Stage};
+use loom_flow::code::Step;
+use loom_flow::flow::Flow;
+use loom_trace::entry::Entry;
+
+/// What an answer does to a thread.
+#[derive(Clone, Copy, Debug, Drop)]
+pub(crate) enum Answer {
+    /// The thread begins.
+    Begins,
+    /// It goes on behind its tick.
+    Ticks,
+    /// Its instruction takes this value; of no account where it gives none.
+    Gives(i64),
+    /// It goes to its end.
+    Traps,
+    /// It has ended.
+    Ends,
+}
+
+/// What the entry does to the thread that made it.
+pub(crate) fn answer_of(e: &Entry) -> Answer
+    ensures { result ≡ answer_of e.now }
+{
+    if let Entry::Begin { .. } = e {
+        Answer::Begins
+    } else if let Entry::End { .. } = e {
+        Answer::Ends
+    } else if let Entry::Trap { .. } = e {
+        Answer::Traps
+    } else if let Entry::Tick { .. } = e {
+        Answer::Ticks
+    } else if let Entry::Read { value, .. } = e {
+        Answer::Gives(*value)
+    } else if let Entry::Spawn { child, .. } = e {
+        Answer::Gives(*child as i64)
+    } else {
+        Answer::Gives(0)
+    }
+}
+
+// The instruction that asks takes the answer.
+fn give(machine: &mut Machine, flow: &Flow, v: i64)
+    requires asks { IsAsking (progress flow.now (position machine.old)) }
+    requires room { length machine.old.state.values < machine.old.most_values }
+    ensures { TakesAnswer machine.old machine.new v (progress flow.now (position machine.old)) }
+{
+    match flow.code()[machine.at()].step {
+        Step::Compute(_) => unreachable!(),
+        Step::Ask(ask) => take(machine, ask, v),
+        Step::Control(_) => unreachable!(),
+    }
+}
+
+/// What an answer leaves: how far the thread is, and how many entry and back-edge places it passed since its last entry. Behind its begin it
+/// is in its first frame.
+pub(crate) fn follow(machine: &mut Machine, flow: &Flow, birth: Birth, answer: Answer) -> (Stage, u32)
+    requires { CanFollow flow.now machine.old birth answer }
+    ensures { Follows flow.now machine.old machine.new birth answer result.0 result.1 }
+{
+    match answer {
+        Answer::Begins => {
+            let entrance = flow.entrances()[birth.func as usize];
+            machine.begin(birth.func, entrance, birth.args);
+            (Stage::Runs, 1)
+        }
+        Answer::Ticks => (Stage::Runs, 0),
+        Answer::Gives(value) => {
+            give(machine, flow, value);
+            (Stage::Runs, 0)
+        }
+        Answer::Traps => {
+            machine.stop();
+            (Stage::Runs, 0)
+        }
+        Answer::Ends => (Stage::Over, 0),
+    }
+}

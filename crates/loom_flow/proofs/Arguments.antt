@@ -7,8 +7,9 @@ use Rattle.loom_tree.specs.Tree.{Expression, Source}
 use Rattle.loom_lang.specs.Trace.{Lists, Thread, Locals, expression, arguments}
 use Rattle.loom_flow.specs.declared.code.Target.TheVariants as target
 use Rattle.loom_flow.specs.declared.code.Step.{Step}
-use Rattle.loom_flow.specs.Flat.{Flat, State, given, jumped, named}
-use Rattle.loom_flow.specs.Lowered.{steps_to, argument_steps}
+use Rattle.loom_flow.specs.Flat.{Flat}
+use Rattle.loom_flow.specs.State.{State, given, jumped, named}
+use Rattle.loom_flow.specs.FlatCode.{steps_to, argument_steps}
 use Rattle.loom_flow.proofs.Straight.{straight, straight_append, skip, skip_append}
 use Rattle.loom_flow.proofs.Expressions.{IsKnown, steps_are}
 

@@ -5,12 +5,13 @@ use Rattle.loom_tree.specs.declared.statement.Kind.{Kind}
 use Rattle.loom_tree.specs.declared.statement.Kind.TheVariants as k
 use Rattle.loom_tree.specs.Tree.{Expression, Simple, let_, set, set_cell, return, lock, unlock, down, up, join, print, skip, Body, end, simple, if_, while_, Source, behind, body_of, expression_of, expressions_of, right_of, returned_of}
 use Rattle.loom_lang.specs.Places.{body_places}
-use Rattle.loom_flow.specs.Counted.{takes_body}
+use Rattle.loom_flow.specs.Arguments.{takes_body}
 use Rattle.loom_flow.proofs.Counts.{takes_behind}
 use Rattle.loom_flow.specs.declared.code.Instr.{Instr}
 use Rattle.loom_flow.specs.declared.code.Site.{Site}
 use Rattle.loom_flow.specs.declared.code.Step.TheVariants as s
-use Rattle.loom_flow.specs.Lowered.{operand_of, operand_steps, simple_steps, instr, instrs, site, size, place_count, body_code, body_sites}
+use Rattle.loom_flow.specs.declared.code.Control.TheVariants.{Begin, Done, Edge, Jump, JumpIfZero}
+use Rattle.loom_flow.specs.FlatCode.{operand_of, operand_steps, simple_steps, instr, instrs, site, size, place_count, body_code, body_sites}
 use Rattle.loom_flow.proofs.Truths.{first_of, second_of}
 use Rattle.loom_flow.proofs.Sizes.{code_length, sites_length}
 
@@ -60,13 +61,13 @@ if_splits p names l e a b rest = record {
       let first : ℕ = at + (2 + length (operand_steps p names e)) in
       let second : ℕ = first + (1 + size p names a) in
       let done : ℕ = second + size p names b in
-      let test : List Instr = instrs l place (s.Begin ∷ (operand_steps p names e ++ s.JumpIfZero (operand_of names e) second ∷ [])) in
+      let test : List Instr = instrs l place (s.Control Begin ∷ (operand_steps p names e ++ s.Control (JumpIfZero (operand_of names e) second) ∷ [])) in
       let cs : List Instr = body_code p names first (suc place) a in
       let bs : List Instr = body_code p names second (suc place + place_count a) b in
       let many = if_count l e a b end in
       let places : suc place + place_count a + place_count b ≡ place + place_count (if_ l e a b end) = omega arith in
-      ap (λ z. test ++ (cs ++ instr l place (s.Jump done) ∷ (bs ++ instr l place s.Done ∷ z))) (moved_code p names rest (suc done) (at + size p names (if_ l e a b end)) _ _ (omega arith) places)
-      ∙ choice_split test cs bs (body_code p names (at + size p names (if_ l e a b end)) (place + place_count (if_ l e a b end)) rest) (instr l place (s.Jump done)) (instr l place s.Done);
+      ap (λ z. test ++ (cs ++ instr l place (s.Control (Jump done)) ∷ (bs ++ instr l place (s.Control Done) ∷ z))) (moved_code p names rest (suc done) (at + size p names (if_ l e a b end)) _ _ (omega arith) places)
+      ∙ choice_split test cs bs (body_code p names (at + size p names (if_ l e a b end)) (place + place_count (if_ l e a b end)) rest) (instr l place (s.Control (Jump done))) (instr l place (s.Control Done));
   sites = λ at.
       let first : ℕ = at + (2 + length (operand_steps p names e)) in
       let second : ℕ = first + (1 + size p names a) in
@@ -84,12 +85,12 @@ while_splits p names l e a rest = record {
       let head : ℕ = at + 1 in
       let first : ℕ = head + (1 + length (operand_steps p names e)) in
       let done : ℕ = first + (1 + size p names a) in
-      let test : List Instr = instrs l place (s.Begin ∷ (operand_steps p names e ++ s.JumpIfZero (operand_of names e) done ∷ [])) in
+      let test : List Instr = instrs l place (s.Control Begin ∷ (operand_steps p names e ++ s.Control (JumpIfZero (operand_of names e) done) ∷ [])) in
       let cs : List Instr = body_code p names first (suc (suc place)) a in
       let many = while_count l e a end in
       let places : suc (suc place) + place_count a ≡ place + place_count (while_ l e a end) = omega arith in
-      ap (λ z. test ++ (cs ++ instr l (suc place) (s.Edge head) ∷ instr l place s.Done ∷ z)) (moved_code p names rest (suc done) (at + size p names (while_ l e a end)) _ _ (omega arith) places)
-      ∙ loop_split test cs (body_code p names (at + size p names (while_ l e a end)) (place + place_count (while_ l e a end)) rest) (instr l (suc place) (s.Edge head)) (instr l place s.Done);
+      ap (λ z. test ++ (cs ++ instr l (suc place) (s.Control (Edge head)) ∷ instr l place (s.Control Done) ∷ z)) (moved_code p names rest (suc done) (at + size p names (while_ l e a end)) _ _ (omega arith) places)
+      ∙ loop_split test cs (body_code p names (at + size p names (while_ l e a end)) (place + place_count (while_ l e a end)) rest) (instr l (suc place) (s.Control (Edge head))) (instr l place (s.Control Done));
   sites = λ at.
       let first : ℕ = at + (2 + length (operand_steps p names e)) in
       let done : ℕ = first + (1 + size p names a) in

@@ -12,7 +12,7 @@ use Rattle.loom_tree.specs.declared.statement.Kind.{Kind}
 use Rattle.loom_tree.specs.declared.statement.Kind.TheVariants as k
 use Rattle.loom_tree.specs.Tree.{Function, Source, Body, end, behind}
 use Rattle.loom_flow.specs.Laws.{HasCalls}
-use Rattle.loom_flow.specs.Lowered.{lowered, or_zero, calls_body, set_of}
+use Rattle.loom_flow.specs.FlatCode.{lowered, or_zero, calls_body, set_of}
 
 -- one number more in a set
 bit_tells : (bits n g : ℕ) → bit_at (bit_or bits (2 ^ n)) g ≡ 1 → (bit_at bits g ≡ 1) ⊎ (n ≡ g)

@@ -5,7 +5,7 @@ use Rattle.loom_tree.specs.declared.statement.Kind.TheVariants as k
 use Rattle.loom_tree.specs.Tree.{Expression, Right, Simple, let_, set, set_cell, return, Body, end, simple, if_, while_, Function, Source, behind, body_of, right_of, expressions_of}
 use Rattle.loom_tree.specs.Tree as tree
 use Rattle.loom_lang.specs.Rules.{locals_of, FunctionKeepsRules, is_function, takes, knows, knows_call, knows_right, knows_simple, knows_body, counts_call, counts_right, counts_simple, counts_body}
-use Rattle.loom_flow.specs.Counted.{takes_right, takes_simple, takes_body}
+use Rattle.loom_flow.specs.Arguments.{takes_right, takes_simple, takes_body}
 use Rattle.loom_flow.proofs.Truths.{both}
 
 all : (a b : Bool) → a ≡ true → b ≡ true → (a && b) ≡ true

@@ -3,22 +3,23 @@ use Rattle.std.proofs.Common.{ℕ, suc, zero, ◌+◌, ◌-◌, ◌≡◌, ◌�
 use Rattle.std.proofs.lemmas.Option.{slice_get_within}
 use Rattle.loom_tree.specs.Tree.{Expression, Right, Simple, let_, set, Body, end, simple, if_, while_, Function, Source}
 use Rattle.loom_lang.specs.Rules.{locals_of, KeepsRules, FunctionsKeepRules}
-use Rattle.loom_flow.specs.Counted.{takes_simple, takes_body}
+use Rattle.loom_flow.specs.Arguments.{takes_simple, takes_body}
 use Rattle.loom_flow.proofs.Counts.{body_takes}
 use Rattle.loom_flow.specs.declared.code.Step.{Step}
 use Rattle.loom_flow.specs.declared.code.Step.TheVariants as s
+use Rattle.loom_flow.specs.declared.code.Control.TheVariants.{Begin, Done, Edge, Jump, JumpIfZero, Call, Return, Out}
 use Rattle.loom_flow.specs.declared.code.Instr.{Instr}
 use Rattle.loom_flow.specs.declared.code.Entrance.{Entrance}
 use Rattle.loom_flow.specs.Flat.{Flat}
-use Rattle.loom_flow.specs.Lowered.{operand_of, operand_steps, simple_steps, instr, instrs, size, place_count, body_code, functions_code, entrances, lowered}
+use Rattle.loom_flow.specs.FlatCode.{operand_of, operand_steps, simple_steps, instr, instrs, size, place_count, body_code, functions_code, entrances, lowered}
 use Rattle.loom_flow.specs.Depth.{taken, takes_off, puts_on, depth_after, depth_before, nodes, IsSmallBody, AreSmallFunctions, IsSmall}
 use Rattle.loom_flow.specs.Laws.{KeepsDepth, HasOperands}
-use Rattle.loom_flow.proofs.Lying.{Lies, lies_first, lies_second, lies_whole}
+use Rattle.loom_flow.proofs.Sublist.{Lies, lies_first, lies_second, lies_whole}
 use Rattle.loom_flow.proofs.Each.{AllOf, all_append, Each, each_append, each_at, same_element}
 use Rattle.loom_flow.proofs.Plain.{is_plain, CallsRight, CallsSimple, operand_all, simple_all}
 use Rattle.loom_flow.proofs.Sizes.{instrs_length, code_length}
-use Rattle.loom_flow.proofs.Meeting.{condition_length}
-use Rattle.loom_flow.proofs.Balanced.{Fits, fits_takes, Balanced, condition_balanced, simple_balanced}
+use Rattle.loom_flow.proofs.BodyTraces.{condition_length}
+use Rattle.loom_flow.proofs.Balance.{Fits, fits_takes, Balanced, condition_balanced, simple_balanced}
 use Rattle.loom_flow.proofs.Truths.{both}
 
 -- From an instruction to the next
@@ -56,15 +57,15 @@ depth_over c l k at m d e (x ∷ xs) h b lies =
 
 -- where a jump or a back edge leads
 abbrev Elsewhere : Flat → Step → Type 0
-Elsewhere c (s.Edge to) = depth_before c to ≡ Some 0
-Elsewhere c (s.Jump to) = depth_before c to ≡ Some 0
-Elsewhere c (s.JumpIfZero a to) = depth_before c to ≡ Some 0
+Elsewhere c (s.Control (Edge to)) = depth_before c to ≡ Some 0
+Elsewhere c (s.Control (Jump to)) = depth_before c to ≡ Some 0
+Elsewhere c (s.Control (JumpIfZero a to)) = depth_before c to ≡ Some 0
 Elsewhere c _ = Unit {0}
 
 plain_elsewhere : (c : Flat) (x : Step) → is_plain x ≡ true → Elsewhere c x
-plain_elsewhere c (s.Edge to) h = cc
-plain_elsewhere c (s.Jump to) h = cc
-plain_elsewhere c (s.JumpIfZero a to) h = cc
+plain_elsewhere c (s.Control (Edge to)) h = cc
+plain_elsewhere c (s.Control (Jump to)) h = cc
+plain_elsewhere c (s.Control (JumpIfZero a to)) h = cc
 plain_elsewhere c _ h = tt
 
 right_elsewhere : (c : Flat) (r : Right Expression) → CallsRight (Elsewhere c) c.program r
@@ -81,14 +82,14 @@ abbrev Keeps : Flat → ℕ → ℕ → Instr → Type 0
 Keeps c m at i = (d : ℕ) × (depth_before c at ≡ Some d) × (d ≤ m) × KeepsDepth c at d i.step
 
 step_keeps : (c : Flat) (l k at d : ℕ) (x : Step) → slice_get c.code at ≡ Some (instr l k x) → depth_before c at ≡ Some d → Fits d x → Elsewhere c x → KeepsDepth c at d x
-step_keeps c l k at d (s.Jump to) h e fits other = (fits, other)
-step_keeps c l k at d (s.JumpIfZero a to) h e fits other =
-    (fits, depth_next c at (instr l k (s.JumpIfZero a to)) d h e (omega (arith, fits)) ∙ ap {B = Option ℕ} Some (let f : d - taken a + 0 ≡ 0 = omega (arith, fits) in f), other)
-step_keeps c l k at d (s.Edge to) h e fits other = (fits, other)
-step_keeps c l k at d (s.Call f n) h e fits other =
-    (fits, depth_next c at (instr l k (s.Call f n)) d h e (omega (arith, fits)) ∙ ap {B = Option ℕ} Some (let g : d - n + 1 ≡ 1 = omega (arith, fits) in g))
-step_keeps c l k at d (s.Return a) h e fits other = fits
-step_keeps c l k at d s.Out h e fits other = fits
+step_keeps c l k at d (s.Control (Jump to)) h e fits other = (fits, other)
+step_keeps c l k at d (s.Control (JumpIfZero a to)) h e fits other =
+    (fits, depth_next c at (instr l k (s.Control (JumpIfZero a to))) d h e (omega (arith, fits)) ∙ ap {B = Option ℕ} Some (let f : d - taken a + 0 ≡ 0 = omega (arith, fits) in f), other)
+step_keeps c l k at d (s.Control (Edge to)) h e fits other = (fits, other)
+step_keeps c l k at d (s.Control (Call f n)) h e fits other =
+    (fits, depth_next c at (instr l k (s.Control (Call f n))) d h e (omega (arith, fits)) ∙ ap {B = Option ℕ} Some (let g : d - n + 1 ≡ 1 = omega (arith, fits) in g))
+step_keeps c l k at d (s.Control (Return a)) h e fits other = fits
+step_keeps c l k at d (s.Control Out) h e fits other = fits
 step_keeps c l k at d x h e fits other = (fits, depth_next c at (instr l k x) d h e fits)
 
 steps_keep : (c : Flat) (l k at m d e : ℕ) (xs : List Step) → depth_before c at ≡ Some d → Balanced m d xs e → Lies c.code at (instrs l k xs) → AllOf (Elsewhere c) xs → Each (Keeps c m) at (instrs l k xs)
@@ -100,19 +101,19 @@ steps_keep c l k at m d e (x ∷ xs) h b lies other = (
 
 -- a statement's beginning and its condition
 condition_keeps : (c : Flat) (l k at m to : ℕ) (xs : List (List ℕ)) (e : Expression) → nodes e ≤ m → depth_before c at ≡ Some 0 → depth_before c to ≡ Some 0
-    → Lies c.code at (instrs l k (s.Begin ∷ (operand_steps c.program xs e ++ s.JumpIfZero (operand_of xs e) to ∷ [])))
-    → Each (Keeps c m) at (instrs l k (s.Begin ∷ (operand_steps c.program xs e ++ s.JumpIfZero (operand_of xs e) to ∷ [])))
+    → Lies c.code at (instrs l k (s.Control Begin ∷ (operand_steps c.program xs e ++ s.Control (JumpIfZero (operand_of xs e) to) ∷ [])))
+    → Each (Keeps c m) at (instrs l k (s.Control Begin ∷ (operand_steps c.program xs e ++ s.Control (JumpIfZero (operand_of xs e) to) ∷ [])))
 condition_keeps c l k at m to xs e small h there lies =
-    steps_keep c l k at m 0 0 (s.Begin ∷ (operand_steps c.program xs e ++ s.JumpIfZero (operand_of xs e) to ∷ [])) h (condition_balanced c.program xs m to e small) lies
+    steps_keep c l k at m 0 0 (s.Control Begin ∷ (operand_steps c.program xs e ++ s.Control (JumpIfZero (operand_of xs e) to) ∷ [])) h (condition_balanced c.program xs m to e small) lies
     (tt, all_append (Elsewhere c) (operand_steps c.program xs e) _ (operand_all (Elsewhere c) (plain_elsewhere c) c.program xs e) (there, tt))
 
 condition_depth : (c : Flat) (l k at m to : ℕ) (xs : List (List ℕ)) (e : Expression) → nodes e ≤ m → depth_before c at ≡ Some 0
-    → Lies c.code at (instrs l k (s.Begin ∷ (operand_steps c.program xs e ++ s.JumpIfZero (operand_of xs e) to ∷ [])))
+    → Lies c.code at (instrs l k (s.Control Begin ∷ (operand_steps c.program xs e ++ s.Control (JumpIfZero (operand_of xs e) to) ∷ [])))
     → depth_before c (at + (2 + length (operand_steps c.program xs e))) ≡ Some 0
 condition_depth c l k at m to xs e small h lies =
-    let steps : List Step = s.Begin ∷ (operand_steps c.program xs e ++ s.JumpIfZero (operand_of xs e) to ∷ []) in
+    let steps : List Step = s.Control Begin ∷ (operand_steps c.program xs e ++ s.Control (JumpIfZero (operand_of xs e) to) ∷ []) in
     depth_at c (at + length steps) (at + (2 + length (operand_steps c.program xs e))) 0
-    (let n : length (operand_steps c.program xs e ++ s.JumpIfZero (operand_of xs e) to ∷ []) ≡ length (operand_steps c.program xs e) + 1 = length-append (operand_steps c.program xs e) (s.JumpIfZero (operand_of xs e) to ∷ []) in
+    (let n : length (operand_steps c.program xs e ++ s.Control (JumpIfZero (operand_of xs e) to) ∷ []) ≡ length (operand_steps c.program xs e) + 1 = length-append (operand_steps c.program xs e) (s.Control (JumpIfZero (operand_of xs e) to) ∷ []) in
     omega (arith, n))
     (depth_over c l k at m 0 0 steps h (condition_balanced c.program xs m to e small) lies)
 
@@ -145,42 +146,42 @@ body_keeps c m n xs law room at k (if_ l e x y rest) known small lies h =
     let first : ℕ = at + (2 + length before) in
     let second : ℕ = first + (1 + size p xs x) in
     let last : ℕ = second + size p xs y in
-    let jump : Step = s.JumpIfZero (operand_of xs e) second in
-    let head : List Step = s.Begin ∷ (before ++ jump ∷ []) in
+    let jump : Step = s.Control (JumpIfZero (operand_of xs e) second) in
+    let head : List Step = s.Control Begin ∷ (before ++ jump ∷ []) in
     let code_x : List Instr = body_code p xs first (suc k) x in
     let code_y : List Instr = body_code p xs second (suc k + place_count x) y in
     let code_rest : List Instr = body_code p xs (suc last) (suc k + place_count x + place_count y) rest in
     let known_x : (takes_body p x ≡ true) × ((takes_body p y && takes_body p rest) ≡ true) = both _ _ known in
     let known_y : (takes_body p y ≡ true) × (takes_body p rest ≡ true) = both _ _ known_x.1 in
-    let lies_head : Lies c.code at (instrs l k head) = lies_first c.code at (instrs l k head) (code_x ++ instr l k (s.Jump last) ∷ (code_y ++ instr l k s.Done ∷ code_rest)) lies in
-    let lies_from_x : Lies c.code first (code_x ++ instr l k (s.Jump last) ∷ (code_y ++ instr l k s.Done ∷ code_rest)) =
-    subst (λ i. Lies c.code i (code_x ++ instr l k (s.Jump last) ∷ (code_y ++ instr l k s.Done ∷ code_rest))) (ap (λ i. at + i) (condition_length l k before s.Begin jump))
-    (lies_second c.code at (instrs l k head) (code_x ++ instr l k (s.Jump last) ∷ (code_y ++ instr l k s.Done ∷ code_rest)) lies) in
-    let lies_x : Lies c.code first code_x = lies_first c.code first code_x (instr l k (s.Jump last) ∷ (code_y ++ instr l k s.Done ∷ code_rest)) lies_from_x in
-    let lies_jump : Lies c.code (first + size p xs x) (instr l k (s.Jump last) ∷ (code_y ++ instr l k s.Done ∷ code_rest)) =
-    subst (λ i. Lies c.code i (instr l k (s.Jump last) ∷ (code_y ++ instr l k s.Done ∷ code_rest))) (ap (λ i. first + i) (code_length p xs x first (suc k)))
-    (lies_second c.code first code_x (instr l k (s.Jump last) ∷ (code_y ++ instr l k s.Done ∷ code_rest)) lies_from_x) in
-    let lies_from_y : Lies c.code second (code_y ++ instr l k s.Done ∷ code_rest) = subst (λ i. Lies c.code i (code_y ++ instr l k s.Done ∷ code_rest)) (omega arith) lies_jump.1 in
-    let lies_y : Lies c.code second code_y = lies_first c.code second code_y (instr l k s.Done ∷ code_rest) lies_from_y in
-    let lies_done : Lies c.code last (instr l k s.Done ∷ code_rest) =
-    subst (λ i. Lies c.code i (instr l k s.Done ∷ code_rest)) (ap (λ i. second + i) (code_length p xs y second (suc k + place_count x)))
-    (lies_second c.code second code_y (instr l k s.Done ∷ code_rest) lies_from_y) in
+    let lies_head : Lies c.code at (instrs l k head) = lies_first c.code at (instrs l k head) (code_x ++ instr l k (s.Control (Jump last)) ∷ (code_y ++ instr l k (s.Control Done) ∷ code_rest)) lies in
+    let lies_from_x : Lies c.code first (code_x ++ instr l k (s.Control (Jump last)) ∷ (code_y ++ instr l k (s.Control Done) ∷ code_rest)) =
+    subst (λ i. Lies c.code i (code_x ++ instr l k (s.Control (Jump last)) ∷ (code_y ++ instr l k (s.Control Done) ∷ code_rest))) (ap (λ i. at + i) (condition_length l k before (s.Control Begin) jump))
+    (lies_second c.code at (instrs l k head) (code_x ++ instr l k (s.Control (Jump last)) ∷ (code_y ++ instr l k (s.Control Done) ∷ code_rest)) lies) in
+    let lies_x : Lies c.code first code_x = lies_first c.code first code_x (instr l k (s.Control (Jump last)) ∷ (code_y ++ instr l k (s.Control Done) ∷ code_rest)) lies_from_x in
+    let lies_jump : Lies c.code (first + size p xs x) (instr l k (s.Control (Jump last)) ∷ (code_y ++ instr l k (s.Control Done) ∷ code_rest)) =
+    subst (λ i. Lies c.code i (instr l k (s.Control (Jump last)) ∷ (code_y ++ instr l k (s.Control Done) ∷ code_rest))) (ap (λ i. first + i) (code_length p xs x first (suc k)))
+    (lies_second c.code first code_x (instr l k (s.Control (Jump last)) ∷ (code_y ++ instr l k (s.Control Done) ∷ code_rest)) lies_from_x) in
+    let lies_from_y : Lies c.code second (code_y ++ instr l k (s.Control Done) ∷ code_rest) = subst (λ i. Lies c.code i (code_y ++ instr l k (s.Control Done) ∷ code_rest)) (omega arith) lies_jump.1 in
+    let lies_y : Lies c.code second code_y = lies_first c.code second code_y (instr l k (s.Control Done) ∷ code_rest) lies_from_y in
+    let lies_done : Lies c.code last (instr l k (s.Control Done) ∷ code_rest) =
+    subst (λ i. Lies c.code i (instr l k (s.Control Done) ∷ code_rest)) (ap (λ i. second + i) (code_length p xs y second (suc k + place_count x)))
+    (lies_second c.code second code_y (instr l k (s.Control Done) ∷ code_rest) lies_from_y) in
     let small_e : nodes e ≤ m = omega (arith, small.0, room) in
     let in_x : Each (Keeps c m) first code_x × (depth_before c (first + size p xs x) ≡ Some 0) =
     body_keeps c m n xs law room first (suc k) x known_x.0 small.1 lies_x (condition_depth c l k at m second xs e small_e h lies_head) in
-    let at_second : depth_before c second ≡ Some 0 = depth_at c (suc (first + size p xs x)) second 0 (omega arith) (depth_next c (first + size p xs x) (instr l k (s.Jump last)) 0 lies_jump.0 in_x.1 (omega arith)) in
+    let at_second : depth_before c second ≡ Some 0 = depth_at c (suc (first + size p xs x)) second 0 (omega arith) (depth_next c (first + size p xs x) (instr l k (s.Control (Jump last))) 0 lies_jump.0 in_x.1 (omega arith)) in
     let in_y : Each (Keeps c m) second code_y × (depth_before c last ≡ Some 0) = body_keeps c m n xs law room second (suc k + place_count x) y known_y.0 small.2 lies_y at_second in
     let in_rest : Each (Keeps c m) (suc last) code_rest × (depth_before c (suc last + size p xs rest) ≡ Some 0) =
-    body_keeps c m n xs law room (suc last) (suc k + place_count x + place_count y) rest known_y.1 small.3 lies_done.1 (depth_next c last (instr l k s.Done) 0 lies_done.0 in_y.1 (omega arith)) in (
-      each_append (Keeps c m) at first (instrs l k head) _ (ap (λ i. at + i) (condition_length l k before s.Begin jump))
+    body_keeps c m n xs law room (suc last) (suc k + place_count x + place_count y) rest known_y.1 small.3 lies_done.1 (depth_next c last (instr l k (s.Control Done)) 0 lies_done.0 in_y.1 (omega arith)) in (
+      each_append (Keeps c m) at first (instrs l k head) _ (ap (λ i. at + i) (condition_length l k before (s.Control Begin) jump))
           (condition_keeps c l k at m second xs e small_e h at_second lies_head)
           (each_append (Keeps c m) first (first + size p xs x) code_x _ (ap (λ i. first + i) (code_length p xs x first (suc k)))
           in_x.0 (
             (0, in_x.1, omega arith, (refl, in_y.1)),
-            subst (λ i. Each (Keeps c m) i (code_y ++ instr l k s.Done ∷ code_rest)) (omega arith)
+            subst (λ i. Each (Keeps c m) i (code_y ++ instr l k (s.Control Done) ∷ code_rest)) (omega arith)
                 (each_append (Keeps c m) second last code_y _ (ap (λ i. second + i) (code_length p xs y second (suc k + place_count x)))
                 in_y.0
-                ((0, in_y.1, omega arith, (omega arith, depth_next c last (instr l k s.Done) 0 lies_done.0 in_y.1 (omega arith))), in_rest.0)),
+                ((0, in_y.1, omega arith, (omega arith, depth_next c last (instr l k (s.Control Done)) 0 lies_done.0 in_y.1 (omega arith))), in_rest.0)),
           )),
       depth_at c (suc last + size p xs rest) (at + size p xs (if_ l e x y rest)) 0 (omega arith) in_rest.1,
     )
@@ -190,36 +191,36 @@ body_keeps c m n xs law room at k (while_ l e x rest) known small lies h =
     let head : ℕ = at + 1 in
     let first : ℕ = head + (1 + length before) in
     let last : ℕ = first + (1 + size p xs x) in
-    let jump : Step = s.JumpIfZero (operand_of xs e) last in
-    let begin : List Step = s.Begin ∷ (before ++ jump ∷ []) in
+    let jump : Step = s.Control (JumpIfZero (operand_of xs e) last) in
+    let begin : List Step = s.Control Begin ∷ (before ++ jump ∷ []) in
     let place : ℕ = at + (2 + length before) in
     let same : place ≡ first = omega arith in
     let code_x : List Instr = body_code p xs first (suc (suc k)) x in
     let code_rest : List Instr = body_code p xs (suc last) (suc (suc k) + place_count x) rest in
     let known_x : (takes_body p x ≡ true) × (takes_body p rest ≡ true) = both _ _ known in
-    let lies_begin : Lies c.code at (instrs l k begin) = lies_first c.code at (instrs l k begin) (code_x ++ instr l (suc k) (s.Edge head) ∷ instr l k s.Done ∷ code_rest) lies in
-    let lies_from_x : Lies c.code first (code_x ++ instr l (suc k) (s.Edge head) ∷ instr l k s.Done ∷ code_rest) =
-    subst (λ i. Lies c.code i (code_x ++ instr l (suc k) (s.Edge head) ∷ instr l k s.Done ∷ code_rest)) (ap (λ i. at + i) (condition_length l k before s.Begin jump) ∙ same)
-    (lies_second c.code at (instrs l k begin) (code_x ++ instr l (suc k) (s.Edge head) ∷ instr l k s.Done ∷ code_rest) lies) in
-    let lies_x : Lies c.code first code_x = lies_first c.code first code_x (instr l (suc k) (s.Edge head) ∷ instr l k s.Done ∷ code_rest) lies_from_x in
-    let lies_edge : Lies c.code (first + size p xs x) (instr l (suc k) (s.Edge head) ∷ instr l k s.Done ∷ code_rest) =
-    subst (λ i. Lies c.code i (instr l (suc k) (s.Edge head) ∷ instr l k s.Done ∷ code_rest)) (ap (λ i. first + i) (code_length p xs x first (suc (suc k))))
-    (lies_second c.code first code_x (instr l (suc k) (s.Edge head) ∷ instr l k s.Done ∷ code_rest) lies_from_x) in
-    let lies_done : Lies c.code last (instr l k s.Done ∷ code_rest) = subst (λ i. Lies c.code i (instr l k s.Done ∷ code_rest)) (omega arith) lies_edge.1 in
+    let lies_begin : Lies c.code at (instrs l k begin) = lies_first c.code at (instrs l k begin) (code_x ++ instr l (suc k) (s.Control (Edge head)) ∷ instr l k (s.Control Done) ∷ code_rest) lies in
+    let lies_from_x : Lies c.code first (code_x ++ instr l (suc k) (s.Control (Edge head)) ∷ instr l k (s.Control Done) ∷ code_rest) =
+    subst (λ i. Lies c.code i (code_x ++ instr l (suc k) (s.Control (Edge head)) ∷ instr l k (s.Control Done) ∷ code_rest)) (ap (λ i. at + i) (condition_length l k before (s.Control Begin) jump) ∙ same)
+    (lies_second c.code at (instrs l k begin) (code_x ++ instr l (suc k) (s.Control (Edge head)) ∷ instr l k (s.Control Done) ∷ code_rest) lies) in
+    let lies_x : Lies c.code first code_x = lies_first c.code first code_x (instr l (suc k) (s.Control (Edge head)) ∷ instr l k (s.Control Done) ∷ code_rest) lies_from_x in
+    let lies_edge : Lies c.code (first + size p xs x) (instr l (suc k) (s.Control (Edge head)) ∷ instr l k (s.Control Done) ∷ code_rest) =
+    subst (λ i. Lies c.code i (instr l (suc k) (s.Control (Edge head)) ∷ instr l k (s.Control Done) ∷ code_rest)) (ap (λ i. first + i) (code_length p xs x first (suc (suc k))))
+    (lies_second c.code first code_x (instr l (suc k) (s.Control (Edge head)) ∷ instr l k (s.Control Done) ∷ code_rest) lies_from_x) in
+    let lies_done : Lies c.code last (instr l k (s.Control Done) ∷ code_rest) = subst (λ i. Lies c.code i (instr l k (s.Control Done) ∷ code_rest)) (omega arith) lies_edge.1 in
     let small_e : nodes e ≤ m = omega (arith, small.0, room) in
-    let at_head : depth_before c head ≡ Some 0 = depth_at c (suc at) head 0 (omega arith) (depth_next c at (instr l k s.Begin) 0 lies_begin.0 h (omega arith)) in
+    let at_head : depth_before c head ≡ Some 0 = depth_at c (suc at) head 0 (omega arith) (depth_next c at (instr l k (s.Control Begin)) 0 lies_begin.0 h (omega arith)) in
     let in_x : Each (Keeps c m) first code_x × (depth_before c (first + size p xs x) ≡ Some 0) =
     body_keeps c m n xs law room first (suc (suc k)) x known_x.0 small.1 lies_x (depth_at c place first 0 same (condition_depth c l k at m last xs e small_e h lies_begin)) in
-    let at_last : depth_before c last ≡ Some 0 = depth_at c (suc (first + size p xs x)) last 0 (omega arith) (depth_next c (first + size p xs x) (instr l (suc k) (s.Edge head)) 0 lies_edge.0 in_x.1 (omega arith)) in
-    let behind : depth_before c (suc last) ≡ Some 0 = depth_next c last (instr l k s.Done) 0 lies_done.0 at_last (omega arith) in
+    let at_last : depth_before c last ≡ Some 0 = depth_at c (suc (first + size p xs x)) last 0 (omega arith) (depth_next c (first + size p xs x) (instr l (suc k) (s.Control (Edge head))) 0 lies_edge.0 in_x.1 (omega arith)) in
+    let behind : depth_before c (suc last) ≡ Some 0 = depth_next c last (instr l k (s.Control Done)) 0 lies_done.0 at_last (omega arith) in
     let in_rest : Each (Keeps c m) (suc last) code_rest × (depth_before c (suc last + size p xs rest) ≡ Some 0) =
     body_keeps c m n xs law room (suc last) (suc (suc k) + place_count x) rest known_x.1 small.2 lies_done.1 behind in (
-      each_append (Keeps c m) at first (instrs l k begin) _ (ap (λ i. at + i) (condition_length l k before s.Begin jump) ∙ same)
+      each_append (Keeps c m) at first (instrs l k begin) _ (ap (λ i. at + i) (condition_length l k before (s.Control Begin) jump) ∙ same)
           (condition_keeps c l k at m last xs e small_e h at_last lies_begin)
           (each_append (Keeps c m) first (first + size p xs x) code_x _ (ap (λ i. first + i) (code_length p xs x first (suc (suc k))))
           in_x.0 (
             (0, in_x.1, omega arith, (refl, at_head)),
-            subst (λ i. Each (Keeps c m) i (instr l k s.Done ∷ code_rest)) (let f : last ≡ suc (first + size p xs x) = omega arith in f)
+            subst (λ i. Each (Keeps c m) i (instr l k (s.Control Done) ∷ code_rest)) (let f : last ≡ suc (first + size p xs x) = omega arith in f)
                 ((0, at_last, omega arith, (omega arith, behind)), in_rest.0),
           )),
       depth_at c (suc last + size p xs rest) (at + size p xs (while_ l e x rest)) 0 (omega arith) in_rest.1,
@@ -244,7 +245,7 @@ functions_keep c m n law room (g ∷ gs) at place l small code h =
     let last : ℕ = at + size p xs g.body in
     let later : ℕ = suc (suc (place + place_count g.body)) in
     let body : List Instr = body_code p xs at (suc place) g.body in
-    let out : Instr = instr g.line (suc place + place_count g.body) s.Out in
+    let out : Instr = instr g.line (suc place + place_count g.body) (s.Control Out) in
     let more : List Instr = functions_code p (suc last) later gs in
     let length_is : at + length body ≡ last = ap (λ i. at + i) (code_length p xs g.body at (suc place)) in
     let lies_out : Lies c.code last (out ∷ more) = subst (λ i. Lies c.code i (out ∷ more)) length_is (lies_second c.code at body (out ∷ more) code) in

@@ -10,11 +10,15 @@ use Rattle.loom_flow.specs.declared.code.Operand.TheVariants as operand
 use Rattle.loom_flow.specs.declared.code.Target.TheVariants as target
 use Rattle.loom_flow.specs.declared.code.Step.{Step}
 use Rattle.loom_flow.specs.declared.code.Step.TheVariants as s
-use Rattle.loom_flow.specs.Flat.{Flat, State, jumped, named, names, resume, returned, performed}
-use Rattle.loom_flow.specs.Lowered.{or_zero, array_named, operand_of, steps_to, operand_steps, argument_steps, call_steps, store_step, value_steps, set_steps, simple_steps, resume_of, instr, instrs}
+use Rattle.loom_flow.specs.declared.code.Compute.TheVariants.{Discard}
+use Rattle.loom_flow.specs.declared.code.Ask.TheVariants.{WriteCell, Lock, Unlock, Down, Up, Join, Print, Spawn}
+use Rattle.loom_flow.specs.declared.code.Control.TheVariants.{Begin, Done, Call, Return}
+use Rattle.loom_flow.specs.Flat.{Flat, resume}
+use Rattle.loom_flow.specs.State.{State, jumped, named, names}
+use Rattle.loom_flow.specs.FlatCode.{or_zero, array_named, operand_of, steps_to, operand_steps, argument_steps, call_steps, store_step, value_steps, set_steps, simple_steps, resume_of, instr, instrs}
 use Rattle.loom_flow.proofs.Relations.{Meets, meets_itself, meets_same, meets_on, meets_emit, meets_either}
-use Rattle.loom_flow.proofs.Steps.{meets_joined}
-use Rattle.loom_flow.proofs.Lying.{Lies}
+use Rattle.loom_flow.proofs.Steps.{returned, performed, meets_joined}
+use Rattle.loom_flow.proofs.Sublist.{Lies}
 use Rattle.loom_flow.proofs.Straight.{straight, skip, skip_append, skip_length, AllStraight, all_straight_append, Fetches, meets_instr}
 use Rattle.loom_flow.proofs.Expressions.{IsNumbered, IsArray, IsKnown, left, settled}
 use Rattle.loom_flow.proofs.Arguments.{AllKnown}
@@ -69,11 +73,11 @@ three_steps at xs x y z = ap (skip at) (three_behind xs x y z) ∙ skip_append a
 call_resumes : (at : ℕ) (xs : List Step) (x : Step) → at + (1 + length (xs ++ x ∷ [])) ≡ suc (skip (suc at) xs)
 call_resumes at xs x = let e : skip (suc at) xs ≡ suc at + length xs = skip_length (suc at) xs in let f : length (xs ++ x ∷ []) ≡ length xs + 1 = length-append xs (x ∷ []) in omega arith
 
-value_straight : (p : Source) (x : List ℕ) (xs : List (List ℕ)) (e : Expression) (a : Option ℕ) → AllStraight (value_steps p xs x e a ++ s.Done ∷ [])
-value_straight p x xs e None = all_straight_append (operand_steps p xs e ++ _ ∷ []) (s.Done ∷ []) (all_straight_append (operand_steps p xs e) _ (operand_straight p xs e) (refl, tt)) (refl, tt)
-value_straight p x xs e (Some j) = all_straight_append (steps_to p xs (target.Local j) e) (s.Done ∷ []) (steps_straight p xs (target.Local j) e) (refl, tt)
+value_straight : (p : Source) (x : List ℕ) (xs : List (List ℕ)) (e : Expression) (a : Option ℕ) → AllStraight (value_steps p xs x e a ++ s.Control Done ∷ [])
+value_straight p x xs e None = all_straight_append (operand_steps p xs e ++ _ ∷ []) (s.Control Done ∷ []) (all_straight_append (operand_steps p xs e) _ (operand_straight p xs e) (refl, tt)) (refl, tt)
+value_straight p x xs e (Some j) = all_straight_append (steps_to p xs (target.Local j) e) (s.Control Done ∷ []) (steps_straight p xs (target.Local j) e) (refl, tt)
 
-store_straight : (p : Source) (x : List ℕ) (a : Option ℕ) → AllStraight (store_step p x a ∷ s.Done ∷ [])
+store_straight : (p : Source) (x : List ℕ) (a : Option ℕ) → AllStraight (store_step p x a ∷ s.Control Done ∷ [])
 store_straight p x None = (refl, (refl, tt))
 store_straight p x (Some j) = (refl, (refl, tt))
 
@@ -84,35 +88,35 @@ resume_set p xs at _ = 0
 set_meets : (b : Bool) (c : Flat) (t : Thread) (m : ℕ → State → Lists) (n l k at : ℕ) (xs : List (List ℕ)) (z : State) (calls : Calls) (x : List ℕ) (r : Right Expression) (more : Locals → Lists)
     → ((j : ℕ) → Fetches b c t (m j)) → CallsMeet b c t m n (length z.below) calls → names (slice_get c.program.funcs z.func) ≡ xs → length xs ≤ length z.locals
     → IsNumbered t.program x (position x xs) → IsKnownRight t.program xs r
-    → Lies c.code at (instrs l k (s.Begin ∷ (set_steps t.program xs x r ++ s.Done ∷ [])))
+    → Lies c.code at (instrs l k (s.Control Begin ∷ (set_steps t.program xs x r ++ s.Control Done ∷ [])))
     → ((f : List ℕ) (es : List Expression) → r ≡ Right.call f es → resume (slice_get c.sites k) ≡ at + (1 + length (call_steps t.program xs f es)))
-    → Ends b m n xs z (skip at (s.Begin ∷ (set_steps t.program xs x r ++ s.Done ∷ []))) more
+    → Ends b m n xs z (skip at (s.Control Begin ∷ (set_steps t.program xs x r ++ s.Control Done ∷ []))) more
     → Meets b (m n (jumped z at)) (emit (begins l (named xs z.locals)) (right t calls l (named xs z.locals) r (λ v. stored t l (named xs z.locals) (value_in (named xs z.locals) x) x v (λ env. emit (done l) (more env)))))
 set_meets b c t m n l k at xs z calls x (Right.value e) more fetches meets names_are h numbered_x known lies site ends =
-    meets_begin b c t (m n) l k at xs z (value_steps t.program xs x e (position x xs) ++ s.Done ∷ []) _ (fetches n) names_are (value_straight t.program x xs e (position x xs)) lies
+    meets_begin b c t (m n) l k at xs z (value_steps t.program xs x e (position x xs) ++ s.Control Done ∷ []) _ (fetches n) names_are (value_straight t.program x xs e (position x xs)) lies
     (meets_value b c t (m n) l k (suc at) x xs z e more h numbered_x known (ends n (omega arith)))
 set_meets b c t m n l k at xs z calls x (Right.call f es) more fetches meets names_are h numbered_x known lies site ends =
     let before : List Step = argument_steps t.program xs es in
-    let call : Step = s.Call (or_zero (function_number t.program f)) (length es) in
+    let call : Step = s.Control (Call (or_zero (function_number t.program f)) (length es)) in
     let store : Step = store_step t.program x (position x xs) in
-    meets_call b c t m n l k at xs z calls f es (store ∷ s.Done ∷ []) (λ v. stored t l (named xs z.locals) (value_in (named xs z.locals) x) x v (λ env. emit (done l) (more env)))
+    meets_call b c t m n l k at xs z calls f es (store ∷ s.Control Done ∷ []) (λ v. stored t l (named xs z.locals) (value_in (named xs z.locals) x) x v (λ env. emit (done l) (more env)))
     fetches meets names_are h known.0 known.1 (store_straight t.program x (position x xs))
-    (subst (λ steps. Lies c.code at (instrs l k (s.Begin ∷ steps))) (three_behind before call store s.Done) lies)
+    (subst (λ steps. Lies c.code at (instrs l k (s.Control Begin ∷ steps))) (three_behind before call store (s.Control Done)) lies)
     (site f es refl ∙ call_resumes at before call)
     (λ j le v. meets_store b c t (m j) l k (suc (skip (suc at) before)) x xs z v more h numbered_x (λ vs g.
-    subst (λ i. Meets b (m j (jumped (record z { locals = vs }) i)) (more (named xs vs))) (three_steps (suc at) before call store s.Done) (ends j le vs g)))
+    subst (λ i. Meets b (m j (jumped (record z { locals = vs }) i)) (more (named xs vs))) (three_steps (suc at) before call store (s.Control Done)) (ends j le vs g)))
 set_meets b c t m n l k at xs z calls x (Right.spawn f es) more fetches meets names_are h numbered_x known lies site ends =
     let before : List Step = argument_steps t.program xs es in
-    let spawn : Step = s.Spawn (or_zero (function_number t.program f)) (length es) target.Push in
+    let spawn : Step = s.Ask (Spawn (or_zero (function_number t.program f)) (length es) target.Push) in
     let store : Step = store_step t.program x (position x xs) in
-    let rest : List Step = before ++ spawn ∷ store ∷ s.Done ∷ [] in
+    let rest : List Step = before ++ spawn ∷ store ∷ s.Control Done ∷ [] in
     meets_begin b c t (m n) l k at xs z rest _ (fetches n) names_are
-    (all_straight_append before (spawn ∷ store ∷ s.Done ∷ []) (arguments_straight t.program xs es) (refl, store_straight t.program x (position x xs)))
-    (subst (λ steps. Lies c.code at (instrs l k (s.Begin ∷ steps))) (three_behind before spawn store s.Done) lies)
-    (spawn_is b c t (m n) l k (suc at) xs z f es (store ∷ s.Done ∷ []) (λ v. stored t l (named xs z.locals) (value_in (named xs z.locals) x) x v (λ env. emit (done l) (more env)))
+    (all_straight_append before (spawn ∷ store ∷ s.Control Done ∷ []) (arguments_straight t.program xs es) (refl, store_straight t.program x (position x xs)))
+    (subst (λ steps. Lies c.code at (instrs l k (s.Control Begin ∷ steps))) (three_behind before spawn store (s.Control Done)) lies)
+    (spawn_is b c t (m n) l k (suc at) xs z f es (store ∷ s.Control Done ∷ []) (λ v. stored t l (named xs z.locals) (value_in (named xs z.locals) x) x v (λ env. emit (done l) (more env)))
     h known.0 known.1
     (λ v. meets_store b c t (m n) l k (suc (skip (suc at) before)) x xs z v more h numbered_x (λ vs g.
-    subst (λ i. Meets b (m n (jumped (record z { locals = vs }) i)) (more (named xs vs))) (three_steps (suc at) before spawn store s.Done) (ends n (omega arith) vs g))))
+    subst (λ i. Meets b (m n (jumped (record z { locals = vs }) i)) (more (named xs vs))) (three_steps (suc at) before spawn store (s.Control Done)) (ends n (omega arith) vs g))))
 
 -- A step with a number, without an operand
 
@@ -121,22 +125,22 @@ numbered_step : (b : Bool) (c : Flat) (t : Thread) (m : State → Lists) (l k at
     → ((i : ℕ) (next : State → Lists) (z' : State) → straight c t l k (x i ∷ []) next z' ≡ y i (next (jumped z' (suc z'.at))))
     → ((i : ℕ) (p r : Lists) → Meets b p r → Meets b (y i p) (y i r))
     → number ≡ Some n → Meets b (m (jumped z (suc (suc at)))) q
-    → Meets b (straight c t l k (x (or_zero number) ∷ s.Done ∷ []) m (jumped z at)) (numbered number (λ i. y i (emit (done l) q)))
+    → Meets b (straight c t l k (x (or_zero number) ∷ s.Control Done ∷ []) m (jumped z at)) (numbered number (λ i. y i (emit (done l) q)))
 numbered_step b c t m l k at xs z number n x y q taken grows e ends =
     meets_on b _ (y n (emit (done l) q)) _
     (meets_on b _ (y n (emit (done l) (m (jumped z (suc (suc at)))))) _
-    (meets_same b _ _ (ap {B = Lists} (λ (o : Option ℕ). straight c t l k (x (or_zero o) ∷ s.Done ∷ []) m (jumped z at)) e ∙ taken n (straight c t l k (s.Done ∷ []) m) (jumped z at)))
+    (meets_same b _ _ (ap {B = Lists} (λ (o : Option ℕ). straight c t l k (x (or_zero o) ∷ s.Control Done ∷ []) m (jumped z at)) e ∙ taken n (straight c t l k (s.Control Done ∷ []) m) (jumped z at)))
     (grows n _ _ (meets_emit b (done l) _ _ ends)))
     (meets_same b _ _ (ap {B = Lists} (λ o. numbered o (λ i. y i (emit (done l) q))) (sym e)))
 
 join_is : (c : Flat) (t : Thread) (l k : ℕ) (z : State) (a : Operand) (next : State → Lists) (n : ℕ) (v : ℤ)
-    → straight c t l k (s.Join a ∷ []) next (jumped (left a v z) n) ≡ joined t l (settled a z.locals v) (next (jumped z (suc n)))
+    → straight c t l k (s.Ask (Join a) ∷ []) next (jumped (left a v z) n) ≡ joined t l (settled a z.locals v) (next (jumped z (suc n)))
 join_is c t l k z operand.Top next n v = refl
 join_is c t l k z (operand.Local j) next n v = refl
 join_is c t l k z (operand.Number i) next n v = refl
 
 print_is : (c : Flat) (t : Thread) (l k : ℕ) (z : State) (a : Operand) (next : State → Lists) (n : ℕ) (v : ℤ)
-    → straight c t l k (s.Print a ∷ []) next (jumped (left a v z) n) ≡ emit (made l (trace.print (settled a z.locals v))) (next (jumped z (suc n)))
+    → straight c t l k (s.Ask (Print a) ∷ []) next (jumped (left a v z) n) ≡ emit (made l (trace.print (settled a z.locals v))) (next (jumped z (suc n)))
 print_is c t l k z operand.Top next n v = refl
 print_is c t l k z (operand.Local j) next n v = refl
 print_is c t l k z (operand.Number i) next n v = refl
@@ -157,50 +161,50 @@ simple_meets b c t m n l k at xs z calls (set x r) ret more fetches meets names_
 simple_meets b c t m n l k at xs z calls (set_cell x i e) ret more fetches meets names_are h known lies site returns ends =
     let first : List Step = operand_steps t.program xs i in
     let second : List Step = operand_steps t.program xs e in
-    let last : List Step = s.WriteCell (array_named t.program x) (operand_of xs i) (operand_of xs e) ∷ s.Done ∷ [] in
+    let last : List Step = s.Ask (WriteCell (array_named t.program x) (operand_of xs i) (operand_of xs e)) ∷ s.Control Done ∷ [] in
     meets_begin b c t (m n) l k at xs z (first ++ (second ++ last)) _ (fetches n) names_are
     (all_straight_append first (second ++ last) (operand_straight t.program xs i) (all_straight_append second last (operand_straight t.program xs e) (refl, (refl, tt)))) lies
     (meets_cell b c t (m n) l k (suc at) x xs z i e (more (named xs z.locals)) h known.0 known.1 known.2 (ends n (omega arith) z.locals refl))
 simple_meets b c t m n l k at xs z calls (Simple.call f es) ret more fetches meets names_are h known lies site returns ends =
     let before : List Step = argument_steps t.program xs es in
-    let call : Step = s.Call (or_zero (function_number t.program f)) (length es) in
-    let same : (before ++ call ∷ []) ++ s.Discard ∷ s.Done ∷ [] ≡ before ++ call ∷ s.Discard ∷ s.Done ∷ [] = append_assoc before (call ∷ []) (s.Discard ∷ s.Done ∷ []) in
-    meets_call b c t m n l k at xs z calls f es (s.Discard ∷ s.Done ∷ []) (λ v. emit (done l) (more (named xs z.locals)))
+    let call : Step = s.Control (Call (or_zero (function_number t.program f)) (length es)) in
+    let same : (before ++ call ∷ []) ++ s.Compute Discard ∷ s.Control Done ∷ [] ≡ before ++ call ∷ s.Compute Discard ∷ s.Control Done ∷ [] = append_assoc before (call ∷ []) (s.Compute Discard ∷ s.Control Done ∷ []) in
+    meets_call b c t m n l k at xs z calls f es (s.Compute Discard ∷ s.Control Done ∷ []) (λ v. emit (done l) (more (named xs z.locals)))
     fetches meets names_are h known.0 known.1 (refl, (refl, tt))
-    (subst (λ steps. Lies c.code at (instrs l k (s.Begin ∷ steps))) same lies)
+    (subst (λ steps. Lies c.code at (instrs l k (s.Control Begin ∷ steps))) same lies)
     (site ∙ call_resumes at before call)
     (λ j le v. meets_emit b (done l) _ _
-    (subst (λ i. Meets b (m j (jumped z i)) (more (named xs z.locals))) (ap (skip (suc at)) same ∙ skip_append (suc at) before (call ∷ s.Discard ∷ s.Done ∷ [])) (ends j le z.locals refl)))
+    (subst (λ i. Meets b (m j (jumped z i)) (more (named xs z.locals))) (ap (skip (suc at)) same ∙ skip_append (suc at) before (call ∷ s.Compute Discard ∷ s.Control Done ∷ [])) (ends j le z.locals refl)))
 simple_meets b c t m n l k at xs z calls (return None) ret more fetches meets names_are h known lies site returns ends =
     meets_begin b c t (m n) l k at xs z [] (emit (done l) (ret (pos 0))) (fetches n) names_are tt (lies.0, tt)
-    (meets_on b (m n (jumped z (suc at))) (performed c t (m n) (jumped z (suc at)) (instr l k (s.Return (operand.Number (pos 0)))) (s.Return (operand.Number (pos 0)))) _
-    (meets_instr b c t (m n) (jumped z (suc at)) (instr l k (s.Return (operand.Number (pos 0)))) (fetches n) lies.1.0)
+    (meets_on b (m n (jumped z (suc at))) (performed c t (m n) (jumped z (suc at)) (instr l k (s.Control (Return (operand.Number (pos 0))))) (s.Control (Return (operand.Number (pos 0))))) _
+    (meets_instr b c t (m n) (jumped z (suc at)) (instr l k (s.Control (Return (operand.Number (pos 0))))) (fetches n) lies.1.0)
     (return_is b c t (m n) l k (suc at) (operand.Number (pos 0)) z (pos 0) ret (returns n (omega arith))))
 simple_meets b c t m n l k at xs z calls (return (Some e)) ret more fetches meets names_are h known lies site returns ends =
     meets_return b c t (m n) l k at xs z e ret (fetches n) names_are h known lies (returns n (omega arith))
 simple_meets b c t m n l k at xs z calls (tree.lock x) ret more fetches meets names_are h known lies site returns ends =
-    meets_begin b c t (m n) l k at xs z (s.Lock (or_zero (mutex_number t.program x)) ∷ s.Done ∷ []) _ (fetches n) names_are (refl, (refl, tt)) lies
-    (numbered_step b c t (m n) l k (suc at) xs z (mutex_number t.program x) known.0 s.Lock (λ i q. emit (made l (trace.lock i)) q) (more (named xs z.locals))
+    meets_begin b c t (m n) l k at xs z (s.Ask (Lock (or_zero (mutex_number t.program x))) ∷ s.Control Done ∷ []) _ (fetches n) names_are (refl, (refl, tt)) lies
+    (numbered_step b c t (m n) l k (suc at) xs z (mutex_number t.program x) known.0 (λ i. s.Ask (Lock i)) (λ i q. emit (made l (trace.lock i)) q) (more (named xs z.locals))
     (λ i next z'. refl) (λ i p r q. meets_emit b _ p r q) known.1 (ends n (omega arith) z.locals refl))
 simple_meets b c t m n l k at xs z calls (tree.unlock x) ret more fetches meets names_are h known lies site returns ends =
-    meets_begin b c t (m n) l k at xs z (s.Unlock (or_zero (mutex_number t.program x)) ∷ s.Done ∷ []) _ (fetches n) names_are (refl, (refl, tt)) lies
-    (numbered_step b c t (m n) l k (suc at) xs z (mutex_number t.program x) known.0 s.Unlock (λ i q. either (trapped t l (trace.not_held i)) (emit (made l (trace.unlock i)) q)) (more (named xs z.locals))
+    meets_begin b c t (m n) l k at xs z (s.Ask (Unlock (or_zero (mutex_number t.program x))) ∷ s.Control Done ∷ []) _ (fetches n) names_are (refl, (refl, tt)) lies
+    (numbered_step b c t (m n) l k (suc at) xs z (mutex_number t.program x) known.0 (λ i. s.Ask (Unlock i)) (λ i q. either (trapped t l (trace.not_held i)) (emit (made l (trace.unlock i)) q)) (more (named xs z.locals))
     (λ i next z'. refl) (λ i p r q. meets_either b _ _ _ _ (meets_itself b (trapped t l (trace.not_held i))) (meets_emit b _ p r q)) known.1 (ends n (omega arith) z.locals refl))
 simple_meets b c t m n l k at xs z calls (tree.down x) ret more fetches meets names_are h known lies site returns ends =
-    meets_begin b c t (m n) l k at xs z (s.Down (or_zero (sema_number t.program x)) ∷ s.Done ∷ []) _ (fetches n) names_are (refl, (refl, tt)) lies
-    (numbered_step b c t (m n) l k (suc at) xs z (sema_number t.program x) known.0 s.Down (λ i q. emit (made l (trace.down i)) q) (more (named xs z.locals))
+    meets_begin b c t (m n) l k at xs z (s.Ask (Down (or_zero (sema_number t.program x))) ∷ s.Control Done ∷ []) _ (fetches n) names_are (refl, (refl, tt)) lies
+    (numbered_step b c t (m n) l k (suc at) xs z (sema_number t.program x) known.0 (λ i. s.Ask (Down i)) (λ i q. emit (made l (trace.down i)) q) (more (named xs z.locals))
     (λ i next z'. refl) (λ i p r q. meets_emit b _ p r q) known.1 (ends n (omega arith) z.locals refl))
 simple_meets b c t m n l k at xs z calls (tree.up x) ret more fetches meets names_are h known lies site returns ends =
-    meets_begin b c t (m n) l k at xs z (s.Up (or_zero (sema_number t.program x)) ∷ s.Done ∷ []) _ (fetches n) names_are (refl, (refl, tt)) lies
-    (numbered_step b c t (m n) l k (suc at) xs z (sema_number t.program x) known.0 s.Up (λ i q. either (trapped t l (trace.overflow i)) (emit (made l (trace.up i)) q)) (more (named xs z.locals))
+    meets_begin b c t (m n) l k at xs z (s.Ask (Up (or_zero (sema_number t.program x))) ∷ s.Control Done ∷ []) _ (fetches n) names_are (refl, (refl, tt)) lies
+    (numbered_step b c t (m n) l k (suc at) xs z (sema_number t.program x) known.0 (λ i. s.Ask (Up i)) (λ i q. either (trapped t l (trace.overflow i)) (emit (made l (trace.up i)) q)) (more (named xs z.locals))
     (λ i next z'. refl) (λ i p r q. meets_either b _ _ _ _ (meets_itself b (trapped t l (trace.overflow i))) (meets_emit b _ p r q)) known.1 (ends n (omega arith) z.locals refl))
 simple_meets b c t m n l k at xs z calls (tree.join e) ret more fetches meets names_are h known lies site returns ends =
-    meets_begin b c t (m n) l k at xs z (operand_steps t.program xs e ++ s.Join (operand_of xs e) ∷ s.Done ∷ []) _ (fetches n) names_are
+    meets_begin b c t (m n) l k at xs z (operand_steps t.program xs e ++ s.Ask (Join (operand_of xs e)) ∷ s.Control Done ∷ []) _ (fetches n) names_are
     (all_straight_append (operand_steps t.program xs e) _ (operand_straight t.program xs e) (refl, (refl, tt))) lies
-    (one_operand b c t (m n) l k (suc at) xs z e s.Join (joined t l) (more (named xs z.locals)) (join_is c t l k z) (λ v p r q. meets_joined b t l v p r q) h known (ends n (omega arith) z.locals refl))
+    (one_operand b c t (m n) l k (suc at) xs z e (λ i. s.Ask (Join i)) (joined t l) (more (named xs z.locals)) (join_is c t l k z) (λ v p r q. meets_joined b t l v p r q) h known (ends n (omega arith) z.locals refl))
 simple_meets b c t m n l k at xs z calls (tree.print e) ret more fetches meets names_are h known lies site returns ends =
-    meets_begin b c t (m n) l k at xs z (operand_steps t.program xs e ++ s.Print (operand_of xs e) ∷ s.Done ∷ []) _ (fetches n) names_are
+    meets_begin b c t (m n) l k at xs z (operand_steps t.program xs e ++ s.Ask (Print (operand_of xs e)) ∷ s.Control Done ∷ []) _ (fetches n) names_are
     (all_straight_append (operand_steps t.program xs e) _ (operand_straight t.program xs e) (refl, (refl, tt))) lies
-    (one_operand b c t (m n) l k (suc at) xs z e s.Print (λ v q. emit (made l (trace.print v)) q) (more (named xs z.locals)) (print_is c t l k z) (λ v p r q. meets_emit b _ p r q) h known (ends n (omega arith) z.locals refl))
+    (one_operand b c t (m n) l k (suc at) xs z e (λ i. s.Ask (Print i)) (λ v q. emit (made l (trace.print v)) q) (more (named xs z.locals)) (print_is c t l k z) (λ v p r q. meets_emit b _ p r q) h known (ends n (omega arith) z.locals refl))
 simple_meets b c t m n l k at xs z calls tree.skip ret more fetches meets names_are h known lies site returns ends =
-    meets_begin b c t (m n) l k at xs z (s.Done ∷ []) _ (fetches n) names_are (refl, tt) lies (meets_emit b (done l) _ _ (ends n (omega arith) z.locals refl))
+    meets_begin b c t (m n) l k at xs z (s.Control Done ∷ []) _ (fetches n) names_are (refl, tt) lies (meets_emit b (done l) _ _ (ends n (omega arith) z.locals refl))

@@ -10,9 +10,11 @@ use Rattle.loom_flow.specs.declared.code.Target.{Target}
 use Rattle.loom_flow.specs.declared.code.Target.TheVariants as target
 use Rattle.loom_flow.specs.declared.code.Step.{Step}
 use Rattle.loom_flow.specs.declared.code.Step.TheVariants as s
+use Rattle.loom_flow.specs.declared.code.Ask.TheVariants.{Read, ReadCell, Write, WriteCell, Lock, Unlock, Down, Up, Spawn}
+use Rattle.loom_flow.specs.declared.code.Control.TheVariants.{Begin, Done, Edge, Jump, JumpIfZero, Call}
 use Rattle.loom_flow.specs.declared.code.Instr.{Instr}
-use Rattle.loom_flow.specs.Counted.{takes_right, takes_simple, takes_body}
-use Rattle.loom_flow.specs.Lowered.{or_zero, array_named, word_named, operand_of, unless_there, variable_step, steps_to, operand_steps, argument_steps, call_steps, spawn_steps, store_step, value_steps, set_steps, simple_steps, instr, instrs, size, place_count, body_code, functions_code, lowered}
+use Rattle.loom_flow.specs.Arguments.{takes_right, takes_simple, takes_body}
+use Rattle.loom_flow.specs.FlatCode.{or_zero, array_named, word_named, operand_of, unless_there, variable_step, steps_to, operand_steps, argument_steps, call_steps, spawn_steps, store_step, value_steps, set_steps, simple_steps, instr, instrs, size, place_count, body_code, functions_code, lowered}
 use Rattle.loom_flow.proofs.Counts.{function_takes}
 use Rattle.loom_flow.proofs.Each.{AllOf, all_append, same_element}
 use Rattle.loom_flow.proofs.Roles.{not_in}
@@ -20,31 +22,31 @@ use Rattle.loom_flow.proofs.Truths.{both, or_else}
 
 -- It has no number of anything that the program declares.
 abbrev pub is_unnumbered : Step → Bool
-is_unnumbered (s.Read w d) = false
-is_unnumbered (s.ReadCell a n d) = false
-is_unnumbered (s.Write w a) = false
-is_unnumbered (s.WriteCell a n b) = false
-is_unnumbered (s.Lock m) = false
-is_unnumbered (s.Unlock m) = false
-is_unnumbered (s.Down x) = false
-is_unnumbered (s.Up x) = false
-is_unnumbered (s.Spawn f n d) = false
-is_unnumbered (s.Call f n) = false
+is_unnumbered (s.Ask (Read w d)) = false
+is_unnumbered (s.Ask (ReadCell a n d)) = false
+is_unnumbered (s.Ask (Write w a)) = false
+is_unnumbered (s.Ask (WriteCell a n b)) = false
+is_unnumbered (s.Ask (Lock m)) = false
+is_unnumbered (s.Ask (Unlock m)) = false
+is_unnumbered (s.Ask (Down x)) = false
+is_unnumbered (s.Ask (Up x)) = false
+is_unnumbered (s.Ask (Spawn f n d)) = false
+is_unnumbered (s.Control (Call f n)) = false
 is_unnumbered _ = true
 
 -- It holds of the steps that a program that keeps the rules may have.
 pub record HoldsOf (p : Source) (P : Step → Type 0) : Type 0 where
   pub other : (x : Step) → is_unnumbered x ≡ true → P x
-  pub read : (x : List ℕ) (d : Target) → is_word p.words x ≡ true → P (s.Read (word_named p x) d)
-  pub write : (x : List ℕ) (a : Operand) → is_word p.words x ≡ true → P (s.Write (word_named p x) a)
-  pub read_cell : (x : List ℕ) (n : Operand) (d : Target) → is_array p.words x ≡ true → P (s.ReadCell (array_named p x) n d)
-  pub write_cell : (x : List ℕ) (n b : Operand) → is_array p.words x ≡ true → P (s.WriteCell (array_named p x) n b)
-  pub lock : (x : List ℕ) → is_in x p.mutexes ≡ true → P (s.Lock (or_zero (mutex_number p x)))
-  pub unlock : (x : List ℕ) → is_in x p.mutexes ≡ true → P (s.Unlock (or_zero (mutex_number p x)))
-  pub down : (x : List ℕ) → is_sema p.semas x ≡ true → P (s.Down (or_zero (sema_number p x)))
-  pub up : (x : List ℕ) → is_sema p.semas x ≡ true → P (s.Up (or_zero (sema_number p x)))
-  pub spawn : (f : List ℕ) (n : ℕ) (d : Target) → takes p.funcs f n ≡ true → P (s.Spawn (or_zero (function_number p f)) n d)
-  pub call : (f : List ℕ) (n : ℕ) → takes p.funcs f n ≡ true → P (s.Call (or_zero (function_number p f)) n)
+  pub read : (x : List ℕ) (d : Target) → is_word p.words x ≡ true → P (s.Ask (Read (word_named p x) d))
+  pub write : (x : List ℕ) (a : Operand) → is_word p.words x ≡ true → P (s.Ask (Write (word_named p x) a))
+  pub read_cell : (x : List ℕ) (n : Operand) (d : Target) → is_array p.words x ≡ true → P (s.Ask (ReadCell (array_named p x) n d))
+  pub write_cell : (x : List ℕ) (n b : Operand) → is_array p.words x ≡ true → P (s.Ask (WriteCell (array_named p x) n b))
+  pub lock : (x : List ℕ) → is_in x p.mutexes ≡ true → P (s.Ask (Lock (or_zero (mutex_number p x))))
+  pub unlock : (x : List ℕ) → is_in x p.mutexes ≡ true → P (s.Ask (Unlock (or_zero (mutex_number p x))))
+  pub down : (x : List ℕ) → is_sema p.semas x ≡ true → P (s.Ask (Down (or_zero (sema_number p x))))
+  pub up : (x : List ℕ) → is_sema p.semas x ≡ true → P (s.Ask (Up (or_zero (sema_number p x))))
+  pub spawn : (f : List ℕ) (n : ℕ) (d : Target) → takes p.funcs f n ≡ true → P (s.Ask (Spawn (or_zero (function_number p f)) n d))
+  pub call : (f : List ℕ) (n : ℕ) → takes p.funcs f n ≡ true → P (s.Control (Call (or_zero (function_number p f)) n))
 
 -- Expressions
 
@@ -149,7 +151,7 @@ both_each : (P : Step → Type 0) (is js : List Instr) → AllSteps P is → All
 both_each P is js h g = all_append (λ (i : Instr). P i.step) is js h g
 
 condition_each : (p : Source) (P : Step → Type 0) (xs : List (List ℕ)) (l n to : ℕ) (e : Expression) → HoldsOf p P → knows p xs e ≡ true
-    → AllSteps P (instrs l n (s.Begin ∷ (operand_steps p xs e ++ s.JumpIfZero (operand_of xs e) to ∷ [])))
+    → AllSteps P (instrs l n (s.Control Begin ∷ (operand_steps p xs e ++ s.Control (JumpIfZero (operand_of xs e) to) ∷ [])))
 condition_each p P xs l n to e h k = (h.other _ refl, instrs_each P l n _ (all_append P (operand_steps p xs e) _ (operand_each p P xs e h k) (h.other _ refl, tt)))
 
 body_each : (p : Source) (P : Step → Type 0) (xs : List (List ℕ)) (at n : ℕ) (a : Body) → HoldsOf p P → knows_body p xs a ≡ true → takes_body p a ≡ true → AllSteps P (body_code p xs at n a)
@@ -162,14 +164,14 @@ body_each p P xs at n (if_ l e a b rest) h k t =
     let first : ℕ = at + (2 + length (operand_steps p xs e)) in
     let second : ℕ = first + (1 + size p xs a) in
     let last : ℕ = second + size p xs b in
-    let from_done : List Instr = instr l n s.Done ∷ body_code p xs (suc last) (suc n + place_count a + place_count b) rest in
-    let from_jump : List Instr = instr l n (s.Jump last) ∷ (body_code p xs second (suc n + place_count a) b ++ from_done) in
+    let from_done : List Instr = instr l n (s.Control Done) ∷ body_code p xs (suc last) (suc n + place_count a + place_count b) rest in
+    let from_jump : List Instr = instr l n (s.Control (Jump last)) ∷ (body_code p xs second (suc n + place_count a) b ++ from_done) in
     let g : (knows p xs e ≡ true) × ((knows_body p xs a && (knows_body p xs b && knows_body p xs rest)) ≡ true) = both _ _ k in
     let g_in : (knows_body p xs a ≡ true) × ((knows_body p xs b && knows_body p xs rest) ≡ true) = both _ _ g.1 in
     let g_behind : (knows_body p xs b ≡ true) × (knows_body p xs rest ≡ true) = both _ _ g_in.1 in
     let u : (takes_body p a ≡ true) × ((takes_body p b && takes_body p rest) ≡ true) = both _ _ t in
     let u_behind : (takes_body p b ≡ true) × (takes_body p rest ≡ true) = both _ _ u.1 in
-    both_each P (instrs l n (s.Begin ∷ (operand_steps p xs e ++ s.JumpIfZero (operand_of xs e) second ∷ []))) _ (condition_each p P xs l n second e h g.0)
+    both_each P (instrs l n (s.Control Begin ∷ (operand_steps p xs e ++ s.Control (JumpIfZero (operand_of xs e) second) ∷ []))) _ (condition_each p P xs l n second e h g.0)
     (both_each P (body_code p xs first (suc n) a) from_jump (body_each p P xs first (suc n) a h g_in.0 u.0) (
       h.other _ refl,
       both_each P (body_code p xs second (suc n + place_count a) b) from_done (body_each p P xs second (suc n + place_count a) b h g_behind.0 u_behind.0)
@@ -179,11 +181,11 @@ body_each p P xs at n (while_ l e a rest) h k t =
     let head : ℕ = at + 1 in
     let first : ℕ = head + (1 + length (operand_steps p xs e)) in
     let last : ℕ = first + (1 + size p xs a) in
-    let from_edge : List Instr = instr l (suc n) (s.Edge head) ∷ instr l n s.Done ∷ body_code p xs (suc last) (suc (suc n) + place_count a) rest in
+    let from_edge : List Instr = instr l (suc n) (s.Control (Edge head)) ∷ instr l n (s.Control Done) ∷ body_code p xs (suc last) (suc (suc n) + place_count a) rest in
     let g : (knows p xs e ≡ true) × ((knows_body p xs a && knows_body p xs rest) ≡ true) = both _ _ k in
     let g_in : (knows_body p xs a ≡ true) × (knows_body p xs rest ≡ true) = both _ _ g.1 in
     let u : (takes_body p a ≡ true) × (takes_body p rest ≡ true) = both _ _ t in
-    both_each P (instrs l n (s.Begin ∷ (operand_steps p xs e ++ s.JumpIfZero (operand_of xs e) last ∷ []))) _ (condition_each p P xs l n last e h g.0)
+    both_each P (instrs l n (s.Control Begin ∷ (operand_steps p xs e ++ s.Control (JumpIfZero (operand_of xs e) last) ∷ []))) _ (condition_each p P xs l n last e h g.0)
     (both_each P (body_code p xs first (suc (suc n)) a) from_edge (body_each p P xs first (suc (suc n)) a h g_in.0 u.0)
     (h.other _ refl, (h.other _ refl, body_each p P xs (suc last) (suc (suc n) + place_count a) rest h g_in.1 u.1)))
 

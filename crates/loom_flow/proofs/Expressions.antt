@@ -12,9 +12,13 @@ use Rattle.loom_flow.specs.declared.code.Target.{Target}
 use Rattle.loom_flow.specs.declared.code.Target.TheVariants as target
 use Rattle.loom_flow.specs.declared.code.Step.{Step}
 use Rattle.loom_flow.specs.declared.code.Step.TheVariants as s
-use Rattle.loom_flow.specs.Flat.{Flat, State, value_of, given, jumped, named}
-use Rattle.loom_flow.specs.Lowered.{array_of, array_named, first_cell, local_operand, operand_of, unless_there, variable_step, steps_to, operand_steps}
+use Rattle.loom_flow.specs.declared.code.Compute.TheVariants.{Negate, Invert, Apply}
+use Rattle.loom_flow.specs.declared.code.Ask.TheVariants.{ReadCell}
+use Rattle.loom_flow.specs.Flat.{Flat}
+use Rattle.loom_flow.specs.State.{State, value_of, given, jumped, named}
+use Rattle.loom_flow.specs.FlatCode.{instr, array_of, array_named, first_cell, local_operand, operand_of, unless_there, variable_step, steps_to, operand_steps}
 use Rattle.loom_flow.proofs.Locals.{local_value, value_named}
+use Rattle.loom_flow.proofs.Steps.{apply_gives, read_cell_gives}
 use Rattle.loom_flow.proofs.Straight.{straight, straight_append, skip, skip_append}
 
 -- Each name has its number.
@@ -99,47 +103,47 @@ operand_are c t l k xs (bin o a b) next z at h g = g
 -- Single steps behind their operands
 
 negate_is : (c : Flat) (t : Thread) (l k : ℕ) (d : Target) (a : Operand) (next : State → Lists) (z : State) (n : ℕ) (v : ℤ)
-    → straight c t l k (s.Negate a d ∷ []) next (jumped (left a v z) n) ≡ next (jumped (given z d (negated (settled a z.locals v))) (suc n))
+    → straight c t l k (s.Compute (Negate a d) ∷ []) next (jumped (left a v z) n) ≡ next (jumped (given z d (negated (settled a z.locals v))) (suc n))
 negate_is c t l k d operand.Top next z n v = refl
 negate_is c t l k d (operand.Local j) next z n v = refl
 negate_is c t l k d (operand.Number m) next z n v = refl
 
 invert_is : (c : Flat) (t : Thread) (l k : ℕ) (d : Target) (a : Operand) (next : State → Lists) (z : State) (n : ℕ) (v : ℤ)
-    → straight c t l k (s.Invert a d ∷ []) next (jumped (left a v z) n) ≡ next (jumped (given z d (inverted (settled a z.locals v))) (suc n))
+    → straight c t l k (s.Compute (Invert a d) ∷ []) next (jumped (left a v z) n) ≡ next (jumped (given z d (inverted (settled a z.locals v))) (suc n))
 invert_is c t l k d operand.Top next z n v = refl
 invert_is c t l k d (operand.Local j) next z n v = refl
 invert_is c t l k d (operand.Number m) next z n v = refl
 
 apply_is : (c : Flat) (t : Thread) (l k : ℕ) (d : Target) (o : Op) (a b : Operand) (next : State → Lists) (z : State) (n : ℕ) (v w : ℤ)
-    → straight c t l k (s.Apply o a b d ∷ []) next (jumped (left b w (left a v z)) n)
+    → straight c t l k (s.Compute (Apply o a b d) ∷ []) next (jumped (left b w (left a v z)) n)
     ≡ operated t l o (settled a z.locals v) (settled b z.locals w) (λ u. next (jumped (given z d u) (suc n)))
-apply_is c t l k d o operand.Top operand.Top next z n v w = refl
-apply_is c t l k d o operand.Top (operand.Local j) next z n v w = refl
-apply_is c t l k d o operand.Top (operand.Number m) next z n v w = refl
-apply_is c t l k d o (operand.Local i) operand.Top next z n v w = refl
-apply_is c t l k d o (operand.Local i) (operand.Local j) next z n v w = refl
-apply_is c t l k d o (operand.Local i) (operand.Number m) next z n v w = refl
-apply_is c t l k d o (operand.Number i) operand.Top next z n v w = refl
-apply_is c t l k d o (operand.Number i) (operand.Local j) next z n v w = refl
-apply_is c t l k d o (operand.Number i) (operand.Number m) next z n v w = refl
+apply_is c t l k d o operand.Top operand.Top next z n v w = apply_gives c t next (jumped (left operand.Top w (left operand.Top v z)) n) (instr l k (s.Compute (Apply o operand.Top operand.Top d))) o operand.Top operand.Top d
+apply_is c t l k d o operand.Top (operand.Local j) next z n v w = apply_gives c t next (jumped (left (operand.Local j) w (left operand.Top v z)) n) (instr l k (s.Compute (Apply o operand.Top (operand.Local j) d))) o operand.Top (operand.Local j) d
+apply_is c t l k d o operand.Top (operand.Number m) next z n v w = apply_gives c t next (jumped (left (operand.Number m) w (left operand.Top v z)) n) (instr l k (s.Compute (Apply o operand.Top (operand.Number m) d))) o operand.Top (operand.Number m) d
+apply_is c t l k d o (operand.Local i) operand.Top next z n v w = apply_gives c t next (jumped (left operand.Top w (left (operand.Local i) v z)) n) (instr l k (s.Compute (Apply o (operand.Local i) operand.Top d))) o (operand.Local i) operand.Top d
+apply_is c t l k d o (operand.Local i) (operand.Local j) next z n v w = apply_gives c t next (jumped (left (operand.Local j) w (left (operand.Local i) v z)) n) (instr l k (s.Compute (Apply o (operand.Local i) (operand.Local j) d))) o (operand.Local i) (operand.Local j) d
+apply_is c t l k d o (operand.Local i) (operand.Number m) next z n v w = apply_gives c t next (jumped (left (operand.Number m) w (left (operand.Local i) v z)) n) (instr l k (s.Compute (Apply o (operand.Local i) (operand.Number m) d))) o (operand.Local i) (operand.Number m) d
+apply_is c t l k d o (operand.Number i) operand.Top next z n v w = apply_gives c t next (jumped (left operand.Top w (left (operand.Number i) v z)) n) (instr l k (s.Compute (Apply o (operand.Number i) operand.Top d))) o (operand.Number i) operand.Top d
+apply_is c t l k d o (operand.Number i) (operand.Local j) next z n v w = apply_gives c t next (jumped (left (operand.Local j) w (left (operand.Number i) v z)) n) (instr l k (s.Compute (Apply o (operand.Number i) (operand.Local j) d))) o (operand.Number i) (operand.Local j) d
+apply_is c t l k d o (operand.Number i) (operand.Number m) next z n v w = apply_gives c t next (jumped (left (operand.Number m) w (left (operand.Number i) v z)) n) (instr l k (s.Compute (Apply o (operand.Number i) (operand.Number m) d))) o (operand.Number i) (operand.Number m) d
 
 -- a cell is read where its array has a number
 read_cell_is : (c : Flat) (t : Thread) (l k : ℕ) (d : Target) (x : List ℕ) (a : Operand) (next : State → Lists) (z : State) (n : ℕ) (v : ℤ) → IsArray t.program x
-    → straight c t l k (s.ReadCell (array_named t.program x) a d ∷ []) next (jumped (left a v z) n)
+    → straight c t l k (s.Ask (ReadCell (array_named t.program x) a d) ∷ []) next (jumped (left a v z) n)
     ≡ indexed t l (cells_named t.program x) (settled a z.locals v) (λ w. reading l w (λ u. next (jumped (given z d u) (suc n))))
 read_cell_is c t l k d x a next z n v h =
-    ap {B = Lists} (λ cells. straight c t l k (s.ReadCell (array_of cells) a d ∷ []) next (jumped (left a v z) n)) h.2
+    ap {B = Lists} (λ cells. straight c t l k (s.Ask (ReadCell (array_of cells) a d) ∷ []) next (jumped (left a v z) n)) h.2
     ∙ by a
     ∙ ap {B = Lists} (λ cells. indexed t l cells (settled a z.locals v) (λ w. reading l w (λ u. next (jumped (given z d u) (suc n))))) (sym h.2)
   where
     here : Option Cells
     here = Some (record { first = h.0; count = Some h.1 })
 
-    by : (b : Operand) → straight c t l k (s.ReadCell (array_of here) b d ∷ []) next (jumped (left b v z) n)
+    by : (b : Operand) → straight c t l k (s.Ask (ReadCell (array_of here) b d) ∷ []) next (jumped (left b v z) n)
         ≡ indexed t l here (settled b z.locals v) (λ w. reading l w (λ u. next (jumped (given z d u) (suc n))))
-    by operand.Top = refl
-    by (operand.Local j) = refl
-    by (operand.Number m) = refl
+    by operand.Top = read_cell_gives c t next (jumped (left operand.Top v z) n) (instr l k (s.Ask (ReadCell (array_of here) operand.Top d))) (array_of here) operand.Top d
+    by (operand.Local j) = read_cell_gives c t next (jumped (left (operand.Local j) v z) n) (instr l k (s.Ask (ReadCell (array_of here) (operand.Local j) d))) (array_of here) (operand.Local j) d
+    by (operand.Number m) = read_cell_gives c t next (jumped (left (operand.Number m) v z) n) (instr l k (s.Ask (ReadCell (array_of here) (operand.Number m) d))) (array_of here) (operand.Number m) d
 
 variable_is : (c : Flat) (t : Thread) (l k : ℕ) (d : Target) (x : List ℕ) (next : State → Lists) (z : State) (at : ℕ) (a : Option ℕ) → IsNumbered t.program x a
     → straight c t l k (variable_step t.program d x a ∷ []) next (jumped z at) ≡ variable t l (local_value z.locals a) x (λ v. next (jumped (given z d v) (suc at)))
@@ -163,7 +167,7 @@ steps_are c t l k xs d (cell x i) next z at h g =
     let env : Locals = named xs z.locals in
     let a : Operand = operand_of xs i in
     let before : List Step = operand_steps t.program xs i in
-    let last : List Step = s.ReadCell (array_named t.program x) a d ∷ [] in
+    let last : List Step = s.Ask (ReadCell (array_named t.program x) a d) ∷ [] in
     ap {B = Lists} (λ (m : State → Lists). m (jumped z at)) (straight_append c t l k before last next)
     ∙ operand_are c t l k xs i (straight c t l k last next) z at h (steps_are c t l k xs target.Push i (straight c t l k last next) z at h g.1)
     ∙ ap {B = Lists} (λ (m : ℤ → Lists). expression t l env i m) (fun_ext (λ v. read_cell_is c t l k d x a next z (skip at before) v g.0))
@@ -173,7 +177,7 @@ steps_are c t l k xs d (neg e) next z at h g =
     let env : Locals = named xs z.locals in
     let a : Operand = operand_of xs e in
     let before : List Step = operand_steps t.program xs e in
-    let last : List Step = s.Negate a d ∷ [] in
+    let last : List Step = s.Compute (Negate a d) ∷ [] in
     ap {B = Lists} (λ (m : State → Lists). m (jumped z at)) (straight_append c t l k before last next)
     ∙ operand_are c t l k xs e (straight c t l k last next) z at h (steps_are c t l k xs target.Push e (straight c t l k last next) z at h g)
     ∙ ap {B = Lists} (λ (m : ℤ → Lists). expression t l env e m) (fun_ext (λ v. negate_is c t l k d a next z (skip at before) v))
@@ -183,7 +187,7 @@ steps_are c t l k xs d (inverse e) next z at h g =
     let env : Locals = named xs z.locals in
     let a : Operand = operand_of xs e in
     let before : List Step = operand_steps t.program xs e in
-    let last : List Step = s.Invert a d ∷ [] in
+    let last : List Step = s.Compute (Invert a d) ∷ [] in
     ap {B = Lists} (λ (m : State → Lists). m (jumped z at)) (straight_append c t l k before last next)
     ∙ operand_are c t l k xs e (straight c t l k last next) z at h (steps_are c t l k xs target.Push e (straight c t l k last next) z at h g)
     ∙ ap {B = Lists} (λ (m : ℤ → Lists). expression t l env e m) (fun_ext (λ v. invert_is c t l k d a next z (skip at before) v))
@@ -195,7 +199,7 @@ steps_are c t l k xs d (bin o e f) next z at h g =
     let b : Operand = operand_of xs f in
     let first : List Step = operand_steps t.program xs e in
     let second : List Step = operand_steps t.program xs f in
-    let last : List Step = s.Apply o a b d ∷ [] in
+    let last : List Step = s.Compute (Apply o a b d) ∷ [] in
     let one : ℕ = skip at first in
     let two : ℕ = skip one second in
     ap {B = Lists} (λ (m : State → Lists). m (jumped z at)) (straight_append c t l k first (second ++ last) next)

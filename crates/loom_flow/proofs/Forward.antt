@@ -7,21 +7,24 @@ use Rattle.loom_lang.specs.Rules.{locals_of, KeepsRules, FunctionKeepsRules, Fun
 use Rattle.loom_lang.specs.Numbers.{position, function_number}
 use Rattle.loom_flow.specs.declared.code.Step.{Step}
 use Rattle.loom_flow.specs.declared.code.Step.TheVariants as s
+use Rattle.loom_flow.specs.declared.code.Compute.TheVariants.{Discard}
+use Rattle.loom_flow.specs.declared.code.Ask.TheVariants.{Spawn}
+use Rattle.loom_flow.specs.declared.code.Control.TheVariants.{Begin, Done, Edge, Jump, JumpIfZero, Call, Return, Out}
 use Rattle.loom_flow.specs.declared.code.Instr.{Instr}
 use Rattle.loom_flow.specs.declared.code.Entrance.{Entrance}
 use Rattle.loom_flow.specs.Flat.{Flat, resume}
-use Rattle.loom_flow.specs.Lowered.{or_zero, operand_of, operand_steps, argument_steps, call_steps, store_step, set_steps, simple_steps, resume_of, instr, instrs, size, place_count, body_code, body_sites, entrances, lowered}
+use Rattle.loom_flow.specs.FlatCode.{or_zero, operand_of, operand_steps, argument_steps, call_steps, store_step, set_steps, simple_steps, resume_of, instr, instrs, size, place_count, body_code, body_sites, entrances, lowered}
 use Rattle.loom_flow.specs.Laws.{IsInFunction, HasStart, LeadsInto, JumpsForward, KeepsFunctions}
-use Rattle.loom_flow.proofs.Lying.{Lies, lies_first, lies_second}
+use Rattle.loom_flow.proofs.Sublist.{Lies, lies_first, lies_second}
 use Rattle.loom_flow.proofs.Each.{all_append, Each, each_append, each_at, each_instrs, each_steps, same_element}
 use Rattle.loom_flow.proofs.Plain.{is_plain, CallsSimple, operand_all, arguments_all, simple_all}
 use Rattle.loom_flow.proofs.Sizes.{instrs_length, code_length, sites_length}
-use Rattle.loom_flow.proofs.Meeting.{condition_length}
+use Rattle.loom_flow.proofs.BodyTraces.{condition_length}
 use Rattle.loom_flow.proofs.Simple.{IsFunction}
 use Rattle.loom_flow.proofs.EachSimple.{IsKnownSimple}
-use Rattle.loom_flow.proofs.Meeting.{IsKnownBody}
+use Rattle.loom_flow.proofs.BodyTraces.{IsKnownBody}
 use Rattle.loom_flow.proofs.Roles.{body_known}
-use Rattle.loom_flow.proofs.Standing.{function_code, function_length, Stands, stands, covered}
+use Rattle.loom_flow.proofs.FunctionBounds.{function_code, function_length, Stands, stands, covered}
 
 -- All numbers from one to another are in `Q`.
 abbrev Inside : (ℕ → Type 0) → ℕ → ℕ → Type 0
@@ -41,34 +44,34 @@ LeadsWithin Q c lo hi l k x = (m : ℕ) → lo ≤ m → m < hi → LeadsInto Q 
 -- Statements
 
 plain_leads : (Q : ℕ → Type 0) (c : Flat) (lo hi l k : ℕ) → Inside Q lo hi → (x : Step) → is_plain x ≡ true → LeadsWithin Q c lo hi l k x
-plain_leads Q c lo hi l k q (s.Call f n) e m from to = cc
-plain_leads Q c lo hi l k q (s.Spawn f n d) e m from to = cc
-plain_leads Q c lo hi l k q (s.Edge at) e m from to = cc
-plain_leads Q c lo hi l k q (s.Jump at) e m from to = cc
-plain_leads Q c lo hi l k q (s.JumpIfZero a at) e m from to = cc
-plain_leads Q c lo hi l k q s.Out e m from to = cc
-plain_leads Q c lo hi l k q (s.Return a) e m from to = tt
+plain_leads Q c lo hi l k q (s.Control (Call f n)) e m from to = cc
+plain_leads Q c lo hi l k q (s.Ask (Spawn f n d)) e m from to = cc
+plain_leads Q c lo hi l k q (s.Control (Edge at)) e m from to = cc
+plain_leads Q c lo hi l k q (s.Control (Jump at)) e m from to = cc
+plain_leads Q c lo hi l k q (s.Control (JumpIfZero a at)) e m from to = cc
+plain_leads Q c lo hi l k q (s.Control Out) e m from to = cc
+plain_leads Q c lo hi l k q (s.Control (Return a)) e m from to = tt
 plain_leads Q c lo hi l k q _ e m from to = q (suc m) (omega (arith, from)) to
 
 -- a call, with what stands before and behind it
 call_leads : (Q : ℕ → Type 0) (c : Flat) (lo hi l k at : ℕ) (xs : List (List ℕ)) (f : List ℕ) (es : List Expression) (x : Step) (ys : List Step) → Inside Q lo hi → Starts c → IsFunction c.program f → is_plain x ≡ true
-    → ys ≡ argument_steps c.program xs es ++ s.Call (or_zero (function_number c.program f)) (length es) ∷ x ∷ s.Done ∷ []
-    → resume (slice_get c.sites k) ≡ at + (1 + length (call_steps c.program xs f es)) → lo ≤ at → at + suc (length ys) ≤ hi → Each (LeadsAt Q c) at (instrs l k (s.Begin ∷ ys))
+    → ys ≡ argument_steps c.program xs es ++ s.Control (Call (or_zero (function_number c.program f)) (length es)) ∷ x ∷ s.Control Done ∷ []
+    → resume (slice_get c.sites k) ≡ at + (1 + length (call_steps c.program xs f es)) → lo ≤ at → at + suc (length ys) ≤ hi → Each (LeadsAt Q c) at (instrs l k (s.Control Begin ∷ ys))
 call_leads Q c lo hi l k at xs f es x ys q starts known plain same site from to =
     let before : List Step = argument_steps c.program xs es in
-    let call : Step = s.Call (or_zero (function_number c.program f)) (length es) in
+    let call : Step = s.Control (Call (or_zero (function_number c.program f)) (length es)) in
     let m : ℕ = at + suc (length before) in
-    let n : length ys ≡ length before + 3 = ap length same ∙ length-append before (call ∷ x ∷ s.Done ∷ []) in
+    let n : length ys ≡ length before + 3 = ap length same ∙ length-append before (call ∷ x ∷ s.Control Done ∷ []) in
     let d : length (call_steps c.program xs f es) ≡ length before + 1 = length-append before (call ∷ []) in
     let resumes : resume (slice_get c.sites k) ≡ suc m = omega (arith, site, d) in
-    subst (λ zs. Each (LeadsAt Q c) at (instrs l k (s.Begin ∷ zs))) (sym same)
-    (each_steps (LeadsAt Q c) at l k (s.Begin ∷ before) (call ∷ x ∷ s.Done ∷ [])
-    (each_instrs (LeadsAt Q c) lo hi at l k (s.Begin ∷ before) from (omega (arith, n, to))
-    (plain_leads Q c lo hi l k q s.Begin refl, arguments_all (LeadsWithin Q c lo hi l k) (plain_leads Q c lo hi l k q) c.program xs es)) (
+    subst (λ zs. Each (LeadsAt Q c) at (instrs l k (s.Control Begin ∷ zs))) (sym same)
+    (each_steps (LeadsAt Q c) at l k (s.Control Begin ∷ before) (call ∷ x ∷ s.Control Done ∷ [])
+    (each_instrs (LeadsAt Q c) lo hi at l k (s.Control Begin ∷ before) from (omega (arith, n, to))
+    (plain_leads Q c lo hi l k q (s.Control Begin) refl, arguments_all (LeadsWithin Q c lo hi l k) (plain_leads Q c lo hi l k q) c.program xs es)) (
       (q (suc m) (omega (arith, from)) (omega (arith, n, to)), starts f known, resumes),
       (
         plain_leads Q c lo hi l k q x plain (suc m) (omega (arith, from)) (omega (arith, n, to)),
-        (plain_leads Q c lo hi l k q s.Done refl (suc (suc m)) (omega (arith, from)) (omega (arith, n, to)), tt),
+        (plain_leads Q c lo hi l k q (s.Control Done) refl (suc (suc m)) (omega (arith, from)) (omega (arith, n, to)), tt),
       ),
     ))
 
@@ -81,10 +84,10 @@ set_call_leads : (Q : ℕ → Type 0) (c : Flat) (lo hi l k at : ℕ) (xs : List
     → Each (LeadsAt Q c) at (instrs l k (simple_steps c.program xs (set x (Right.call f es))))
 set_call_leads Q c lo hi l k at xs x f es q starts known site from to =
     let before : List Step = argument_steps c.program xs es in
-    let call : Step = s.Call (or_zero (function_number c.program f)) (length es) in
+    let call : Step = s.Control (Call (or_zero (function_number c.program f)) (length es)) in
     let store : Step = store_step c.program x (position x xs) in
-    call_leads Q c lo hi l k at xs f es store (set_steps c.program xs x (Right.call f es) ++ s.Done ∷ []) q starts known (store_plain c.program x (position x xs))
-    (append_assoc (before ++ call ∷ []) (store ∷ []) (s.Done ∷ []) ∙ append_assoc before (call ∷ []) (store ∷ s.Done ∷ [])) site from to
+    call_leads Q c lo hi l k at xs f es store (set_steps c.program xs x (Right.call f es) ++ s.Control Done ∷ []) q starts known (store_plain c.program x (position x xs))
+    (append_assoc (before ++ call ∷ []) (store ∷ []) (s.Control Done ∷ []) ∙ append_assoc before (call ∷ []) (store ∷ s.Control Done ∷ [])) site from to
 
 -- a statement without a call
 other_leads : (Q : ℕ → Type 0) (c : Flat) (lo hi l k at : ℕ) (xs : List (List ℕ)) (x : Simple Expression) → Inside Q lo hi → CallsSimple (LeadsWithin Q c lo hi l k) c.program x
@@ -103,20 +106,20 @@ simple_leads Q c lo hi l k at xs q starts (set x (Right.value e)) known site fro
 simple_leads Q c lo hi l k at xs q starts (set x (Right.spawn f es)) known site from to =
     other_leads Q c lo hi l k at xs (set x (Right.spawn f es)) q (λ m above below. (q (suc m) (omega (arith, above)) below, starts f known.1.0)) from to
 simple_leads Q c lo hi l k at xs q starts (Simple.call f es) known site from to =
-    call_leads Q c lo hi l k at xs f es s.Discard (call_steps c.program xs f es ++ s.Discard ∷ s.Done ∷ []) q starts known.0 refl
-    (append_assoc (argument_steps c.program xs es) (s.Call (or_zero (function_number c.program f)) (length es) ∷ []) (s.Discard ∷ s.Done ∷ [])) site from to
+    call_leads Q c lo hi l k at xs f es (s.Compute Discard) (call_steps c.program xs f es ++ s.Compute Discard ∷ s.Control Done ∷ []) q starts known.0 refl
+    (append_assoc (argument_steps c.program xs es) (s.Control (Call (or_zero (function_number c.program f)) (length es)) ∷ []) (s.Compute Discard ∷ s.Control Done ∷ [])) site from to
 simple_leads Q c lo hi l k at xs q starts x known site from to = other_leads Q c lo hi l k at xs x q tt from to
 
 -- a statement's beginning and its condition
 condition_leads : (Q : ℕ → Type 0) (c : Flat) (lo hi at l k to : ℕ) (xs : List (List ℕ)) (e : Expression) → Inside Q lo hi → lo ≤ at → at + (2 + length (operand_steps c.program xs e)) ≤ to → to ≤ hi
-    → Each (LeadsAt Q c) at (instrs l k (s.Begin ∷ (operand_steps c.program xs e ++ s.JumpIfZero (operand_of xs e) to ∷ [])))
+    → Each (LeadsAt Q c) at (instrs l k (s.Control Begin ∷ (operand_steps c.program xs e ++ s.Control (JumpIfZero (operand_of xs e) to) ∷ [])))
 condition_leads Q c lo hi at l k to xs e q from ahead below =
     let before : List Step = operand_steps c.program xs e in
-    let jump : Step = s.JumpIfZero (operand_of xs e) to in
+    let jump : Step = s.Control (JumpIfZero (operand_of xs e) to) in
     let within : Inside Q lo to = λ m above under. q m above (omega (arith, under, below)) in
-    let n : length (s.Begin ∷ (before ++ jump ∷ [])) ≡ 2 + length before = let d : length (before ++ jump ∷ []) ≡ length before + 1 = length-append before (jump ∷ []) in omega arith in
-    each_instrs (LeadsAt Q c) lo to at l k (s.Begin ∷ (before ++ jump ∷ [])) from (omega (arith, n, ahead)) (
-      plain_leads Q c lo to l k within s.Begin refl,
+    let n : length (s.Control Begin ∷ (before ++ jump ∷ [])) ≡ 2 + length before = let d : length (before ++ jump ∷ []) ≡ length before + 1 = length-append before (jump ∷ []) in omega arith in
+    each_instrs (LeadsAt Q c) lo to at l k (s.Control Begin ∷ (before ++ jump ∷ [])) from (omega (arith, n, ahead)) (
+      plain_leads Q c lo to l k within (s.Control Begin) refl,
       all_append (LeadsWithin Q c lo to l k) before (jump ∷ []) (operand_all (LeadsWithin Q c lo to l k) (plain_leads Q c lo to l k within) c.program xs e)
           ((λ m above under. (within (suc m) (omega (arith, above)) under, under, within to (omega (arith, from, ahead)) (le_refl to))), tt),
     )
@@ -137,7 +140,7 @@ body_leads Q c lo hi xs q starts at k (if_ l e a b rest) from to sites known =
     let first : ℕ = at + (2 + length before) in
     let second : ℕ = first + (1 + size p xs a) in
     let last : ℕ = second + size p xs b in
-    let jump : Step = s.JumpIfZero (operand_of xs e) second in
+    let jump : Step = s.Control (JumpIfZero (operand_of xs e) second) in
     let sites_a : Lies c.sites (suc k) (body_sites p xs first a) = lies_first c.sites (suc k) (body_sites p xs first a) (body_sites p xs second b ++ body_sites p xs (suc last) rest) sites.1 in
     let sites_from_b : Lies c.sites (suc k + place_count a) (body_sites p xs second b ++ body_sites p xs (suc last) rest) =
     subst (λ i. Lies c.sites i (body_sites p xs second b ++ body_sites p xs (suc last) rest)) (ap (λ i. suc k + i) (sites_length p xs a first))
@@ -146,12 +149,12 @@ body_leads Q c lo hi xs q starts at k (if_ l e a b rest) from to sites known =
     let sites_rest : Lies c.sites (suc k + place_count a + place_count b) (body_sites p xs (suc last) rest) =
     subst (λ i. Lies c.sites i (body_sites p xs (suc last) rest)) (ap (λ i. suc k + place_count a + i) (sites_length p xs b second))
     (lies_second c.sites (suc k + place_count a) (body_sites p xs second b) (body_sites p xs (suc last) rest) sites_from_b) in
-    each_append (LeadsAt Q c) at first (instrs l k (s.Begin ∷ (before ++ jump ∷ []))) _ (ap (λ m. at + m) (condition_length l k before s.Begin jump))
+    each_append (LeadsAt Q c) at first (instrs l k (s.Control Begin ∷ (before ++ jump ∷ []))) _ (ap (λ m. at + m) (condition_length l k before (s.Control Begin) jump))
     (condition_leads Q c lo hi at l k second xs e q from (omega arith) (omega (arith, to)))
     (each_append (LeadsAt Q c) first (first + size p xs a) (body_code p xs first (suc k) a) _ (ap (λ m. first + m) (code_length p xs a first (suc k)))
     (body_leads Q c lo hi xs q starts first (suc k) a (omega (arith, from)) (omega (arith, to)) sites_a known.1) (
       (q (suc (first + size p xs a)) (omega (arith, from)) (omega (arith, to)), omega arith, q last (omega (arith, from)) (omega (arith, to))),
-      subst (λ m. Each (LeadsAt Q c) m (body_code p xs second (suc k + place_count a) b ++ instr l k s.Done ∷ body_code p xs (suc last) (suc k + place_count a + place_count b) rest)) (omega arith)
+      subst (λ m. Each (LeadsAt Q c) m (body_code p xs second (suc k + place_count a) b ++ instr l k (s.Control Done) ∷ body_code p xs (suc last) (suc k + place_count a + place_count b) rest)) (omega arith)
           (each_append (LeadsAt Q c) second last (body_code p xs second (suc k + place_count a) b) _ (ap (λ m. second + m) (code_length p xs b second (suc k + place_count a)))
           (body_leads Q c lo hi xs q starts second (suc k + place_count a) b (omega (arith, from)) (omega (arith, to)) sites_b known.2) (
             q (suc last) (omega (arith, from)) (omega (arith, to)),
@@ -166,7 +169,7 @@ body_leads Q c lo hi xs q starts at k (while_ l e a rest) from to sites known =
     let last : ℕ = first + (1 + size p xs a) in
     let place : ℕ = at + (2 + length before) in
     let same : place ≡ first = omega arith in
-    let jump : Step = s.JumpIfZero (operand_of xs e) last in
+    let jump : Step = s.Control (JumpIfZero (operand_of xs e) last) in
     let sites_a : Lies c.sites (suc (suc k)) (body_sites p xs first a) =
     subst (λ i. Lies c.sites (suc (suc k)) (body_sites p xs i a)) same
     (lies_first c.sites (suc (suc k)) (body_sites p xs place a) (body_sites p xs (suc (place + (1 + size p xs a))) rest) sites.1.1) in
@@ -174,7 +177,7 @@ body_leads Q c lo hi xs q starts at k (while_ l e a rest) from to sites known =
     subst (λ i. Lies c.sites (suc (suc k) + place_count a) (body_sites p xs (suc (i + (1 + size p xs a))) rest)) same
     (subst (λ i. Lies c.sites i (body_sites p xs (suc (place + (1 + size p xs a))) rest)) (ap (λ i. suc (suc k) + i) (sites_length p xs a place))
     (lies_second c.sites (suc (suc k)) (body_sites p xs place a) (body_sites p xs (suc (place + (1 + size p xs a))) rest) sites.1.1)) in
-    each_append (LeadsAt Q c) at first (instrs l k (s.Begin ∷ (before ++ jump ∷ []))) _ (ap (λ m. at + m) (condition_length l k before s.Begin jump) ∙ same)
+    each_append (LeadsAt Q c) at first (instrs l k (s.Control Begin ∷ (before ++ jump ∷ []))) _ (ap (λ m. at + m) (condition_length l k before (s.Control Begin) jump) ∙ same)
     (condition_leads Q c lo hi at l k last xs e q from (omega arith) (omega (arith, to)))
     (each_append (LeadsAt Q c) first (first + size p xs a) (body_code p xs first (suc (suc k)) a) _ (ap (λ m. first + m) (code_length p xs a first (suc (suc k))))
     (body_leads Q c lo hi xs q starts first (suc (suc k)) a (omega (arith, from)) (omega (arith, to)) sites_a known.1) (
@@ -251,13 +254,13 @@ lowered_keeps p l = record {
 
 -- into more
 leads_into : (Q R : ℕ → Type 0) (c : Flat) (at : ℕ) (i : Instr) → ((m : ℕ) → Q m → R m) → (x : Step) → LeadsInto Q c at i x → LeadsInto R c at i x
-leads_into Q R c at i f (s.Jump to) h = (f (suc at) h.0, h.1, f to h.2)
-leads_into Q R c at i f (s.JumpIfZero a to) h = (f (suc at) h.0, h.1, f to h.2)
-leads_into Q R c at i f (s.Edge to) h = (f (suc at) h.0, f to h.1)
-leads_into Q R c at i f (s.Call g n) h = (f (suc at) h.0, h.1, h.2)
-leads_into Q R c at i f (s.Spawn g n d) h = (f (suc at) h.0, h.1)
-leads_into Q R c at i f (s.Return a) h = tt
-leads_into Q R c at i f s.Out h = tt
+leads_into Q R c at i f (s.Control (Jump to)) h = (f (suc at) h.0, h.1, f to h.2)
+leads_into Q R c at i f (s.Control (JumpIfZero a to)) h = (f (suc at) h.0, h.1, f to h.2)
+leads_into Q R c at i f (s.Control (Edge to)) h = (f (suc at) h.0, f to h.1)
+leads_into Q R c at i f (s.Control (Call g n)) h = (f (suc at) h.0, h.1, h.2)
+leads_into Q R c at i f (s.Ask (Spawn g n d)) h = (f (suc at) h.0, h.1)
+leads_into Q R c at i f (s.Control (Return a)) h = tt
+leads_into Q R c at i f (s.Control Out) h = tt
 leads_into Q R c at i f _ h = f (suc at) h
 
 pub lowered_forward : (p : Source) → KeepsRules p → JumpsForward (lowered p)

@@ -1,19 +1,24 @@
 -- Frames, calls and threads
-use Rattle.std.proofs.Common.{ℕ, suc, zero, ◌+◌, ◌≡◌, ◌≤◌, List, [], ◌∷◌, ◌++◌, Bool, ℤ, pos, Option, Some, None, refl, sym, ap, subst, ◌∙◌, slice_get, length, length-append, map, inl, inr, nat_lt, arith}
+use Rattle.std.proofs.Common.{ℕ, suc, zero, ◌+◌, ◌-◌, ◌≡◌, ◌≤◌, List, [], ◌∷◌, ◌++◌, Bool, ℤ, pos, Option, Some, None, refl, sym, ap, subst, ◌∙◌, slice_get, length, length-append, map, inl, inr, nat_lt, arith}
 use Rattle.std.proofs.lemmas.Bool.{lt-ltb}
 use Rattle.loom_tree.specs.Tree.{Function, Source}
 use Rattle.loom_lang.specs.Rules.{lets, locals_of}
 use Rattle.loom_lang.specs.Trace as trace
 use Rattle.loom_lang.specs.Trace.{Item, Outcome, Lists, Thread, Locals, Calls, made, enter, out, broken, emit, any, choice, trapped, body, bound, framed, calls_to, frame_limit, ended, IsTrace}
 use Rattle.loom_flow.specs.declared.code.Step.TheVariants as s
+use Rattle.loom_flow.specs.declared.code.Control.TheVariants.{Out}
 use Rattle.loom_flow.specs.declared.code.Entrance.{Entrance}
-use Rattle.loom_flow.specs.Flat.{Flat, Frame, State, filled, frame_locals, named, names, returned, entered}
-use Rattle.loom_flow.specs.Lowered.{instr, size, place_count, body_code, body_sites}
+use Rattle.loom_flow.specs.Flat.{Flat}
+use Rattle.loom_flow.specs.State.{frame_room, Frame, State, filled, frame_locals, named, names, locals_now, at_start}
+use Rattle.loom_flow.specs.Progress.{enters}
+use Rattle.loom_flow.specs.FlatTrace.{followed}
+use Rattle.loom_flow.specs.FlatCode.{instr, size, place_count, body_code, body_sites}
 use Rattle.loom_flow.proofs.Relations.{Within, Meets, meets_itself, meets_same, meets_on, meets_emit}
-use Rattle.loom_flow.proofs.Lying.{Lies}
+use Rattle.loom_flow.proofs.Steps.{by_states, returned, entered}
+use Rattle.loom_flow.proofs.Sublist.{Lies}
 use Rattle.loom_flow.proofs.Straight.{meets_instr}
 use Rattle.loom_flow.proofs.Simple.{CallsMeet}
-use Rattle.loom_flow.proofs.Meeting.{Runner, IsKnownBody, body_meets}
+use Rattle.loom_flow.proofs.BodyTraces.{Runner, IsKnownBody, body_meets}
 
 -- Locals of a new frame
 
@@ -36,9 +41,9 @@ named_frame (suc n) (x ∷ xs) ys (v ∷ vs) h = ap (λ (env : Locals). (x, v) �
 -- A function of the tree stands in the code.
 pub record IsPlaced (c : Flat) (g : Function) (e : Entrance) : Type 0 where
   pub params : e.params ≡ length g.params
-  pub few : length (locals_of g) ≤ 32
+  pub few : length (locals_of g) ≤ frame_room
   pub code : Lies c.code e.start (body_code c.program (locals_of g) e.start (suc e.place) g.body)
-  pub last : slice_get c.code (e.start + size c.program (locals_of g) g.body) ≡ Some (instr g.line (suc e.place + place_count g.body) s.Out)
+  pub last : slice_get c.code (e.start + size c.program (locals_of g) g.body) ≡ Some (instr g.line (suc e.place + place_count g.body) (s.Control Out))
   pub sites : Lies c.sites (suc e.place) (body_sites c.program (locals_of g) e.start g.body)
   pub known : IsKnownBody c.program (locals_of g) g.body
 
@@ -51,58 +56,67 @@ ArePlaced c = (f : ℕ) → IsFunctionPlaced c (slice_get c.program.funcs f) (sl
 
 frame_named : (c : Flat) (g : Function) (e : Entrance) (vs : List ℤ) → IsPlaced c g e → named (locals_of g) (frame_locals e vs) ≡ trace.frame_locals g vs
 frame_named c g e vs h =
-    let few : length (locals_of g) ≤ 32 = h.few in
+    let few : length (locals_of g) ≤ frame_room = h.few in
     let is : length (locals_of g) ≡ length g.params + length (lets g.body) = length-append g.params (lets g.body) in
-    ap (λ n. named (locals_of g) (filled 32 (filled n vs))) h.params ∙ named_frame 32 g.params (lets g.body) vs (omega arith)
+    ap (λ n. named (locals_of g) (filled frame_room (filled n vs))) h.params ∙ named_frame frame_room g.params (lets g.body) vs (omega arith)
 
 frame_length : (c : Flat) (g : Function) (e : Entrance) (vs : List ℤ) → IsPlaced c g e → length (locals_of g) ≤ length (frame_locals e vs)
-frame_length c g e vs h = subst (λ n. length (locals_of g) ≤ n) (sym (filled_length 32 (filled e.params vs))) h.few
+frame_length c g e vs h = subst (λ n. length (locals_of g) ≤ n) (sym (filled_length frame_room (filled e.params vs))) h.few
 
 -- A frame from its entrance on
+
+-- at the start of a function
+abbrev pub starts : Flat → Thread → (State → Lists) → ℕ → State → Lists
+starts c t m f z = followed t (by_states c t m) (enters c f z)
+
+enter_named : (c : Flat) (f : ℕ) (g : Function) (e : Entrance) (vs ws : List ℤ) (below : List Frame) → slice_get c.program.funcs f ≡ Some g → IsPlaced c g e → locals_now c (at_start f e vs ws below) ≡ trace.frame_locals g vs
+enter_named c f g e vs ws below found placed = ap (λ o. named (names o) (frame_locals e vs)) found ∙ frame_named c g e vs placed
 
 frame_meets : (b : Bool) (c : Flat) (t : Thread) (m : ℕ → State → Lists) → Runner b c t m → t.program ≡ c.program → (most n : ℕ) → n ≤ most → (calls : Calls) (f : ℕ) (g : Function) (e : Entrance) (vs ws : List ℤ) (below : List Frame) (more : ℤ → Lists)
     → slice_get c.program.funcs f ≡ Some g → IsPlaced c g e
     → ((j : ℕ) → j ≤ n → CallsMeet b c t m j (length below) calls)
     → ((j : ℕ) → j ≤ n → (v : ℤ) → Meets b (returned c t (m j) ws v below) (more v))
-    → Meets b (m n (record { at = e.start; values = ws; func = f; locals = frame_locals e vs; below = below }))
-    (body t calls most (trace.frame_locals g vs) g.body (λ v. emit (out f) (more v)) (λ env. emit (out f) (more (pos 0))))
+    → Meets b (starts c t (m n) f (at_start f e vs ws below)) (framed t calls most f vs more (Some g))
 frame_meets b c t m runner same most n le calls f g e vs ws below more found placed meets returns =
-    let z : State = record { at = e.start; values = ws; func = f; locals = frame_locals e vs; below = below } in
+    let z : State = at_start f e vs ws below in
     let xs : List (List ℕ) = locals_of g in
     let code : Lies c.code e.start (body_code t.program xs e.start (suc e.place) g.body) = subst (λ (p : Source). Lies c.code e.start (body_code p xs e.start (suc e.place) g.body)) (sym same) placed.code in
     let sites : Lies c.sites (suc e.place) (body_sites t.program xs e.start g.body) = subst (λ (p : Source). Lies c.sites (suc e.place) (body_sites p xs e.start g.body)) (sym same) placed.sites in
     let known : IsKnownBody t.program xs g.body = subst (λ (p : Source). IsKnownBody p xs g.body) (sym same) placed.known in
-    let last : slice_get c.code (e.start + size t.program xs g.body) ≡ Some (instr g.line (suc e.place + place_count g.body) s.Out) =
+    let last : slice_get c.code (e.start + size t.program xs g.body) ≡ Some (instr g.line (suc e.place + place_count g.body) (s.Control Out)) =
     ap (λ (p : Source). slice_get c.code (e.start + size p xs g.body)) same ∙ placed.last in
-    subst (λ (env : Locals). Meets b (m n z) (body t calls most env g.body (λ v. emit (out f) (more v)) (λ env'. emit (out f) (more (pos 0))))) (frame_named c g e vs placed)
+    let behind : Locals → Lists = λ env. body t calls most env g.body (λ v. emit (out f) (more v)) (λ env'. emit (out f) (more (pos 0))) in
+    meets_on b _ (emit (enter f (trace.frame_locals g vs)) (m n z)) _
+    (meets_same b _ _ (ap {B = Lists} (λ env. emit (enter f env) (m n z)) (enter_named c f g e vs ws below found placed)))
+    (meets_emit b (enter f (trace.frame_locals g vs)) (m n z) (behind (trace.frame_locals g vs))
+    (subst (λ (env : Locals). Meets b (m n z) (behind env)) (frame_named c g e vs placed)
     (body_meets b c t m runner most n le calls xs z g.body (suc e.place) e.start (λ v. emit (out f) (more v)) (λ env. emit (out f) (more (pos 0)))
     meets (ap names found) (frame_length c g e vs placed) known code sites
     (λ j under v. meets_emit b (out f) _ _ (returns j under v))
     (λ j under us h. meets_on b _ (emit (out f) (returned c t (m j) ws (pos 0) below)) _
-    (meets_instr b c t (m j) (record z { at = e.start + size t.program xs g.body; locals = us }) (instr g.line (suc e.place + place_count g.body) s.Out) (runner.fetches j) last)
-    (meets_emit b (out f) _ _ (returns j under (pos 0)))))
+    (meets_instr b c t (m j) (record z { at = e.start + size t.program xs g.body; locals = us }) (instr g.line (suc e.place + place_count g.body) (s.Control Out)) (runner.fetches j) last)
+    (meets_emit b (out f) _ _ (returns j under (pos 0)))))))
 
 -- Calls, with so many frames left
 
-calls_meet : (b : Bool) (c : Flat) (t : Thread) (m : ℕ → State → Lists) → Runner b c t m → t.program ≡ c.program → ArePlaced c → (most : ℕ) (d n : ℕ) → n ≤ most → (depth : ℕ) → suc depth + d ≡ 256
+calls_meet : (b : Bool) (c : Flat) (t : Thread) (m : ℕ → State → Lists) → Runner b c t m → t.program ≡ c.program → ArePlaced c → (most : ℕ) (d n : ℕ) → n ≤ most → (depth : ℕ) → suc depth + d ≡ frame_limit
     → CallsMeet b c t m n depth (calls_to t most d)
 calls_meet b c t m runner same placed most zero n le depth full z i f vs more deep resumes =
-    meets_same b _ _ (ap {B = Lists} (λ q. choice q (entered c (m n) z i f vs (slice_get c.entrances f)) (trapped t i.line trace.frames)) (ap (λ q. nat_lt q frame_limit) (ap suc deep ∙ (let e : suc depth ≡ 256 = omega (arith, full) in e))))
+    meets_same b _ _ (ap {B = Lists} (λ q. choice q (entered c t (m n) z i f vs (slice_get c.entrances f)) (trapped t i.line trace.frames)) (ap (λ q. nat_lt q frame_limit) (ap suc deep ∙ (let e : suc depth ≡ frame_limit = omega (arith, full) in e))))
 calls_meet b c t m runner same placed most (suc d) n le depth full z i f vs more deep resumes =
-    meets_on b _ (entered c (m n) z i f vs (slice_get c.entrances f)) _
-    (meets_same b _ _ (ap {B = Lists} (λ q. choice q (entered c (m n) z i f vs (slice_get c.entrances f)) (trapped t i.line trace.frames)) (lt-ltb (suc (length z.below)) frame_limit (omega (arith, full, deep)))))
+    meets_on b _ (entered c t (m n) z i f vs (slice_get c.entrances f)) _
+    (meets_same b _ _ (ap {B = Lists} (λ q. choice q (entered c t (m n) z i f vs (slice_get c.entrances f)) (trapped t i.line trace.frames)) (lt-ltb (suc (length z.below)) frame_limit (omega (arith, full, deep)))))
     (meets_on b _ (framed t (calls_to t most d) most f vs more (slice_get c.program.funcs f)) _
     (by (λ j under. calls_meet b c t m runner same placed most d j (omega (arith, under, le)) (suc (length z.below)) (omega (arith, full, deep))) (slice_get c.program.funcs f) refl (slice_get c.entrances f) (placed f))
     (meets_same b _ _ (ap {B = Lists} (λ (p : Source). framed t (calls_to t most d) most f vs more (slice_get p.funcs f)) (sym same))))
   where
-    by : ((j : ℕ) → j ≤ n → CallsMeet b c t m j (suc (length z.below)) (calls_to t most d)) → (o : Option Function) → slice_get c.program.funcs f ≡ o → (q : Option Entrance) → IsFunctionPlaced c o q → Meets b (entered c (m n) z i f vs q) (framed t (calls_to t most d) most f vs more o)
-    by again None found q h = meets_same b _ _ (ap {B = Lists} (entered c (m n) z i f vs) h)
+    by : ((j : ℕ) → j ≤ n → CallsMeet b c t m j (suc (length z.below)) (calls_to t most d)) → (o : Option Function) → slice_get c.program.funcs f ≡ o → (q : Option Entrance) → IsFunctionPlaced c o q → Meets b (entered c t (m n) z i f vs q) (framed t (calls_to t most d) most f vs more o)
+    by again None found q h = meets_same b _ _ (ap {B = Lists} (entered c t (m n) z i f vs) h)
     by again (Some g) found q h =
-        meets_on b _ (entered c (m n) z i f vs (Some h.0)) _
-        (meets_same b _ _ (ap {B = Lists} (entered c (m n) z i f vs) h.1))
-        (meets_emit b (enter f) _ _
+        meets_on b _ (entered c t (m n) z i f vs (Some h.0)) _
+        (meets_same b _ _ (ap {B = Lists} (entered c t (m n) z i f vs) h.1))
         (frame_meets b c t m runner same most n le (calls_to t most d) f g h.0 vs z.values ((record { func = z.func; locals = z.locals; site = i.place }) ∷ z.below) more found h.2
-        again resumes))
+        again resumes)
 
 -- Threads
 
@@ -114,10 +128,9 @@ ever_behind i j m es r (inr (fs, e, inr (gs, d, h))) = (h.0, inr (fs, e, inr (gs
 
 pub first_frame : (b : Bool) (c : Flat) (t : Thread) (m : ℕ → State → Lists) → Runner b c t m → t.program ≡ c.program → ArePlaced c → (most n : ℕ) → n ≤ most → (f line : ℕ) (vs : List ℤ) (g : Function) (e : Entrance)
     → slice_get c.program.funcs f ≡ Some g → IsPlaced c g e
-    → Meets b (emit (enter f) (m n (record { at = e.start; values = []; func = f; locals = frame_locals e vs; below = [] }))) (calls_to t most frame_limit line f vs (λ v. t.stopped))
+    → Meets b (starts c t (m n) f (at_start f e vs [] [])) (calls_to t most frame_limit line f vs (λ v. t.stopped))
 first_frame b c t m runner same placed most n le f line vs g e found here =
-    meets_on b _ (framed t (calls_to t most 255) most f vs (λ v. t.stopped) (Some g)) _
-    (meets_emit b (enter f) _ _
-    (frame_meets b c t m runner same most n le (calls_to t most 255) f g e vs [] [] (λ v. t.stopped) found here
-    (λ j under. calls_meet b c t m runner same placed most 255 j (omega (arith, under, le)) 0 refl) (λ j under v. meets_itself b t.stopped)))
-    (meets_same b _ _ (ap {B = Lists} (framed t (calls_to t most 255) most f vs (λ v. t.stopped)) (sym found ∙ ap (λ (p : Source). slice_get p.funcs f) (sym same))))
+    meets_on b _ (framed t (calls_to t most (frame_limit - 1)) most f vs (λ v. t.stopped) (Some g)) _
+    (frame_meets b c t m runner same most n le (calls_to t most (frame_limit - 1)) f g e vs [] [] (λ v. t.stopped) found here
+    (λ j under. calls_meet b c t m runner same placed most (frame_limit - 1) j (omega (arith, under, le)) 0 refl) (λ j under v. meets_itself b t.stopped))
+    (meets_same b _ _ (ap {B = Lists} (framed t (calls_to t most (frame_limit - 1)) most f vs (λ v. t.stopped)) (sym found ∙ ap (λ (p : Source). slice_get p.funcs f) (sym same))))

@@ -6,28 +6,29 @@ use Rattle.loom_flow.specs.declared.code.Instr.{Instr}
 use Rattle.loom_flow.specs.declared.code.Site.{Site}
 use Rattle.loom_flow.specs.declared.code.Entrance.{Entrance}
 use Rattle.loom_flow.specs.declared.code.Step.TheVariants as s
-use Rattle.loom_flow.specs.Lowered.{instr, site, size, place_count, body_code, body_sites, functions_code, functions_sites, entrances, calls_body, set_of, lowered}
+use Rattle.loom_flow.specs.declared.code.Control.TheVariants.{Out}
+use Rattle.loom_flow.specs.FlatCode.{instr, site, size, place_count, body_code, body_sites, functions_code, functions_sites, entrances, calls_body, set_of, lowered, place_limit}
 use Rattle.loom_flow.proofs.Sizes.{code_length, sites_length}
-use Rattle.loom_flow.proofs.Kept.{few_sites}
+use Rattle.loom_flow.proofs.FlowLaws.{few_sites}
 
 pub function_code : (p : Source) (names known : List (List ℕ)) (l at place first last : ℕ) (b : Body) (old ran new : List Instr) →
     names ≡ known →
     ran ≡ old ++ body_code p names at first b →
     first ≡ suc place →
-    new ≡ ran ++ instr l last s.Out ∷ [] →
+    new ≡ ran ++ instr l last (s.Control Out) ∷ [] →
     last ≡ suc place + place_count b →
-    new ≡ old ++ (body_code p known at (suc place) b ++ instr l (suc place + place_count b) s.Out ∷ [])
+    new ≡ old ++ (body_code p known at (suc place) b ++ instr l (suc place + place_count b) (s.Control Out) ∷ [])
 function_code p names known l at place first last b old ran new h1 h2 h3 h4 h5 =
     h4
-    ∙ ap (λ z. z ++ instr l last s.Out ∷ []) (h2 ∙ ap (λ z. old ++ body_code p z at first b) h1 ∙ ap (λ n. old ++ body_code p known at n b) h3)
-    ∙ append_assoc old (body_code p known at (suc place) b) (instr l last s.Out ∷ [])
-    ∙ ap (λ n. old ++ (body_code p known at (suc place) b ++ instr l n s.Out ∷ [])) h5
+    ∙ ap (λ z. z ++ instr l last (s.Control Out) ∷ []) (h2 ∙ ap (λ z. old ++ body_code p z at first b) h1 ∙ ap (λ n. old ++ body_code p known at n b) h3)
+    ∙ append_assoc old (body_code p known at (suc place) b) (instr l last (s.Control Out) ∷ [])
+    ∙ ap (λ n. old ++ (body_code p known at (suc place) b ++ instr l n (s.Control Out) ∷ [])) h5
 
 -- one function after another
 
 one_code_long : (p : Source) (at place : ℕ) (f : Function) → length (functions_code p at place (f ∷ [])) ≡ suc (size p (locals_of f) f.body)
 one_code_long p at place f =
-    let whole = length-append (body_code p (locals_of f) at (suc place) f.body) (instr f.line (suc place + place_count f.body) s.Out ∷ []) in
+    let whole = length-append (body_code p (locals_of f) at (suc place) f.body) (instr f.line (suc place + place_count f.body) (s.Control Out) ∷ []) in
     let many = code_length p (locals_of f) f.body at (suc place) in
     omega arith
 
@@ -59,7 +60,7 @@ functions_code_step p f all fs code more sites sites' e h g =
     let at : ℕ = suc (length code + size p (locals_of f) f.body) in
     let place : ℕ = suc (suc (length sites + place_count f.body)) in
     let body : List Instr = body_code p (locals_of f) (length code) (suc (length sites)) f.body in
-    let out : Instr = instr f.line (suc (length sites) + place_count f.body) s.Out in
+    let out : Instr = instr f.line (suc (length sites) + place_count f.body) (s.Control Out) in
     ap (λ z. z ++ functions_code p (length more) (length sites') fs) h
     ∙ ap (λ z. (code ++ (body ++ out ∷ [])) ++ z) (moved_functions p fs _ at _ place (code_on p f code more (length sites) h) (sites_on p f (length code) sites sites' g))
     ∙ append_assoc code (body ++ out ∷ []) (functions_code p at place fs)
@@ -104,7 +105,7 @@ calls_on p f all fs ns ns' e h =
     ∙ ap (λ (z : List Function). ns ++ map (λ (g : Function). set_of 0 (calls_body p g.body)) z) (sym e)
 
 -- there is room for the places of the next function
-pub room_for : (p : Source) (f : Function) (all fs : List Function) (at : ℕ) (sites : List Site) → KeepsRules p → all ≡ f ∷ fs → sites ++ functions_sites p at all ≡ (lowered p).sites → length sites + (2 + place_count f.body) ≤ 65536
+pub room_for : (p : Source) (f : Function) (all fs : List Function) (at : ℕ) (sites : List Site) → KeepsRules p → all ≡ f ∷ fs → sites ++ functions_sites p at all ≡ (lowered p).sites → length sites + (2 + place_count f.body) ≤ place_limit
 room_for p f all fs at sites l e h =
     let few : length (lowered p).sites ≤ 8321 = few_sites (lowered p) (record { lawful = l; is = refl }) in
     let whole : length (sites ++ functions_sites p at (f ∷ fs)) ≡ length (lowered p).sites = ap (λ (z : List Function). length (sites ++ functions_sites p at z)) (sym e) ∙ ap length h in

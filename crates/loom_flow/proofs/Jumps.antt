@@ -6,7 +6,8 @@ use Rattle.loom_flow.specs.declared.code.Operand.{Operand}
 use Rattle.loom_flow.specs.declared.code.Instr.{Instr}
 use Rattle.loom_flow.specs.declared.code.Step.{Step}
 use Rattle.loom_flow.specs.declared.code.Step.TheVariants as s
-use Rattle.loom_flow.specs.Lowered.{operand_of, operand_steps, instr, instrs, size, place_count, body_code}
+use Rattle.loom_flow.specs.declared.code.Control.TheVariants.{Begin, Done, Edge, Jump, JumpIfZero}
+use Rattle.loom_flow.specs.FlatCode.{operand_of, operand_steps, instr, instrs, size, place_count, body_code}
 use Rattle.loom_flow.proofs.Sizes.{instrs_append, instrs_length, code_length}
 use Rattle.loom_flow.proofs.Bodies.{moved_code}
 
@@ -39,17 +40,17 @@ aimed_twice front bs y0 y z over aimed otherwise over_it new h1 h2 h3 h4 h5 =
     h5 ∙ ap (λ w. w ++ z ∷ []) (h4 ∙ ap (λ w. slice_set w over y) one ∙ patched front bs y0 y over h3) ∙ append_assoc front (y ∷ bs) (z ∷ [])
 
 -- the test of a statement, which begins it
-test_front : (l place : ℕ) (steps : List Step) (x : Step) (old rest : List Instr) → ((old ++ instr l place s.Begin ∷ []) ++ instrs l place steps) ++ instr l place x ∷ rest ≡ old ++ (instrs l place (s.Begin ∷ (steps ++ x ∷ [])) ++ rest)
+test_front : (l place : ℕ) (steps : List Step) (x : Step) (old rest : List Instr) → ((old ++ instr l place (s.Control Begin) ∷ []) ++ instrs l place steps) ++ instr l place x ∷ rest ≡ old ++ (instrs l place (s.Control Begin ∷ (steps ++ x ∷ [])) ++ rest)
 test_front l place steps x old rest =
     let is = instrs_append l place steps (x ∷ []) in
-    let one : ((old ++ instr l place s.Begin ∷ []) ++ instrs l place steps) ++ instr l place x ∷ rest ≡ old ++ instr l place s.Begin ∷ ((instrs l place steps ++ instr l place x ∷ []) ++ rest) = simp append_assoc in
-    one ∙ ap (λ z. old ++ instr l place s.Begin ∷ (z ++ rest)) (sym is)
+    let one : ((old ++ instr l place (s.Control Begin) ∷ []) ++ instrs l place steps) ++ instr l place x ∷ rest ≡ old ++ instr l place (s.Control Begin) ∷ ((instrs l place steps ++ instr l place x ∷ []) ++ rest) = simp append_assoc in
+    one ∙ ap (λ z. old ++ instr l place (s.Control Begin) ∷ (z ++ rest)) (sym is)
 
 -- how far the front is
-front_length : (l place : ℕ) (steps : List Step) (old begun : List Instr) → begun ≡ old ++ instr l place s.Begin ∷ [] → length (begun ++ instrs l place steps) ≡ length old + (1 + length steps)
+front_length : (l place : ℕ) (steps : List Step) (old begun : List Instr) → begun ≡ old ++ instr l place (s.Control Begin) ∷ [] → length (begun ++ instrs l place steps) ≡ length old + (1 + length steps)
 front_length l place steps old begun h =
     let one = ap length h in
-    let two = length-append old (instr l place s.Begin ∷ []) in
+    let two = length-append old (instr l place (s.Control Begin) ∷ []) in
     let three = length-append begun (instrs l place steps) in
     let four = instrs_length l place steps in
     omega arith
@@ -71,7 +72,7 @@ behind_code : (p : Source) (names : List (List ℕ)) (b : Body) (n place : ℕ) 
 behind_code p names b n place xs ys h = ap length h ∙ length-append xs (body_code p names n place b) ∙ ap (λ m. length xs + m) (code_length p names b n place)
 
 -- how long the code is behind the test, and behind a target that was put in
-pub tested_long : (l place : ℕ) (steps : List Step) (x : Step) (old begun tested : List Instr) → begun ≡ old ++ instr l place s.Begin ∷ [] → tested ≡ begun ++ instrs l place (steps ++ x ∷ []) → length tested ≡ length old + (2 + length steps)
+pub tested_long : (l place : ℕ) (steps : List Step) (x : Step) (old begun tested : List Instr) → begun ≡ old ++ instr l place (s.Control Begin) ∷ [] → tested ≡ begun ++ instrs l place (steps ++ x ∷ []) → length tested ≡ length old + (2 + length steps)
 tested_long l place steps x old begun tested h1 h2 =
     let front : length tested ≡ length (begun ++ instrs l place steps) + 1 = pushed (begun ++ instrs l place steps) tested (instr l place x) (tested_front l place steps x begun tested h2) in
     let is = front_length l place steps old begun h1 in
@@ -94,32 +95,32 @@ at_within l place at steps x y begun tested bs ran jumps h1 h2 h3 h4 =
 
 -- The code of an `if`: the jump to the second block, and then the one over it, get their targets.
 pub if_code : (p : Source) (names : List (List ℕ)) (l place : ℕ) (e : Expression) (a b : Body) (o : Operand) (at over second done first_place second_place : ℕ) (old begun tested ran jumps aimed otherwise over_it new : List Instr) →
-    begun ≡ old ++ instr l place s.Begin ∷ [] →
-    tested ≡ begun ++ instrs l place (operand_steps p names e ++ s.JumpIfZero (operand_of names e) 0 ∷ []) →
+    begun ≡ old ++ instr l place (s.Control Begin) ∷ [] →
+    tested ≡ begun ++ instrs l place (operand_steps p names e ++ s.Control (JumpIfZero (operand_of names e) 0) ∷ []) →
     at ≡ length begun + length (operand_steps p names e) →
     o ≡ operand_of names e →
     ran ≡ tested ++ body_code p names (length tested) first_place a →
     over ≡ length ran →
-    jumps ≡ ran ++ instr l place (s.Jump 0) ∷ [] →
+    jumps ≡ ran ++ instr l place (s.Control (Jump 0)) ∷ [] →
     second ≡ length jumps →
-    aimed ≡ slice_set jumps at (instr l place (s.JumpIfZero o second)) →
+    aimed ≡ slice_set jumps at (instr l place (s.Control (JumpIfZero o second))) →
     otherwise ≡ aimed ++ body_code p names (length aimed) second_place b →
     done ≡ length otherwise →
-    over_it ≡ slice_set otherwise over (instr l place (s.Jump done)) →
-    new ≡ over_it ++ instr l place s.Done ∷ [] →
+    over_it ≡ slice_set otherwise over (instr l place (s.Control (Jump done))) →
+    new ≡ over_it ++ instr l place (s.Control Done) ∷ [] →
     first_place ≡ suc place →
     second_place ≡ suc place + place_count a →
     new ≡ old ++ body_code p names (length old) place (if_ l e a b end)
 if_code p names l place e a b o at over second done first_place second_place old begun tested ran jumps aimed otherwise over_it new h1 h2 h3 h4 h5 h6 h7 h8 h9 h10 h11 h12 h13 h14 h15 =
     let steps : List Step = operand_steps p names e in
-    let jump : ℕ → Instr = λ (n : ℕ). instr l place (s.JumpIfZero (operand_of names e) n) in
-    let over_to : ℕ → Instr = λ (n : ℕ). instr l place (s.Jump n) in
+    let jump : ℕ → Instr = λ (n : ℕ). instr l place (s.Control (JumpIfZero (operand_of names e) n)) in
+    let over_to : ℕ → Instr = λ (n : ℕ). instr l place (s.Control (Jump n)) in
     let front : List Instr = begun ++ instrs l place steps in
     let first : ℕ = length old + (2 + length steps) in
     let next : ℕ = first + (1 + size p names a) in
     let cs : List Instr = body_code p names first (suc place) a in
     let bs : List Instr = body_code p names next (suc place + place_count a) b in
-    let tested_is : tested ≡ front ++ jump 0 ∷ [] = tested_front l place steps (s.JumpIfZero (operand_of names e) 0) begun tested h2 in
+    let tested_is : tested ≡ front ++ jump 0 ∷ [] = tested_front l place steps (s.Control (JumpIfZero (operand_of names e) 0)) begun tested h2 in
     let front_is : length front ≡ length old + (1 + length steps) = front_length l place steps old begun h1 in
     let tested_long : length tested ≡ length front + 1 = pushed front tested (jump 0) tested_is in
     let first_is : length tested ≡ first = omega arith in
@@ -127,46 +128,46 @@ if_code p names l place e a b o at over second done first_place second_place old
     let ran_long : length ran ≡ length tested + size p names a = behind_code p names a first (suc place) tested ran ran_is in
     let jumps_long : length jumps ≡ length ran + 1 = pushed ran jumps (over_to 0) h7 in
     let aimed_is : aimed ≡ (front ++ jump second ∷ cs) ++ over_to 0 ∷ [] =
-    aimed_once front cs (jump 0) (jump second) (over_to 0) at tested ran jumps aimed tested_is ran_is h7 (at_front l place at steps begun h3) (h9 ∙ ap (λ z. slice_set jumps at (instr l place (s.JumpIfZero z second))) h4) in
+    aimed_once front cs (jump 0) (jump second) (over_to 0) at tested ran jumps aimed tested_is ran_is h7 (at_front l place at steps begun h3) (h9 ∙ ap (λ z. slice_set jumps at (instr l place (s.Control (JumpIfZero z second)))) h4) in
     let longer : length (front ++ jump second ∷ cs) ≡ length front + (1 + size p names a) = length-append front (jump second ∷ cs) ∙ ap (λ n. length front + suc n) (code_length p names a first (suc place)) ∙ omega arith in
     let aimed_long : length aimed ≡ length (front ++ jump second ∷ cs) + 1 = pushed (front ++ jump second ∷ cs) aimed (over_to 0) aimed_is in
     let next_is : length aimed ≡ next = omega arith in
     let otherwise_is : otherwise ≡ aimed ++ bs = h10 ∙ ap (λ z. aimed ++ z) (moved_code p names b _ _ _ _ next_is h15) in
     let otherwise_long : length otherwise ≡ length aimed + size p names b = behind_code p names b next (suc place + place_count a) aimed otherwise otherwise_is in
     let over_is : over ≡ length (front ++ jump second ∷ cs) = omega arith in
-    let new_is : new ≡ (front ++ jump second ∷ cs) ++ over_to done ∷ (bs ++ instr l place s.Done ∷ []) =
-    aimed_twice (front ++ jump second ∷ cs) bs (over_to 0) (over_to done) (instr l place s.Done) over aimed otherwise over_it new aimed_is otherwise_is over_is h12 h13 in
+    let new_is : new ≡ (front ++ jump second ∷ cs) ++ over_to done ∷ (bs ++ instr l place (s.Control Done) ∷ []) =
+    aimed_twice (front ++ jump second ∷ cs) bs (over_to 0) (over_to done) (instr l place (s.Control Done)) over aimed otherwise over_it new aimed_is otherwise_is over_is h12 h13 in
     let second_is : second ≡ next = omega arith in
     let done_is : done ≡ next + size p names b = omega arith in
     new_is
-    ∙ append_assoc front (jump second ∷ cs) (over_to done ∷ (bs ++ instr l place s.Done ∷ []))
-    ∙ ap (λ z. (z ++ instrs l place steps) ++ jump second ∷ (cs ++ over_to done ∷ (bs ++ instr l place s.Done ∷ []))) h1
-    ∙ test_front l place steps (s.JumpIfZero (operand_of names e) second) old (cs ++ over_to done ∷ (bs ++ instr l place s.Done ∷ []))
-    ∙ ap (λ n. old ++ (instrs l place (s.Begin ∷ (steps ++ s.JumpIfZero (operand_of names e) n ∷ [])) ++ (cs ++ over_to done ∷ (bs ++ instr l place s.Done ∷ [])))) second_is
-    ∙ ap (λ n. old ++ (instrs l place (s.Begin ∷ (steps ++ s.JumpIfZero (operand_of names e) next ∷ [])) ++ (cs ++ over_to n ∷ (bs ++ instr l place s.Done ∷ [])))) done_is
+    ∙ append_assoc front (jump second ∷ cs) (over_to done ∷ (bs ++ instr l place (s.Control Done) ∷ []))
+    ∙ ap (λ z. (z ++ instrs l place steps) ++ jump second ∷ (cs ++ over_to done ∷ (bs ++ instr l place (s.Control Done) ∷ []))) h1
+    ∙ test_front l place steps (s.Control (JumpIfZero (operand_of names e) second)) old (cs ++ over_to done ∷ (bs ++ instr l place (s.Control Done) ∷ []))
+    ∙ ap (λ n. old ++ (instrs l place (s.Control Begin ∷ (steps ++ s.Control (JumpIfZero (operand_of names e) n) ∷ [])) ++ (cs ++ over_to done ∷ (bs ++ instr l place (s.Control Done) ∷ [])))) second_is
+    ∙ ap (λ n. old ++ (instrs l place (s.Control Begin ∷ (steps ++ s.Control (JumpIfZero (operand_of names e) next) ∷ [])) ++ (cs ++ over_to n ∷ (bs ++ instr l place (s.Control Done) ∷ [])))) done_is
 
 -- The code of a `while`: the back edge leads to the test, whose jump gets its target behind that.
 pub while_code : (p : Source) (names : List (List ℕ)) (l place : ℕ) (e : Expression) (a : Body) (o : Operand) (head at done first_place : ℕ) (old begun tested ran jumps aimed new : List Instr) →
-    begun ≡ old ++ instr l place s.Begin ∷ [] →
+    begun ≡ old ++ instr l place (s.Control Begin) ∷ [] →
     head ≡ length begun →
-    tested ≡ begun ++ instrs l place (operand_steps p names e ++ s.JumpIfZero (operand_of names e) 0 ∷ []) →
+    tested ≡ begun ++ instrs l place (operand_steps p names e ++ s.Control (JumpIfZero (operand_of names e) 0) ∷ []) →
     at ≡ length begun + length (operand_steps p names e) →
     o ≡ operand_of names e →
     ran ≡ tested ++ body_code p names (length tested) first_place a →
-    jumps ≡ ran ++ instr l (suc place) (s.Edge head) ∷ [] →
+    jumps ≡ ran ++ instr l (suc place) (s.Control (Edge head)) ∷ [] →
     done ≡ length jumps →
-    aimed ≡ slice_set jumps at (instr l place (s.JumpIfZero o done)) →
-    new ≡ aimed ++ instr l place s.Done ∷ [] →
+    aimed ≡ slice_set jumps at (instr l place (s.Control (JumpIfZero o done))) →
+    new ≡ aimed ++ instr l place (s.Control Done) ∷ [] →
     first_place ≡ suc (suc place) →
     new ≡ old ++ body_code p names (length old) place (while_ l e a end)
 while_code p names l place e a o head at done first_place old begun tested ran jumps aimed new h1 h2 h3 h4 h5 h6 h7 h8 h9 h10 h11 =
     let steps : List Step = operand_steps p names e in
-    let jump : ℕ → Instr = λ (n : ℕ). instr l place (s.JumpIfZero (operand_of names e) n) in
-    let back : ℕ → Instr = λ (n : ℕ). instr l (suc place) (s.Edge n) in
+    let jump : ℕ → Instr = λ (n : ℕ). instr l place (s.Control (JumpIfZero (operand_of names e) n)) in
+    let back : ℕ → Instr = λ (n : ℕ). instr l (suc place) (s.Control (Edge n)) in
     let front : List Instr = begun ++ instrs l place steps in
     let first : ℕ = length old + 1 + (1 + length steps) in
     let cs : List Instr = body_code p names first (suc (suc place)) a in
-    let tested_is : tested ≡ front ++ jump 0 ∷ [] = tested_front l place steps (s.JumpIfZero (operand_of names e) 0) begun tested h3 in
+    let tested_is : tested ≡ front ++ jump 0 ∷ [] = tested_front l place steps (s.Control (JumpIfZero (operand_of names e) 0)) begun tested h3 in
     let front_is : length front ≡ length old + (1 + length steps) = front_length l place steps old begun h1 in
     let tested_long : length tested ≡ length front + 1 = pushed front tested (jump 0) tested_is in
     let first_is : length tested ≡ first = omega arith in
@@ -174,14 +175,14 @@ while_code p names l place e a o head at done first_place old begun tested ran j
     let ran_long : length ran ≡ length tested + size p names a = behind_code p names a first (suc (suc place)) tested ran ran_is in
     let jumps_long : length jumps ≡ length ran + 1 = pushed ran jumps (back head) h7 in
     let aimed_is : aimed ≡ (front ++ jump done ∷ cs) ++ back head ∷ [] =
-    aimed_once front cs (jump 0) (jump done) (back head) at tested ran jumps aimed tested_is ran_is h7 (at_front l place at steps begun h4) (h9 ∙ ap (λ z. slice_set jumps at (instr l place (s.JumpIfZero z done))) h5) in
+    aimed_once front cs (jump 0) (jump done) (back head) at tested ran jumps aimed tested_is ran_is h7 (at_front l place at steps begun h4) (h9 ∙ ap (λ z. slice_set jumps at (instr l place (s.Control (JumpIfZero z done)))) h5) in
     let done_is : done ≡ first + (1 + size p names a) = omega arith in
-    let head_is : head ≡ length old + 1 = h2 ∙ pushed old begun (instr l place s.Begin) h1 in
-    let flat : ((front ++ jump done ∷ cs) ++ back head ∷ []) ++ instr l place s.Done ∷ [] ≡ front ++ jump done ∷ (cs ++ back head ∷ instr l place s.Done ∷ []) = simp append_assoc in
+    let head_is : head ≡ length old + 1 = h2 ∙ pushed old begun (instr l place (s.Control Begin)) h1 in
+    let flat : ((front ++ jump done ∷ cs) ++ back head ∷ []) ++ instr l place (s.Control Done) ∷ [] ≡ front ++ jump done ∷ (cs ++ back head ∷ instr l place (s.Control Done) ∷ []) = simp append_assoc in
     h10
-    ∙ ap (λ z. z ++ instr l place s.Done ∷ []) aimed_is
+    ∙ ap (λ z. z ++ instr l place (s.Control Done) ∷ []) aimed_is
     ∙ flat
-    ∙ ap (λ z. (z ++ instrs l place steps) ++ jump done ∷ (cs ++ back head ∷ instr l place s.Done ∷ [])) h1
-    ∙ test_front l place steps (s.JumpIfZero (operand_of names e) done) old (cs ++ back head ∷ instr l place s.Done ∷ [])
-    ∙ ap (λ n. old ++ (instrs l place (s.Begin ∷ (steps ++ s.JumpIfZero (operand_of names e) n ∷ [])) ++ (cs ++ back head ∷ instr l place s.Done ∷ []))) done_is
-    ∙ ap (λ n. old ++ (instrs l place (s.Begin ∷ (steps ++ s.JumpIfZero (operand_of names e) (first + (1 + size p names a)) ∷ [])) ++ (cs ++ back n ∷ instr l place s.Done ∷ []))) head_is
+    ∙ ap (λ z. (z ++ instrs l place steps) ++ jump done ∷ (cs ++ back head ∷ instr l place (s.Control Done) ∷ [])) h1
+    ∙ test_front l place steps (s.Control (JumpIfZero (operand_of names e) done)) old (cs ++ back head ∷ instr l place (s.Control Done) ∷ [])
+    ∙ ap (λ n. old ++ (instrs l place (s.Control Begin ∷ (steps ++ s.Control (JumpIfZero (operand_of names e) n) ∷ [])) ++ (cs ++ back head ∷ instr l place (s.Control Done) ∷ []))) done_is
+    ∙ ap (λ n. old ++ (instrs l place (s.Control Begin ∷ (steps ++ s.Control (JumpIfZero (operand_of names e) (first + (1 + size p names a))) ∷ [])) ++ (cs ++ back n ∷ instr l place (s.Control Done) ∷ []))) head_is

@@ -1,6 +1,7 @@
 mod Arguments
-mod Balanced
+mod Balance
 pub mod Bodies
+mod BodyTraces
 pub mod CallSets
 pub mod Counts
 mod Deepest
@@ -10,30 +11,29 @@ mod EachSimple
 pub mod EachStep
 mod Effects
 mod Expressions
+pub mod FlowLaws
 pub mod Forward
 mod Frames
+mod FunctionBounds
 pub mod Functions
+pub mod InstructionPlaces
 pub mod Jumps
-pub mod Kept
-pub mod Known
 mod Locals
-pub mod Located
 pub mod Lookups
-mod Lying
-mod Meeting
-pub mod Numbered
-mod Placed
+mod Placement
 pub mod Places
 mod Plain
+pub mod ProgramNumbers
 pub mod Relations
 mod Roles
-pub mod Running
+pub mod Runs
 mod Simple
 pub mod Sizes
-mod Standing
+pub mod StatementRules
 mod Statements
 pub mod Steps
 pub mod Straight
+mod Sublist
 pub mod Traces
 mod Trees
 pub mod Truths

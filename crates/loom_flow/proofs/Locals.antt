@@ -3,7 +3,7 @@ use Rattle.std.proofs.Common.{◌≤◌, ℕ, suc, zero, ◌≡◌, ◌==◌, Li
 use Rattle.std.specs.Cmp.Lexicographic.{pointwise}
 use Rattle.loom_lang.specs.Numbers.{position}
 use Rattle.loom_lang.specs.Trace.{Locals, value_in, updated}
-use Rattle.loom_flow.specs.Flat.{value_of, put_at, named}
+use Rattle.loom_flow.specs.State.{value_of, put_at, named}
 
 -- the value of the local of this number
 abbrev pub local_value : List ℤ → Option ℕ → Option ℤ

@@ -8,7 +8,7 @@ use Rattle.loom_tree.specs.declared.item.Sema.{Sema}
 use Rattle.loom_tree.specs.Tree.{Source}
 use Rattle.loom_lang.specs.Numbers.{Cells, position}
 use Rattle.loom_lang.specs.Rules.{KeepsRules}
-use Rattle.loom_flow.specs.Lowered.{first_cell, array_of}
+use Rattle.loom_flow.specs.FlatCode.{first_cell, array_of}
 
 -- where a name first stands in a list that begins at this number
 abbrev pub position_from : ℕ → List ℕ → List (List ℕ) → Option ℕ

@@ -7,7 +7,7 @@ use Rattle.loom_lang.specs.Rules.{KeepsRules, lines, locals_of}
 use Rattle.loom_lang.specs.Places.{Place, body_places, places, places_from, line_of_place, line_of_function}
 use Rattle.loom_flow.specs.declared.code.Site.{Site}
 use Rattle.loom_flow.specs.Laws.{HasPlaces}
-use Rattle.loom_flow.specs.Lowered.{lowered, site, size, body_sites, functions_sites, operand_steps}
+use Rattle.loom_flow.specs.FlatCode.{lowered, site, size, body_sites, functions_sites, operand_steps}
 
 abbrev site_lines : List Site → List ℕ
 site_lines ss = map (λ (s : Site). s.line) ss

@@ -9,17 +9,19 @@ use Rattle.loom_flow.specs.declared.code.Target.{Target}
 use Rattle.loom_flow.specs.declared.code.Target.TheVariants as target
 use Rattle.loom_flow.specs.declared.code.Step.{Step}
 use Rattle.loom_flow.specs.declared.code.Step.TheVariants as s
-use Rattle.loom_flow.specs.Lowered.{or_zero, operand_of, unless_there, variable_step, steps_to, operand_steps, argument_steps, call_steps, spawn_steps, store_step, value_steps, set_steps, simple_steps}
+use Rattle.loom_flow.specs.declared.code.Ask.TheVariants.{Spawn}
+use Rattle.loom_flow.specs.declared.code.Control.TheVariants.{Edge, Jump, JumpIfZero, Call, Out}
+use Rattle.loom_flow.specs.FlatCode.{or_zero, operand_of, unless_there, variable_step, steps_to, operand_steps, argument_steps, call_steps, spawn_steps, store_step, value_steps, set_steps, simple_steps}
 use Rattle.loom_flow.proofs.Each.{AllOf, all_append}
 
 -- It names no function and no instruction, and doesn't stand behind a function's last statement.
 abbrev pub is_plain : Step → Bool
-is_plain (s.Call f n) = false
-is_plain (s.Spawn f n d) = false
-is_plain (s.Edge to) = false
-is_plain (s.Jump to) = false
-is_plain (s.JumpIfZero a to) = false
-is_plain s.Out = false
+is_plain (s.Control (Call f n)) = false
+is_plain (s.Ask (Spawn f n d)) = false
+is_plain (s.Control (Edge to)) = false
+is_plain (s.Control (Jump to)) = false
+is_plain (s.Control (JumpIfZero a to)) = false
+is_plain (s.Control Out) = false
 is_plain _ = true
 
 -- Each of these steps is `P`, where plain ones are.
@@ -54,13 +56,13 @@ arguments_all P plain p xs (e ∷ es) = all_append P (steps_to p xs target.Push 
 
 abbrev pub CallsRight : (Step → Type 0) → Source → Right Expression → Type 0
 CallsRight P p (Right.value e) = Unit {0}
-CallsRight P p (Right.call f es) = P (s.Call (or_zero (function_number p f)) (length es))
-CallsRight P p (Right.spawn f es) = P (s.Spawn (or_zero (function_number p f)) (length es) target.Push)
+CallsRight P p (Right.call f es) = P (s.Control (Call (or_zero (function_number p f)) (length es)))
+CallsRight P p (Right.spawn f es) = P (s.Ask (Spawn (or_zero (function_number p f)) (length es) target.Push))
 
 abbrev pub CallsSimple : (Step → Type 0) → Source → Simple Expression → Type 0
 CallsSimple P p (let_ x r) = CallsRight P p r
 CallsSimple P p (set x r) = CallsRight P p r
-CallsSimple P p (Simple.call f es) = P (s.Call (or_zero (function_number p f)) (length es))
+CallsSimple P p (Simple.call f es) = P (s.Control (Call (or_zero (function_number p f)) (length es)))
 CallsSimple P p _ = Unit {0}
 
 store_all : (P : Step → Type 0) → ((x : Step) → is_plain x ≡ true → P x) → (p : Source) (x : List ℕ) (a : Option ℕ) → P (store_step p x a)

@@ -22,7 +22,7 @@ pub meets_on : (b : Bool) (m n o : Lists) → Meets b m n → Meets b n o → Me
 meets_on true m n o f g = λ es r h. g es r (f es r h)
 meets_on false m n o f g = λ es r h. f es r (g es r h)
 
-emit_within : (i : Item) (m n : Lists) → Within m n → Within (emit i m) (emit i n)
+pub emit_within : (i : Item) (m n : Lists) → Within m n → Within (emit i m) (emit i n)
 emit_within i m n f es r (inl h) = inl h
 emit_within i m n f es r (inr h) = inr (h.0, h.1, f h.0 r h.2)
 

@@ -11,7 +11,7 @@ use Rattle.loom_flow.proofs.Expressions.{IsNumbered, IsArray, IsKnown}
 use Rattle.loom_flow.proofs.Arguments.{AllKnown}
 use Rattle.loom_flow.proofs.Simple.{IsFunction}
 use Rattle.loom_flow.proofs.EachSimple.{IsKnownRight, IsKnownSimple}
-use Rattle.loom_flow.proofs.Meeting.{IsKnownBody}
+use Rattle.loom_flow.proofs.BodyTraces.{IsKnownBody}
 use Rattle.loom_flow.proofs.Truths.{both, or_else}
 
 -- Names in lists

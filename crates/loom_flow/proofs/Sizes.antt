@@ -8,7 +8,8 @@ use Rattle.loom_flow.specs.declared.code.Target.TheVariants as t
 use Rattle.loom_flow.specs.declared.code.Instr.{Instr}
 use Rattle.loom_flow.specs.declared.code.Site.{Site}
 use Rattle.loom_flow.specs.declared.code.Step.TheVariants as s
-use Rattle.loom_flow.specs.Lowered.{steps_to, argument_steps, operand_of, operand_steps, simple_steps, instrs, instr, size, place_count, body_code, body_sites, site}
+use Rattle.loom_flow.specs.declared.code.Control.TheVariants.{Begin, Done, Edge, Jump, JumpIfZero}
+use Rattle.loom_flow.specs.FlatCode.{steps_to, argument_steps, operand_of, operand_steps, simple_steps, instrs, instr, size, place_count, body_code, body_sites, site}
 
 pub instrs_length : (l place : ℕ) (xs : List Step) → length (instrs l place xs) ≡ length xs
 instrs_length l place [] = refl
@@ -45,20 +46,20 @@ code_length p names (if_ l e a b rest) at place =
     let first : ℕ = at + (2 + length (operand_steps p names e)) in
     let second : ℕ = first + (1 + size p names a) in
     let done : ℕ = second + size p names b in
-    let test = test_length l place (operand_steps p names e) s.Begin (s.JumpIfZero (operand_of names e) second) in
+    let test = test_length l place (operand_steps p names e) (s.Control Begin) (s.Control (JumpIfZero (operand_of names e) second)) in
     let cs = code_length p names a first (suc place) in
     let bs = code_length p names b second (suc place + place_count a) in
     let behind = code_length p names rest (suc done) (suc place + place_count a + place_count b) in
-    let whole = choice_length (instrs l place (s.Begin ∷ (operand_steps p names e ++ s.JumpIfZero (operand_of names e) second ∷ []))) (body_code p names first (suc place) a) (body_code p names second (suc place + place_count a) b) (body_code p names (suc done) (suc place + place_count a + place_count b) rest) (instr l place (s.Jump done)) (instr l place s.Done) in
+    let whole = choice_length (instrs l place (s.Control Begin ∷ (operand_steps p names e ++ s.Control (JumpIfZero (operand_of names e) second) ∷ []))) (body_code p names first (suc place) a) (body_code p names second (suc place + place_count a) b) (body_code p names (suc done) (suc place + place_count a + place_count b) rest) (instr l place (s.Control (Jump done))) (instr l place (s.Control Done)) in
     omega arith
 code_length p names (while_ l e a rest) at place =
     let head : ℕ = at + 1 in
     let first : ℕ = head + (1 + length (operand_steps p names e)) in
     let done : ℕ = first + (1 + size p names a) in
-    let test = test_length l place (operand_steps p names e) s.Begin (s.JumpIfZero (operand_of names e) done) in
+    let test = test_length l place (operand_steps p names e) (s.Control Begin) (s.Control (JumpIfZero (operand_of names e) done)) in
     let cs = code_length p names a first (suc (suc place)) in
     let behind = code_length p names rest (suc done) (suc (suc place) + place_count a) in
-    let whole = loop_length (instrs l place (s.Begin ∷ (operand_steps p names e ++ s.JumpIfZero (operand_of names e) done ∷ []))) (body_code p names first (suc (suc place)) a) (body_code p names (suc done) (suc (suc place) + place_count a) rest) (instr l (suc place) (s.Edge head)) (instr l place s.Done) in
+    let whole = loop_length (instrs l place (s.Control Begin ∷ (operand_steps p names e ++ s.Control (JumpIfZero (operand_of names e) done) ∷ []))) (body_code p names first (suc (suc place)) a) (body_code p names (suc done) (suc (suc place) + place_count a) rest) (instr l (suc place) (s.Control (Edge head))) (instr l place (s.Control Done)) in
     omega arith
 
 sum_length : {A : Type 0} (cs bs rest : List A) → length (cs ++ (bs ++ rest)) ≡ length cs + (length bs + length rest)
@@ -118,12 +119,12 @@ arguments_step p names l place e es rest code more h g =
 
 -- statements from their beginning to their end
 
-pub statement_is : (l place : ℕ) (ys : List Step) (z : Step) (old a b new : List Instr) → a ≡ old ++ instr l place s.Begin ∷ [] → b ≡ a ++ instrs l place ys → new ≡ b ++ instr l place z ∷ [] → new ≡ old ++ instr l place s.Begin ∷ instrs l place (ys ++ z ∷ [])
+pub statement_is : (l place : ℕ) (ys : List Step) (z : Step) (old a b new : List Instr) → a ≡ old ++ instr l place (s.Control Begin) ∷ [] → b ≡ a ++ instrs l place ys → new ≡ b ++ instr l place z ∷ [] → new ≡ old ++ instr l place (s.Control Begin) ∷ instrs l place (ys ++ z ∷ [])
 statement_is l place ys z old a b new h g k =
     k ∙ ap (λ w. w ++ instr l place z ∷ []) (g ∙ ap (λ w. w ++ instrs l place ys) h)
-    ∙ append_assoc (old ++ instr l place s.Begin ∷ []) (instrs l place ys) (instr l place z ∷ [])
-    ∙ append_assoc old (instr l place s.Begin ∷ []) (instrs l place ys ++ instr l place z ∷ [])
-    ∙ ap (λ w. old ++ instr l place s.Begin ∷ w) (sym (instrs_append l place ys (z ∷ [])))
+    ∙ append_assoc (old ++ instr l place (s.Control Begin) ∷ []) (instrs l place ys) (instr l place z ∷ [])
+    ∙ append_assoc old (instr l place (s.Control Begin) ∷ []) (instrs l place ys ++ instr l place z ∷ [])
+    ∙ ap (λ w. old ++ instr l place (s.Control Begin) ∷ w) (sym (instrs_append l place ys (z ∷ [])))
 
 -- the number behind these steps, which stand behind the first instruction of a statement
 pub number_behind : (l place : ℕ) (xs : List Step) (old new : List Instr) (n at : ℕ) → n ≡ length new → new ≡ old ++ instrs l place xs → length old ≡ at + 1 → n ≡ at + (1 + length xs)
@@ -133,15 +134,15 @@ number_behind l place xs old new n at h g k =
     let steps = instrs_length l place xs in
     omega arith
 
-pub statement_ends : (l place : ℕ) (ys : List Step) (y z : Step) (old a b d new : List Instr) → a ≡ old ++ instr l place s.Begin ∷ [] → b ≡ a ++ instrs l place ys → d ≡ b ++ instr l place y ∷ [] → new ≡ d ++ instr l place z ∷ [] → new ≡ old ++ instr l place s.Begin ∷ instrs l place (ys ++ y ∷ z ∷ [])
+pub statement_ends : (l place : ℕ) (ys : List Step) (y z : Step) (old a b d new : List Instr) → a ≡ old ++ instr l place (s.Control Begin) ∷ [] → b ≡ a ++ instrs l place ys → d ≡ b ++ instr l place y ∷ [] → new ≡ d ++ instr l place z ∷ [] → new ≡ old ++ instr l place (s.Control Begin) ∷ instrs l place (ys ++ y ∷ z ∷ [])
 statement_ends l place ys y z old a b d new h g k m =
-    let is : new ≡ old ++ instrs l place (s.Begin ∷ ((ys ++ y ∷ []) ++ z ∷ [])) = statement_is l place (ys ++ y ∷ []) z old a d new h (step_is l place ys y a b d g k) m in
-    is ∙ ap (λ w. old ++ instrs l place (s.Begin ∷ w)) (append_assoc ys (y ∷ []) (z ∷ []))
+    let is : new ≡ old ++ instrs l place (s.Control Begin ∷ ((ys ++ y ∷ []) ++ z ∷ [])) = statement_is l place (ys ++ y ∷ []) z old a d new h (step_is l place ys y a b d g k) m in
+    is ∙ ap (λ w. old ++ instrs l place (s.Control Begin ∷ w)) (append_assoc ys (y ∷ []) (z ∷ []))
 
-pub cell_is : (l place : ℕ) (xs ys : List Step) (y z : Step) (old a b d e new : List Instr) → a ≡ old ++ instr l place s.Begin ∷ [] → b ≡ a ++ instrs l place xs → d ≡ b ++ instrs l place ys → e ≡ d ++ instr l place y ∷ [] → new ≡ e ++ instr l place z ∷ [] → new ≡ old ++ instr l place s.Begin ∷ instrs l place (xs ++ (ys ++ y ∷ z ∷ []))
+pub cell_is : (l place : ℕ) (xs ys : List Step) (y z : Step) (old a b d e new : List Instr) → a ≡ old ++ instr l place (s.Control Begin) ∷ [] → b ≡ a ++ instrs l place xs → d ≡ b ++ instrs l place ys → e ≡ d ++ instr l place y ∷ [] → new ≡ e ++ instr l place z ∷ [] → new ≡ old ++ instr l place (s.Control Begin) ∷ instrs l place (xs ++ (ys ++ y ∷ z ∷ []))
 cell_is l place xs ys y z old a b d e new h f g k m =
     let both : d ≡ a ++ instrs l place (xs ++ ys) = g ∙ ap (λ w. w ++ instrs l place ys) f ∙ append_assoc a (instrs l place xs) (instrs l place ys) ∙ ap (λ w. a ++ w) (sym (instrs_append l place xs ys)) in
-    statement_ends l place (xs ++ ys) y z old a d e new h both k m ∙ ap (λ w. old ++ instrs l place (s.Begin ∷ w)) (append_assoc xs ys (y ∷ z ∷ []))
+    statement_ends l place (xs ++ ys) y z old a d e new h both k m ∙ ap (λ w. old ++ instrs l place (s.Control Begin ∷ w)) (append_assoc xs ys (y ∷ z ∷ []))
 
 -- the place of a statement that calls
 pub call_site : (line l place n : ℕ) (x : Step) (xs : List Step) (old now new : List Instr) (before after : List Site) → after ≡ before ++ site line n ∷ [] → n ≡ length new → new ≡ now ++ instrs l place xs → now ≡ old ++ instr l place x ∷ [] → after ≡ before ++ site line (length old + (1 + length xs)) ∷ []

@@ -10,11 +10,13 @@ use Rattle.loom_flow.specs.declared.code.Target.{Target}
 use Rattle.loom_flow.specs.declared.code.Target.TheVariants as target
 use Rattle.loom_flow.specs.declared.code.Step.{Step}
 use Rattle.loom_flow.specs.declared.code.Step.TheVariants as s
-use Rattle.loom_flow.specs.Flat.{Flat, State, jumped, named, names, locals_now}
-use Rattle.loom_flow.specs.Lowered.{operand_of, unless_there, variable_step, steps_to, operand_steps, argument_steps, instrs}
+use Rattle.loom_flow.specs.declared.code.Control.TheVariants.{Begin, Done}
+use Rattle.loom_flow.specs.Flat.{Flat}
+use Rattle.loom_flow.specs.State.{State, jumped, named, names, locals_now}
+use Rattle.loom_flow.specs.FlatCode.{operand_of, unless_there, variable_step, steps_to, operand_steps, argument_steps, instrs}
 use Rattle.loom_flow.proofs.Relations.{Meets, meets_same, meets_on, meets_emit}
 use Rattle.loom_flow.proofs.Steps.{is_straight}
-use Rattle.loom_flow.proofs.Lying.{Lies}
+use Rattle.loom_flow.proofs.Sublist.{Lies}
 use Rattle.loom_flow.proofs.Straight.{straight, straight_append, skip, skip_append, AllStraight, all_straight_append, Fetches, meets_straight}
 use Rattle.loom_flow.proofs.Expressions.{IsKnown, left, settled, settled_is, operand_are, steps_are}
 use Rattle.loom_flow.proofs.Trees.{meets_expression}
@@ -50,11 +52,11 @@ arguments_straight p xs (e ∷ es) = all_straight_append (steps_to p xs target.P
 -- From the beginning of a statement on
 
 pub meets_begin : (b : Bool) (c : Flat) (t : Thread) (m : State → Lists) (l k at : ℕ) (xs : List (List ℕ)) (z : State) (rest : List Step) (q : Lists)
-    → Fetches b c t m → names (slice_get c.program.funcs z.func) ≡ xs → AllStraight rest → Lies c.code at (instrs l k (s.Begin ∷ rest))
+    → Fetches b c t m → names (slice_get c.program.funcs z.func) ≡ xs → AllStraight rest → Lies c.code at (instrs l k (s.Control Begin ∷ rest))
     → Meets b (straight c t l k rest m (jumped z (suc at))) q → Meets b (m (jumped z at)) (emit (begins l (named xs z.locals)) q)
 meets_begin b c t m l k at xs z rest q f e a h g =
     meets_on b (m (jumped z at)) (emit (begins l (locals_now c z)) (straight c t l k rest m (jumped z (suc at)))) (emit (begins l (named xs z.locals)) q)
-    (meets_straight b c t l k m (s.Begin ∷ rest) at (jumped z at) f (refl, a) h refl)
+    (meets_straight b c t l k m (s.Control Begin ∷ rest) at (jumped z at) f (refl, a) h refl)
     (meets_on b (emit (begins l (locals_now c z)) (straight c t l k rest m (jumped z (suc at)))) (emit (begins l (locals_now c z)) q) (emit (begins l (named xs z.locals)) q)
     (meets_emit b (begins l (locals_now c z)) _ q g)
     (meets_same b _ _ (ap {B = Lists} (λ ys. emit (begins l (named ys z.locals)) q) e)))
@@ -66,14 +68,14 @@ pub one_operand : (b : Bool) (c : Flat) (t : Thread) (m : State → Lists) (l k 
     → ((a : Operand) (next : State → Lists) (n : ℕ) (v : ℤ) → straight c t l k (x a ∷ []) next (jumped (left a v z) n) ≡ y (settled a z.locals v) (next (jumped z (suc n))))
     → ((v : ℤ) (p r : Lists) → Meets b p r → Meets b (y v p) (y v r))
     → length xs ≤ length z.locals → IsKnown t.program xs e
-    → Meets b (m (jumped z (skip at (operand_steps t.program xs e ++ x (operand_of xs e) ∷ s.Done ∷ [])))) q
-    → Meets b (straight c t l k (operand_steps t.program xs e ++ x (operand_of xs e) ∷ s.Done ∷ []) m (jumped z at))
+    → Meets b (m (jumped z (skip at (operand_steps t.program xs e ++ x (operand_of xs e) ∷ s.Control Done ∷ [])))) q
+    → Meets b (straight c t l k (operand_steps t.program xs e ++ x (operand_of xs e) ∷ s.Control Done ∷ []) m (jumped z at))
     (expression t l (named xs z.locals) e (λ v. y v (emit (done l) q)))
 one_operand b c t m l k at xs z e x y q taken grows h g ends =
     let a : Operand = operand_of xs e in
     let before : List Step = operand_steps t.program xs e in
-    let last : List Step = x a ∷ s.Done ∷ [] in
-    let behind : State → Lists = straight c t l k (s.Done ∷ []) m in
+    let last : List Step = x a ∷ s.Control Done ∷ [] in
+    let behind : State → Lists = straight c t l k (s.Control Done ∷ []) m in
     let n : ℕ = skip at before in
     let env : Locals = named xs z.locals in
     let one : straight c t l k (before ++ last) m (jumped z at) ≡ straight c t l k before (straight c t l k last m) (jumped z at) =

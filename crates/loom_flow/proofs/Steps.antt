@@ -1,25 +1,51 @@
--- What an instruction gives, by what its next state gives.
-use Rattle.std.proofs.Common.{ℕ, ◌+◌, ◌&&◌, suc, ◌≡◌, List, [], ◌∷◌, Bool, true, false, ℤ, pos, negsuc, Option, Some, None, refl, inl, nat_lt, slice_get, length}
+-- What comes of a step, by what comes of the positions that it leads to.
+use Rattle.std.proofs.Common.{ℕ, ◌+◌, ◌&&◌, suc, ◌≡◌, List, [], Bool, true, false, ℤ, pos, negsuc, Option, Some, None, refl, inl, nat_lt, slice_get, length, if◌then◌else◌}
 use Rattle.loom_lang.specs.Trace as trace
-use Rattle.loom_lang.specs.Trace.{Item, Outcome, Open, Lists, Thread, made, done, out, edge, enter, begins, broken, emit, any, choice, either, trapped, ended, frame_limit}
+use Rattle.loom_lang.specs.Trace.{Item, Outcome, Open, Lists, Thread, made, out, broken, emit, any, choice, trapped, frame_limit}
 use Rattle.loom_lang.specs.Values.{is_zero, divides, applied}
+use Rattle.loom_flow.specs.declared.code.Operand.{Operand}
+use Rattle.loom_flow.specs.declared.code.Target.{Target}
+use Rattle.loom_flow.specs.declared.code.Array.{Array}
 use Rattle.loom_flow.specs.declared.code.Step.{Step}
 use Rattle.loom_flow.specs.declared.code.Step.TheVariants as s
+use Rattle.loom_flow.specs.declared.code.Compute.TheVariants.{Move, Negate, Invert, Apply, Discard}
+use Rattle.loom_flow.specs.declared.code.Ask.TheVariants.{Read, ReadCell, Write, WriteCell, Lock, Unlock, Down, Up, Join, Print, Spawn}
+use Rattle.loom_flow.specs.declared.code.Control.TheVariants.{Begin, Done, Edge, Jump, JumpIfZero, Call, Return, Out}
 use Rattle.loom_flow.specs.declared.code.Instr.{Instr}
 use Rattle.loom_flow.specs.declared.code.Entrance.{Entrance}
 use Rattle.loom_tree.specs.declared.expression.Op.{Op}
-use Rattle.loom_flow.specs.Flat.{Flat, State, Frame, operand, without, arguments, without_arguments, given, forward, jumped, returned, entered, performed, fetched}
+use Rattle.loom_flow.specs.Flat.{Flat}
+use Rattle.loom_flow.specs.State.{State, Frame, operand, without, arguments, without_arguments, given, forward, jumped}
+use Rattle.loom_flow.specs.Position.{Position, before, leaves, over}
+use Rattle.loom_flow.specs.Question.{Question, read, write, lock, unlock, down, up, spawn, join, print}
+use Rattle.loom_flow.specs.Progress.{Progress, goes, asks, traps, ends, nothing, on, in_array, asks_act, asks_value, calls, returns, of_step, of_instr}
+use Rattle.loom_flow.specs.FlatTrace.{asked, followed}
 use Rattle.loom_flow.proofs.Relations.{Meets, meets_itself, meets_emit, meets_any, meets_choice, meets_either, choice_open}
 
--- the instruction behind it is the next one
-abbrev pub is_straight : Step → Bool
-is_straight (s.Call f n) = false
-is_straight (s.Return a) = false
-is_straight (s.Edge at) = false
-is_straight (s.Jump at) = false
-is_straight (s.JumpIfZero a at) = false
-is_straight s.Out = false
-is_straight _ = true
+-- Each position that it leads to is `P`.
+abbrev pub Leads : (Position → Type 0) → Progress → Type 0
+Leads P (goes i z) = P z
+Leads P (asks line q behind) = (v : ℤ) → P (behind v)
+Leads P (traps line c) = Unit {0}
+Leads P ends = Unit {0}
+Leads P nothing = Unit {0}
+
+pub leads_anywhere : (P : Position → Type 0) → ((z : Position) → P z) → (x : Progress) → Leads P x
+leads_anywhere P f (goes i z) = f z
+leads_anywhere P f (asks line q behind) = λ v. f (behind v)
+leads_anywhere P f (traps line c) = tt
+leads_anywhere P f ends = tt
+leads_anywhere P f nothing = tt
+
+leads_if : (P : Position → Type 0) (b : Bool) (x y : Progress) → Leads P x → Leads P y → Leads P (if b then x else y)
+leads_if P true x y f g = f
+leads_if P false x y f g = g
+
+leads_in_array : (P : Position → Type 0) (line : ℕ) (a : Array) (v : ℤ) (more : ℕ → Progress) → ((w : ℕ) → Leads P (more w)) → Leads P (in_array line a v more)
+leads_in_array P line a (pos i) more f = leads_if P (nat_lt i a.count) (more (a.first + i)) (traps line trace.index) (f (a.first + i)) tt
+leads_in_array P line a (negsuc i) more f = tt
+
+-- One set of lists within another
 
 pub meets_reading : (b : Bool) (line w : ℕ) (m n : ℤ → Lists) → ((v : ℤ) → Meets b (m v) (n v)) → Meets b (trace.reading line w m) (trace.reading line w n)
 meets_reading b line w m n f = meets_any b _ _ (λ v. meets_emit b _ _ _ (f v))
@@ -36,59 +62,26 @@ pub meets_joined : (b : Bool) (t : Thread) (line : ℕ) (v : ℤ) (m n : Lists) 
 meets_joined b t line (pos c) m n f = meets_either b _ _ _ _ (meets_itself b _) (meets_emit b _ _ _ f)
 meets_joined b t line (negsuc c) m n f = meets_itself b _
 
-pub meets_returned : (b : Bool) (c : Flat) (t : Thread) (m n : State → Lists) (vs : List ℤ) (v : ℤ) (below : List Frame) → ((z' : State) → Meets b (m z') (n z')) → Meets b (returned c t m vs v below) (returned c t n vs v below)
-meets_returned b c t m n vs v [] f = meets_itself b t.stopped
-meets_returned b c t m n vs v (g ∷ gs) f = f _
+meets_asked : (b : Bool) (t : Thread) (line : ℕ) (q : Question) (m n : ℤ → Lists) → ((v : ℤ) → Meets b (m v) (n v)) → Meets b (asked t line q m) (asked t line q n)
+meets_asked b t line (read w) m n f = meets_reading b line w m n f
+meets_asked b t line (write w v) m n f = meets_emit b _ _ _ (f (pos 0))
+meets_asked b t line (lock x) m n f = meets_emit b _ _ _ (f (pos 0))
+meets_asked b t line (unlock x) m n f = meets_either b _ _ _ _ (meets_itself b _) (meets_emit b _ _ _ (f (pos 0)))
+meets_asked b t line (down x) m n f = meets_emit b _ _ _ (f (pos 0))
+meets_asked b t line (up x) m n f = meets_either b _ _ _ _ (meets_itself b _) (meets_emit b _ _ _ (f (pos 0)))
+meets_asked b t line (spawn g vs) m n f = meets_either b _ _ _ _ (meets_itself b _) (meets_any b _ _ (λ k. meets_emit b _ _ _ (f (pos k))))
+meets_asked b t line (join v) m n f = meets_joined b t line v (m (pos 0)) (n (pos 0)) (f (pos 0))
+meets_asked b t line (print v) m n f = meets_emit b _ _ _ (f (pos 0))
 
-pub meets_entered : (b : Bool) (c : Flat) (m n : State → Lists) (z : State) (i : Instr) (f : ℕ) (vs : List ℤ) (e : Option Entrance) → ((z' : State) → Meets b (m z') (n z')) → Meets b (entered c m z i f vs e) (entered c n z i f vs e)
-meets_entered b c m n z i f vs None g = meets_itself b broken
-meets_entered b c m n z i f vs (Some e) g = meets_emit b _ _ _ (g _)
+pub meets_followed : (b : Bool) (t : Thread) (m n : Position → Lists) (x : Progress) → Leads (λ z. Meets b (m z) (n z)) x → Meets b (followed t m x) (followed t n x)
+meets_followed b t m n (goes None z) f = f
+meets_followed b t m n (goes (Some i) z) f = meets_emit b i (m z) (n z) f
+meets_followed b t m n (asks line q behind) f = meets_asked b t line q (λ v. m (behind v)) (λ v. n (behind v)) f
+meets_followed b t m n (traps line c) f = meets_itself b (trapped t line c)
+meets_followed b t m n ends f = meets_itself b t.stopped
+meets_followed b t m n nothing f = meets_itself b broken
 
--- the state behind an instruction
-abbrev pub Behind : State → Step → State → Type 0
-Behind z x z' = is_straight x ≡ true → z'.at ≡ suc z.at
-
-pub meets_performed : (b : Bool) (c : Flat) (t : Thread) (m n : State → Lists) (z : State) (i : Instr) (x : Step)
-    → ((z' : State) → Behind z x z' → Meets b (m z') (n z')) → Meets b (performed c t m z i x) (performed c t n z i x)
-meets_performed b c t m n z i (s.Move a d) f = f _ (λ e. refl)
-meets_performed b c t m n z i (s.Read w d) f = meets_reading b _ _ _ _ (λ v. f _ (λ e. refl))
-meets_performed b c t m n z i (s.ReadCell a o d) f =
-    let next : ℤ → State = λ v. forward (given (without z o) d v) in
-    meets_within b t i.line a.first (Some a.count) (operand z o) (λ w. trace.reading i.line w (λ v. m (next v))) (λ w. trace.reading i.line w (λ v. n (next v)))
-    (λ w. meets_reading b i.line w (λ v. m (next v)) (λ v. n (next v)) (λ v. f (next v) (λ e. refl)))
-meets_performed b c t m n z i (s.Negate a d) f = f _ (λ e. refl)
-meets_performed b c t m n z i (s.Invert a d) f = f _ (λ e. refl)
-meets_performed b c t m n z i (s.Apply o x y d) f =
-    let next : ℤ → State = λ v. forward (given (without (without z y) x) d v) in
-    meets_operated b t i.line o (operand (without z y) x) (operand z y) (λ v. m (next v)) (λ v. n (next v)) (λ v. f (next v) (λ e. refl))
-meets_performed b c t m n z i (s.Write w a) f = meets_emit b _ _ _ (f _ (λ e. refl))
-meets_performed b c t m n z i (s.WriteCell a o y) f =
-    let next : State = forward (without (without z y) o) in
-    let write : ℕ → Item = λ w. made i.line (trace.write w (operand z y)) in
-    meets_within b t i.line a.first (Some a.count) (operand (without z y) o) (λ w. emit (write w) (m next)) (λ w. emit (write w) (n next))
-    (λ w. meets_emit b (write w) (m next) (n next) (f next (λ e. refl)))
-meets_performed b c t m n z i (s.Lock x) f = meets_emit b _ _ _ (f _ (λ e. refl))
-meets_performed b c t m n z i (s.Unlock x) f = meets_either b _ _ _ _ (meets_itself b _) (meets_emit b _ _ _ (f _ (λ e. refl)))
-meets_performed b c t m n z i (s.Down x) f = meets_emit b _ _ _ (f _ (λ e. refl))
-meets_performed b c t m n z i (s.Up x) f = meets_either b _ _ _ _ (meets_itself b _) (meets_emit b _ _ _ (f _ (λ e. refl)))
-meets_performed b c t m n z i (s.Join a) f = meets_joined b t i.line (operand z a) (m (forward (without z a))) (n (forward (without z a))) (f (forward (without z a)) (λ e. refl))
-meets_performed b c t m n z i (s.Print a) f = meets_emit b _ _ _ (f _ (λ e. refl))
-meets_performed b c t m n z i (s.Spawn g k d) f = meets_either b _ _ _ _ (meets_itself b _) (meets_any b _ _ (λ v. meets_emit b _ _ _ (f _ (λ e. refl))))
-meets_performed b c t m n z i (s.Call g k) f = meets_choice b (nat_lt (suc (length z.below)) frame_limit) (entered c m (without_arguments z k) i g (arguments z k) (slice_get c.entrances g)) (entered c n (without_arguments z k) i g (arguments z k) (slice_get c.entrances g)) (trapped t i.line trace.frames) (trapped t i.line trace.frames) (meets_entered b c m n (without_arguments z k) i g (arguments z k) (slice_get c.entrances g) (λ z'. f z' (λ e. cc))) (meets_itself b (trapped t i.line trace.frames))
-meets_performed b c t m n z i s.Discard f = f _ (λ e. refl)
-meets_performed b c t m n z i (s.Return a) f = meets_emit b _ _ _ (meets_emit b _ _ _ (meets_returned b c t m n (without z a).values (operand z a) z.below (λ z'. f z' (λ e. cc))))
-meets_performed b c t m n z i s.Begin f = meets_emit b _ _ _ (f _ (λ e. refl))
-meets_performed b c t m n z i s.Done f = meets_emit b _ _ _ (f _ (λ e. refl))
-meets_performed b c t m n z i (s.Edge at) f = meets_emit b _ _ _ (f _ (λ e. cc))
-meets_performed b c t m n z i (s.Jump at) f = f _ (λ e. cc)
-meets_performed b c t m n z i (s.JumpIfZero a at) f = meets_choice b (is_zero (operand z a)) (m (jumped (without z a) at)) (n (jumped (without z a) at)) (m (forward (without z a))) (n (forward (without z a))) (f (jumped (without z a) at) (λ e. cc)) (f (forward (without z a)) (λ e. cc))
-meets_performed b c t m n z i s.Out f = meets_emit b _ _ _ (meets_returned b c t m n z.values (pos 0) z.below (λ z'. f z' (λ e. cc)))
-
-pub meets_fetched : (b : Bool) (c : Flat) (t : Thread) (m n : State → Lists) (z : State) (i : Option Instr) → ((z' : State) → Meets b (m z') (n z')) → Meets b (fetched c t m z i) (fetched c t n z i)
-meets_fetched b c t m n z None f = meets_itself b broken
-meets_fetched b c t m n z (Some i) f = meets_performed b c t m n z i i.step (λ z' h. f z')
-
--- Lists may break off before an instruction.
+-- Lists may break off before a step.
 
 pub within_open : (t : Thread) (line first : ℕ) (count : Option ℕ) (v : ℤ) (m : ℕ → Lists) → ((w : ℕ) → m w [] Open) → trace.within t line first count v m [] Open
 within_open t line first None v m f = (refl, refl)
@@ -99,36 +92,151 @@ joined_open : (t : Thread) (line : ℕ) (v : ℤ) (m : Lists) → trace.joined t
 joined_open t line (pos c) m = inl (inl (refl, refl))
 joined_open t line (negsuc c) m = inl (refl, refl)
 
-entered_open : (c : Flat) (m : State → Lists) (z : State) (i : Instr) (f : ℕ) (vs : List ℤ) (e : Option Entrance) → entered c m z i f vs e [] Open
-entered_open c m z i f vs None = (refl, refl)
-entered_open c m z i f vs (Some e) = inl (refl, refl)
+asked_open : (t : Thread) (line : ℕ) (q : Question) (m : ℤ → Lists) → asked t line q m [] Open
+asked_open t line (read w) m = (pos 0, inl (refl, refl))
+asked_open t line (write w v) m = inl (refl, refl)
+asked_open t line (lock x) m = inl (refl, refl)
+asked_open t line (unlock x) m = inl (inl (refl, refl))
+asked_open t line (down x) m = inl (refl, refl)
+asked_open t line (up x) m = inl (inl (refl, refl))
+asked_open t line (spawn f vs) m = inl (inl (refl, refl))
+asked_open t line (join v) m = joined_open t line v (m (pos 0))
+asked_open t line (print v) m = inl (refl, refl)
 
-pub performed_open : (c : Flat) (t : Thread) (m : State → Lists) (z : State) (i : Instr) (x : Step) → ((z' : State) → m z' [] Open) → performed c t m z i x [] Open
-performed_open c t m z i (s.Move a d) f = f _
-performed_open c t m z i (s.Read w d) f = (pos 0, inl (refl, refl))
-performed_open c t m z i (s.ReadCell a o d) f =
-    within_open t i.line a.first (Some a.count) (operand z o) (λ w. trace.reading i.line w (λ v. m (forward (given (without z o) d v)))) (λ w. (pos 0, inl (refl, refl)))
-performed_open c t m z i (s.Negate a d) f = f _
-performed_open c t m z i (s.Invert a d) f = f _
-performed_open c t m z i (s.Apply o x y d) f =
-    choice_open (divides o && is_zero (operand z y)) (trapped t i.line trace.division)
-    (m (forward (given (without (without z y) x) d (applied o (operand (without z y) x) (operand z y))))) (inl (refl, refl)) (f _)
-performed_open c t m z i (s.Write w a) f = inl (refl, refl)
-performed_open c t m z i (s.WriteCell a o y) f =
-    within_open t i.line a.first (Some a.count) (operand (without z y) o) (λ w. emit (made i.line (trace.write w (operand z y))) (m (forward (without (without z y) o)))) (λ w. inl (refl, refl))
-performed_open c t m z i (s.Lock x) f = inl (refl, refl)
-performed_open c t m z i (s.Unlock x) f = inl (inl (refl, refl))
-performed_open c t m z i (s.Down x) f = inl (refl, refl)
-performed_open c t m z i (s.Up x) f = inl (inl (refl, refl))
-performed_open c t m z i (s.Join a) f = joined_open t i.line (operand z a) (m (forward (without z a)))
-performed_open c t m z i (s.Print a) f = inl (refl, refl)
-performed_open c t m z i (s.Spawn g k d) f = inl (inl (refl, refl))
-performed_open c t m z i (s.Call g k) f = choice_open (nat_lt (suc (length z.below)) frame_limit) (entered c m (without_arguments z k) i g (arguments z k) (slice_get c.entrances g)) (trapped t i.line trace.frames) (entered_open c m (without_arguments z k) i g (arguments z k) (slice_get c.entrances g)) (inl (refl, refl))
-performed_open c t m z i s.Discard f = f _
-performed_open c t m z i (s.Return a) f = inl (refl, refl)
-performed_open c t m z i s.Begin f = inl (refl, refl)
-performed_open c t m z i s.Done f = inl (refl, refl)
-performed_open c t m z i (s.Edge at) f = inl (refl, refl)
-performed_open c t m z i (s.Jump at) f = f _
-performed_open c t m z i (s.JumpIfZero a at) f = choice_open (is_zero (operand z a)) (m (jumped (without z a) at)) (m (forward (without z a))) (f _) (f _)
-performed_open c t m z i s.Out f = inl (refl, refl)
+pub followed_open : (t : Thread) (m : Position → Lists) (x : Progress) → t.stopped [] Open → ((z : Position) → m z [] Open) → followed t m x [] Open
+followed_open t m (goes None z) stops f = f z
+followed_open t m (goes (Some i) z) stops f = inl (refl, refl)
+followed_open t m (asks line q behind) stops f = asked_open t line q (λ v. m (behind v))
+followed_open t m (traps line c) stops f = inl (refl, refl)
+followed_open t m ends stops f = stops
+followed_open t m nothing stops f = (refl, refl)
+
+-- The instructions, by what comes of the states behind them
+
+-- where a frame has ended
+abbrev pub at_frame : Thread → (State → Lists) → Position → Lists
+at_frame t m (before z) = m z
+at_frame t m (leaves z v) = broken
+at_frame t m over = t.stopped
+
+abbrev pub returned : Flat → Thread → (State → Lists) → List ℤ → ℤ → List Frame → Lists
+returned c t m vs v below = at_frame t m (returns c vs v below)
+
+-- A frame that is to end ends in one more step.
+abbrev pub by_states : Flat → Thread → (State → Lists) → Position → Lists
+by_states c t m (before z) = m z
+by_states c t m (leaves z v) = emit (out z.func) (returned c t m z.values v z.below)
+by_states c t m over = t.stopped
+
+abbrev pub performed : Flat → Thread → (State → Lists) → State → Instr → Step → Lists
+performed c t m z i x = followed t (by_states c t m) (of_step c z i x)
+
+abbrev pub fetched : Flat → Thread → (State → Lists) → State → Option Instr → Lists
+fetched c t m z i = followed t (by_states c t m) (of_instr c z i)
+
+abbrev pub entered : Flat → Thread → (State → Lists) → State → Instr → ℕ → List ℤ → Option Entrance → Lists
+entered c t m z i f vs e = followed t (by_states c t m) (calls c z i.place f vs e)
+
+abbrev pub called : Flat → Thread → (State → Lists) → State → Instr → ℕ → List ℤ → Lists
+called c t m z i f vs =
+    choice (nat_lt (suc (length z.below)) frame_limit) (entered c t m z i f vs (slice_get c.entrances f)) (trapped t i.line trace.frames)
+
+followed_if : (t : Thread) (m : Position → Lists) (b : Bool) (x y : Progress) → followed t m (if b then x else y) ≡ choice b (followed t m x) (followed t m y)
+followed_if t m true x y = refl
+followed_if t m false x y = refl
+
+followed_in_array : (t : Thread) (m : Position → Lists) (line : ℕ) (a : Array) (v : ℤ) (more : ℕ → Progress)
+    → followed t m (in_array line a v more) ≡ trace.within t line a.first (Some a.count) v (λ w. followed t m (more w))
+followed_in_array t m line a (pos i) more = followed_if t m (nat_lt i a.count) (more (a.first + i)) (traps line trace.index)
+followed_in_array t m line a (negsuc i) more = refl
+
+pub apply_gives : (c : Flat) (t : Thread) (m : State → Lists) (z : State) (i : Instr) (o : Op) (a b : Operand) (d : Target)
+    → performed c t m z i (s.Compute (Apply o a b d)) ≡ trace.operated t i.line o (operand (without z b) a) (operand z b) (λ v. m (forward (given (without (without z b) a) d v)))
+apply_gives c t m z i o a b d =
+    followed_if t (by_states c t m) (divides o && is_zero (operand z b)) (traps i.line trace.division)
+    (on (given (without (without z b) a) d (applied o (operand (without z b) a) (operand z b))))
+
+pub read_cell_gives : (c : Flat) (t : Thread) (m : State → Lists) (z : State) (i : Instr) (a : Array) (n : Operand) (d : Target)
+    → performed c t m z i (s.Ask (ReadCell a n d)) ≡ trace.within t i.line a.first (Some a.count) (operand z n) (λ w. trace.reading i.line w (λ v. m (forward (given (without z n) d v))))
+read_cell_gives c t m z i a n d = followed_in_array t (by_states c t m) i.line a (operand z n) (λ w. asks_value i.line (read w) (λ v. given (without z n) d v))
+
+pub write_cell_gives : (c : Flat) (t : Thread) (m : State → Lists) (z : State) (i : Instr) (a : Array) (n b : Operand)
+    → performed c t m z i (s.Ask (WriteCell a n b))
+    ≡ trace.within t i.line a.first (Some a.count) (operand (without z b) n) (λ w. emit (made i.line (trace.write w (operand z b))) (m (forward (without (without z b) n))))
+write_cell_gives c t m z i a n b = followed_in_array t (by_states c t m) i.line a (operand (without z b) n) (λ w. asks_act i.line (write w (operand z b)) (without (without z b) n))
+
+pub jump_gives : (c : Flat) (t : Thread) (m : State → Lists) (z : State) (i : Instr) (a : Operand) (at : ℕ)
+    → performed c t m z i (s.Control (JumpIfZero a at)) ≡ choice (is_zero (operand z a)) (m (jumped (without z a) at)) (m (forward (without z a)))
+jump_gives c t m z i a at = followed_if t (by_states c t m) (is_zero (operand z a)) (goes None (before (jumped (without z a) at))) (on (without z a))
+
+pub call_gives : (c : Flat) (t : Thread) (m : State → Lists) (z : State) (i : Instr) (f n : ℕ)
+    → performed c t m z i (s.Control (Call f n)) ≡ called c t m (without_arguments z n) i f (arguments z n)
+call_gives c t m z i f n =
+    followed_if t (by_states c t m) (nat_lt (suc (length z.below)) frame_limit) (calls c (without_arguments z n) i.place f (arguments z n) (slice_get c.entrances f)) (traps i.line trace.frames)
+
+-- Straight on
+
+false_true : false ≡ true → ⊥
+false_true e = cc
+
+-- the instruction behind it is the next one
+abbrev pub is_straight : Step → Bool
+is_straight (s.Control (Call f n)) = false
+is_straight (s.Control (Return a)) = false
+is_straight (s.Control (Edge at)) = false
+is_straight (s.Control (Jump at)) = false
+is_straight (s.Control (JumpIfZero a at)) = false
+is_straight (s.Control Out) = false
+is_straight _ = true
+
+-- before the next instruction
+abbrev IsAhead : State → Position → Type 0
+IsAhead z (before y) = y.at ≡ suc z.at
+IsAhead z (leaves y v) = ⊥
+IsAhead z over = ⊥
+
+leads_ahead : (c : Flat) (z : State) (i : Instr) (x : Step) → is_straight x ≡ true → Leads (IsAhead z) (of_step c z i x)
+leads_ahead c z i (s.Compute (Move a d)) e = refl
+leads_ahead c z i (s.Compute (Negate a d)) e = refl
+leads_ahead c z i (s.Compute (Invert a d)) e = refl
+leads_ahead c z i (s.Compute (Apply o a b d)) e =
+    leads_if (IsAhead z) (divides o && is_zero (operand z b)) (traps i.line trace.division) (on (given (without (without z b) a) d (applied o (operand (without z b) a) (operand z b)))) tt refl
+leads_ahead c z i (s.Compute Discard) e = refl
+leads_ahead c z i (s.Ask (Read w d)) e = λ v. refl
+leads_ahead c z i (s.Ask (ReadCell a n d)) e =
+    leads_in_array (IsAhead z) i.line a (operand z n) (λ w. asks_value i.line (read w) (λ v. given (without z n) d v)) (λ w v. refl)
+leads_ahead c z i (s.Ask (Write w a)) e = λ v. refl
+leads_ahead c z i (s.Ask (WriteCell a n b)) e =
+    leads_in_array (IsAhead z) i.line a (operand (without z b) n) (λ w. asks_act i.line (write w (operand z b)) (without (without z b) n)) (λ w v. refl)
+leads_ahead c z i (s.Ask (Lock x)) e = λ v. refl
+leads_ahead c z i (s.Ask (Unlock x)) e = λ v. refl
+leads_ahead c z i (s.Ask (Down x)) e = λ v. refl
+leads_ahead c z i (s.Ask (Up x)) e = λ v. refl
+leads_ahead c z i (s.Ask (Join a)) e = λ v. refl
+leads_ahead c z i (s.Ask (Print a)) e = λ v. refl
+leads_ahead c z i (s.Ask (Spawn f n d)) e = λ v. refl
+leads_ahead c z i (s.Control Begin) e = refl
+leads_ahead c z i (s.Control Done) e = refl
+leads_ahead c z i (s.Control (Call f n)) e = absurd (false_true e)
+leads_ahead c z i (s.Control (Return a)) e = absurd (false_true e)
+leads_ahead c z i (s.Control (Edge at)) e = absurd (false_true e)
+leads_ahead c z i (s.Control (Jump at)) e = absurd (false_true e)
+leads_ahead c z i (s.Control (JumpIfZero a at)) e = absurd (false_true e)
+leads_ahead c z i (s.Control Out) e = absurd (false_true e)
+
+leads_on : (P Q : Position → Type 0) → ((z : Position) → P z → Q z) → (x : Progress) → Leads P x → Leads Q x
+leads_on P Q f (goes i z) h = f z h
+leads_on P Q f (asks line q behind) h = λ v. f (behind v) (h v)
+leads_on P Q f (traps line c) h = tt
+leads_on P Q f ends h = tt
+leads_on P Q f nothing h = tt
+
+pub meets_performed : (b : Bool) (c : Flat) (t : Thread) (m n : State → Lists) (z : State) (i : Instr) (x : Step) → is_straight x ≡ true
+    → ((y : State) → y.at ≡ suc z.at → Meets b (m y) (n y)) → Meets b (performed c t m z i x) (performed c t n z i x)
+meets_performed b c t m n z i x e f =
+    meets_followed b t (by_states c t m) (by_states c t n) (of_step c z i x) (leads_on (IsAhead z) (λ p. Meets b (by_states c t m p) (by_states c t n p)) ahead (of_step c z i x) (leads_ahead c z i x e))
+  where
+    ahead : (p : Position) → IsAhead z p → Meets b (by_states c t m p) (by_states c t n p)
+    ahead (before y) h = f y h
+    ahead (leaves y v) h = absurd h
+    ahead over h = absurd h

@@ -3,11 +3,12 @@ use Rattle.std.proofs.Common.{ℕ, suc, ◌+◌, ◌≡◌, List, [], ◌∷◌,
 use Rattle.loom_lang.specs.Trace.{Lists, Thread}
 use Rattle.loom_flow.specs.declared.code.Step.{Step}
 use Rattle.loom_flow.specs.declared.code.Instr.{Instr}
-use Rattle.loom_flow.specs.Flat.{Flat, State, performed, fetched}
-use Rattle.loom_flow.specs.Lowered.{instr, instrs}
+use Rattle.loom_flow.specs.Flat.{Flat}
+use Rattle.loom_flow.specs.State.{State}
+use Rattle.loom_flow.specs.FlatCode.{instr, instrs}
 use Rattle.loom_flow.proofs.Relations.{Meets, meets_itself, meets_on, meets_same}
-use Rattle.loom_flow.proofs.Steps.{is_straight, meets_performed}
-use Rattle.loom_flow.proofs.Lying.{Lies}
+use Rattle.loom_flow.proofs.Steps.{performed, fetched, is_straight, meets_performed}
+use Rattle.loom_flow.proofs.Sublist.{Lies}
 
 -- what the steps give, where the last one's next state gives that
 abbrev pub straight : Flat → Thread → ℕ → ℕ → List Step → (State → Lists) → State → Lists
@@ -53,7 +54,7 @@ meets_straight b c t l k m [] at z f s h e = meets_itself b (m z)
 meets_straight b c t l k m (x ∷ xs) at z f s h e =
     meets_on b (m z) (performed c t m z (instr l k x) x) (performed c t (straight c t l k xs m) z (instr l k x) x)
     (meets_instr b c t m z (instr l k x) f (ap (slice_get c.code) e ∙ h.0))
-    (meets_performed b c t m (straight c t l k xs m) z (instr l k x) x (λ z' g. meets_straight b c t l k m xs (suc at) z' f s.1 h.1 (g s.0 ∙ ap suc e)))
+    (meets_performed b c t m (straight c t l k xs m) z (instr l k x) x s.0 (λ y g. meets_straight b c t l k m xs (suc at) y f s.1 h.1 (g ∙ ap suc e)))
 
 -- the same of what one step gives in place of the state
 pub meets_steps : (b : Bool) (c : Flat) (t : Thread) (l k : ℕ) (m : State → Lists) (x : Step) (xs : List Step) (at : ℕ) (z : State)
@@ -61,7 +62,7 @@ pub meets_steps : (b : Bool) (c : Flat) (t : Thread) (l k : ℕ) (m : State → 
 meets_steps b c t l k m x xs at z f s g h e =
     meets_on b (fetched c t m z (slice_get c.code z.at)) (performed c t m z (instr l k x) x) (performed c t (straight c t l k xs m) z (instr l k x) x)
     (meets_same b _ _ (ap (fetched c t m z) (ap (slice_get c.code) e ∙ h.0)))
-    (meets_performed b c t m (straight c t l k xs m) z (instr l k x) x (λ z' j. meets_straight b c t l k m xs (suc at) z' f s h.1 (j g ∙ ap suc e)))
+    (meets_performed b c t m (straight c t l k xs m) z (instr l k x) x g (λ y j. meets_straight b c t l k m xs (suc at) y f s h.1 (j ∙ ap suc e)))
 
 -- steps that lie behind others
 

@@ -3,23 +3,22 @@ use Rattle.std.proofs.Common.{ℕ, ◌≡◌, List, [], ℤ, true, false, Option
 use Rattle.loom_tree.specs.Tree.{Function, Source}
 use Rattle.loom_lang.specs.Rules.{KeepsRules}
 use Rattle.loom_lang.specs.Trace as trace
-use Rattle.loom_lang.specs.Trace.{Item, Outcome, Lists, Thread, made, enter, broken, emit, any, calls_to, frame_limit, ended, IsTrace}
+use Rattle.loom_lang.specs.Trace.{Item, Outcome, Lists, Thread, made, enter, broken, emit, any, calls_to, frame_limit, ended, finished, IsTrace}
 use Rattle.loom_flow.specs.declared.code.Entrance.{Entrance}
-use Rattle.loom_flow.specs.Flat.{Flat, State, frame_locals, runs, started, IsFlatTrace}
-use Rattle.loom_flow.specs.Flat as flat
-use Rattle.loom_flow.specs.Lowered.{lowered}
+use Rattle.loom_flow.specs.Flat.{Flat}
+use Rattle.loom_flow.specs.State.{State, at_start, locals_now}
+use Rattle.loom_flow.specs.FlatTrace.{started, IsFlatTrace}
+use Rattle.loom_flow.specs.FlatTrace as flat
+use Rattle.loom_flow.specs.FlatCode.{lowered}
 use Rattle.loom_flow.specs.Laws.{HasTraces}
-use Rattle.loom_flow.proofs.Relations.{Within, meets_emit, meets_same, meets_on}
-use Rattle.loom_flow.proofs.Running.{ever}
-use Rattle.loom_flow.proofs.Meeting.{runs_runner, ever_runner}
+use Rattle.loom_flow.proofs.Relations.{Within, meets_emit, meets_same, meets_on, emit_open}
+use Rattle.loom_flow.proofs.Runs.{runs_from, ever_from}
+use Rattle.loom_flow.proofs.BodyTraces.{runs_runner, ever_runner}
 use Rattle.loom_flow.proofs.Frames.{IsFunctionPlaced, ArePlaced, first_frame, ever_behind}
-use Rattle.loom_flow.proofs.Placed.{are_placed}
+use Rattle.loom_flow.proofs.Placement.{are_placed}
 
 abbrev thread_of : Flat → Function → Thread
 thread_of c g = record { program = c.program; stopped = ended g.line }
-
-abbrev first_state : Entrance → ℕ → List ℤ → State
-first_state e f vs = record { at = e.start; values = []; func = f; locals = frame_locals e vs; below = [] }
 
 -- by so many steps, within as many turns
 to_tree : (c : Flat) → ArePlaced c → (f : ℕ) (vs : List ℤ) (n : ℕ) (o : Option Function) → slice_get c.program.funcs f ≡ o → (q : Option Entrance) → IsFunctionPlaced c o q → slice_get c.entrances f ≡ q
@@ -29,20 +28,22 @@ to_tree c placed f vs n (Some g) found q h e =
     meets_emit true (made g.line trace.begin) _ _
     (meets_on true (started c (thread_of c g) f vs n (slice_get c.entrances f)) (started c (thread_of c g) f vs n (Some h.0)) _
     (meets_same true _ _ (ap {B = Lists} (started c (thread_of c g) f vs n) (e ∙ h.1)))
-    (first_frame true c (thread_of c g) (runs c (thread_of c g)) (runs_runner c (thread_of c g)) refl placed n n (omega arith) f g.line vs g h.0 found h.2))
+    (first_frame true c (thread_of c g) (runs_from c (thread_of c g)) (runs_runner c (thread_of c g) (emit_open (made g.line trace.end) finished)) refl placed n n (omega arith) f g.line vs g h.0 found h.2))
 
 to_code : (c : Flat) → ArePlaced c → (f : ℕ) (vs : List ℤ) (n : ℕ) (o : Option Function) → slice_get c.program.funcs f ≡ o → (q : Option Entrance) → IsFunctionPlaced c o q → slice_get c.entrances f ≡ q
     → Within (trace.thread c.program o f vs n) (any (λ (k : ℕ). flat.thread c o f vs k))
 to_code c placed f vs n None found q h e = λ es r g. (0, g)
 to_code c placed f vs n (Some g) found q h e =
     let t : Thread = thread_of c g in
-    let z : State = first_state h.0 f vs in
-    let tree : Within (trace.thread c.program (Some g) f vs n) (emit (made g.line trace.begin) (emit (enter f) (ever c t z))) =
-    meets_emit false (made g.line trace.begin) (emit (enter f) (ever c t z)) (calls_to t n frame_limit g.line f vs (λ v. ended g.line))
-    (first_frame false c t (λ j. ever c t) (ever_runner c t) refl placed n 0 (omega arith) f g.line vs g h.0 found h.2) in
+    let z : State = at_start f h.0 vs [] [] in
+    let first : Item = made g.line trace.begin in
+    let second : Item = enter f (locals_now c z) in
+    let tree : Within (trace.thread c.program (Some g) f vs n) (emit first (emit second (ever_from c t z))) =
+    meets_emit false first (emit second (ever_from c t z)) (calls_to t n frame_limit g.line f vs (λ v. ended g.line))
+    (first_frame false c t (λ j. ever_from c t) (ever_runner c t) refl placed n 0 (omega arith) f g.line vs g h.0 found h.2) in
     λ es r i.
-    let some : any (λ (k : ℕ). emit (made g.line trace.begin) (emit (enter f) (runs c t k z))) es r = ever_behind (made g.line trace.begin) (enter f) (λ k. runs c t k z) es r (tree es r i) in
-    (some.0, subst (λ (m : Lists). emit (made g.line trace.begin) m es r) (sym (ap {B = Lists} (started c t f vs some.0) (e ∙ h.1))) some.1)
+    let some : any (λ (k : ℕ). emit first (emit second (runs_from c t k z))) es r = ever_behind first second (λ k. runs_from c t k z) es r (tree es r i) in
+    (some.0, subst (λ (m : Lists). emit first m es r) (sym (ap {B = Lists} (started c t f vs some.0) (e ∙ h.1))) some.1)
 
 pub lowered_traces : (p : Source) → KeepsRules p → HasTraces (lowered p) p
 lowered_traces p l f vs items r =

@@ -11,7 +11,7 @@ use Rattle.loom_flow.specs.contracts.code.Instr as i
 use Rattle.loom_flow.specs.contracts.code.Site as s
 use Rattle.loom_flow.specs.contracts.code.Entrance as e
 use Rattle.loom_flow.specs.Flat.{Flat}
-use Rattle.loom_flow.specs.Lowered.{lowered}
+use Rattle.loom_flow.specs.FlatCode.{lowered}
 
 -- It is the flat code of its program, which keeps the rules.
 pub record IsLowered (c : Flat) : Type 0 where

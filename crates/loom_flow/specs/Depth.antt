@@ -8,6 +8,9 @@ use Rattle.loom_flow.specs.declared.code.Target.{Target}
 use Rattle.loom_flow.specs.declared.code.Target.TheVariants as t
 use Rattle.loom_flow.specs.declared.code.Step.{Step}
 use Rattle.loom_flow.specs.declared.code.Step.TheVariants as s
+use Rattle.loom_flow.specs.declared.code.Compute.TheVariants.{Move, Negate, Invert, Apply, Discard}
+use Rattle.loom_flow.specs.declared.code.Ask.TheVariants.{Read, ReadCell, Write, WriteCell, Join, Print, Spawn}
+use Rattle.loom_flow.specs.declared.code.Control.TheVariants.{JumpIfZero, Call, Return}
 use Rattle.loom_flow.specs.declared.code.Instr.{Instr}
 use Rattle.loom_flow.specs.Flat.{Flat}
 
@@ -21,32 +24,32 @@ put t.Push = 1
 put (t.Local x) = 0
 
 abbrev pub takes_off : Step → ℕ
-takes_off (s.Move a d) = taken a
-takes_off (s.ReadCell a n d) = taken n
-takes_off (s.Negate a d) = taken a
-takes_off (s.Invert a d) = taken a
-takes_off (s.Apply o a b d) = taken a + taken b
-takes_off (s.Write w a) = taken a
-takes_off (s.WriteCell a n b) = taken n + taken b
-takes_off (s.Join a) = taken a
-takes_off (s.Print a) = taken a
-takes_off (s.Spawn f n d) = n
-takes_off (s.Call f n) = n
-takes_off s.Discard = 1
-takes_off (s.Return a) = taken a
-takes_off (s.JumpIfZero a to) = taken a
+takes_off (s.Compute (Move a d)) = taken a
+takes_off (s.Ask (ReadCell a n d)) = taken n
+takes_off (s.Compute (Negate a d)) = taken a
+takes_off (s.Compute (Invert a d)) = taken a
+takes_off (s.Compute (Apply o a b d)) = taken a + taken b
+takes_off (s.Ask (Write w a)) = taken a
+takes_off (s.Ask (WriteCell a n b)) = taken n + taken b
+takes_off (s.Ask (Join a)) = taken a
+takes_off (s.Ask (Print a)) = taken a
+takes_off (s.Ask (Spawn f n d)) = n
+takes_off (s.Control (Call f n)) = n
+takes_off (s.Compute Discard) = 1
+takes_off (s.Control (Return a)) = taken a
+takes_off (s.Control (JumpIfZero a to)) = taken a
 takes_off _ = 0
 
 -- a call puts on its result
 abbrev pub puts_on : Step → ℕ
-puts_on (s.Move a d) = put d
-puts_on (s.Read w d) = put d
-puts_on (s.ReadCell a n d) = put d
-puts_on (s.Negate a d) = put d
-puts_on (s.Invert a d) = put d
-puts_on (s.Apply o a b d) = put d
-puts_on (s.Spawn f n d) = put d
-puts_on (s.Call f n) = 1
+puts_on (s.Compute (Move a d)) = put d
+puts_on (s.Ask (Read w d)) = put d
+puts_on (s.Ask (ReadCell a n d)) = put d
+puts_on (s.Compute (Negate a d)) = put d
+puts_on (s.Compute (Invert a d)) = put d
+puts_on (s.Compute (Apply o a b d)) = put d
+puts_on (s.Ask (Spawn f n d)) = put d
+puts_on (s.Control (Call f n)) = 1
 puts_on _ = 0
 
 -- how many values there are behind these steps, where none takes off more than there are

@@ -6,11 +6,14 @@ use Rattle.loom_lang.specs.Places.{Place, entry, inside, back_edge, out, places,
 use Rattle.loom_lang.specs.Trace.{Item, Outcome, IsTrace}
 use Rattle.loom_flow.specs.declared.code.Step.{Step}
 use Rattle.loom_flow.specs.declared.code.Step.TheVariants as s
+use Rattle.loom_flow.specs.declared.code.Ask.TheVariants.{Read, ReadCell, Write, WriteCell, Lock, Unlock, Down, Up, Spawn}
+use Rattle.loom_flow.specs.declared.code.Control.TheVariants.{Edge, Jump, JumpIfZero, Call, Return, Out}
 use Rattle.loom_flow.specs.declared.code.Instr.{Instr}
 use Rattle.loom_flow.specs.declared.code.Site.{Site}
 use Rattle.loom_flow.specs.declared.code.Entrance.{Entrance}
-use Rattle.loom_flow.specs.Flat.{Flat, resume, IsFlatTrace}
-use Rattle.loom_flow.specs.Lowered.{or_zero, calls_body, lowered}
+use Rattle.loom_flow.specs.Flat.{Flat, resume}
+use Rattle.loom_flow.specs.FlatTrace.{IsFlatTrace}
+use Rattle.loom_flow.specs.FlatCode.{or_zero, calls_body, lowered}
 use Rattle.loom_flow.specs.Depth.{taken, takes_off, puts_on, depth_before, IsSmall}
 
 -- The flat code has the traces of the tree, for every function and all arguments.
@@ -43,8 +46,8 @@ pub record IsInFunction (c : Flat) (n at : ℕ) : Type 0 where
 
 -- The place of an instruction of function `n`: the loop's back edge, the end of the function, or the statement's own place.
 abbrev pub place_of : ℕ → ℕ → Step → Place
-place_of n line (s.Edge to) = back_edge line
-place_of n line s.Out = out n
+place_of n line (s.Control (Edge to)) = back_edge line
+place_of n line (s.Control Out) = out n
 place_of n line _ = inside line
 
 -- Each instruction has its place and the line of that, and each entrance has its place.
@@ -64,13 +67,13 @@ HasStart c f = (e : Entrance) × (slice_get c.entrances f ≡ Some e) × (e.star
 -- Instruction `at` leads into `Q` alone: to the next instruction, and by a jump to one behind it, by a back edge to any. A call or a spawn
 -- begins at the start of a function, and behind a call the frame goes on at the next instruction.
 abbrev pub LeadsInto : (ℕ → Type 0) → Flat → ℕ → Instr → Step → Type 0
-LeadsInto Q c at i (s.Jump to) = Q (suc at) × (at < to) × Q to
-LeadsInto Q c at i (s.JumpIfZero a to) = Q (suc at) × (at < to) × Q to
-LeadsInto Q c at i (s.Edge to) = Q (suc at) × Q to
-LeadsInto Q c at i (s.Call f n) = Q (suc at) × HasStart c f × (resume (slice_get c.sites i.place) ≡ suc at)
-LeadsInto Q c at i (s.Spawn f n d) = Q (suc at) × HasStart c f
-LeadsInto Q c at i (s.Return a) = Unit {0}
-LeadsInto Q c at i s.Out = Unit {0}
+LeadsInto Q c at i (s.Control (Jump to)) = Q (suc at) × (at < to) × Q to
+LeadsInto Q c at i (s.Control (JumpIfZero a to)) = Q (suc at) × (at < to) × Q to
+LeadsInto Q c at i (s.Control (Edge to)) = Q (suc at) × Q to
+LeadsInto Q c at i (s.Control (Call f n)) = Q (suc at) × HasStart c f × (resume (slice_get c.sites i.place) ≡ suc at)
+LeadsInto Q c at i (s.Ask (Spawn f n d)) = Q (suc at) × HasStart c f
+LeadsInto Q c at i (s.Control (Return a)) = Unit {0}
+LeadsInto Q c at i (s.Control Out) = Unit {0}
 LeadsInto Q c at i _ = Q (suc at)
 
 -- No instruction leads out of the code, and in a frame only back edges lead back.
@@ -88,12 +91,12 @@ pub record KeepsFunctions (c : Flat) : Type 0 where
 -- With `d` values before it, an instruction takes off no more than these, and wherever it leads as many wait as are foreseen there. What
 -- jumps, calls or returns takes off all of them: a frame begins with no values, and goes on behind a call with the result alone.
 abbrev pub KeepsDepth : Flat → ℕ → ℕ → Step → Type 0
-KeepsDepth c at d (s.Jump to) = (d ≡ 0) × (depth_before c to ≡ Some 0)
-KeepsDepth c at d (s.JumpIfZero a to) = (d ≡ taken a) × (depth_before c (suc at) ≡ Some 0) × (depth_before c to ≡ Some 0)
-KeepsDepth c at d (s.Edge to) = (d ≡ 0) × (depth_before c to ≡ Some 0)
-KeepsDepth c at d (s.Call f n) = (d ≡ n) × (depth_before c (suc at) ≡ Some 1)
-KeepsDepth c at d (s.Return a) = d ≡ taken a
-KeepsDepth c at d s.Out = d ≡ 0
+KeepsDepth c at d (s.Control (Jump to)) = (d ≡ 0) × (depth_before c to ≡ Some 0)
+KeepsDepth c at d (s.Control (JumpIfZero a to)) = (d ≡ taken a) × (depth_before c (suc at) ≡ Some 0) × (depth_before c to ≡ Some 0)
+KeepsDepth c at d (s.Control (Edge to)) = (d ≡ 0) × (depth_before c to ≡ Some 0)
+KeepsDepth c at d (s.Control (Call f n)) = (d ≡ n) × (depth_before c (suc at) ≡ Some 1)
+KeepsDepth c at d (s.Control (Return a)) = d ≡ taken a
+KeepsDepth c at d (s.Control Out) = d ≡ 0
 KeepsDepth c at d x = (takes_off x ≤ d) × (depth_before c (suc at) ≡ Some (d - takes_off x + puts_on x))
 
 -- No instruction finds too few values, on whatever way it is reached, or more than `most`.
@@ -120,18 +123,18 @@ abbrev pub HasParams : Source → ℕ → ℕ → Type 0
 HasParams p f n = (g : Function) × (slice_get p.funcs f ≡ Some g) × (n ≡ length g.params)
 
 -- The numbers in an instruction are those of the program.
-abbrev pub HasNumbers : Source → Step → Type 0
-HasNumbers p (s.Read w d) = w < cell_count p.words
-HasNumbers p (s.ReadCell a n d) = a.first + a.count ≤ cell_count p.words
-HasNumbers p (s.Write w a) = w < cell_count p.words
-HasNumbers p (s.WriteCell a n b) = a.first + a.count ≤ cell_count p.words
-HasNumbers p (s.Lock m) = m < length p.mutexes
-HasNumbers p (s.Unlock m) = m < length p.mutexes
-HasNumbers p (s.Down x) = x < length p.semas
-HasNumbers p (s.Up x) = x < length p.semas
-HasNumbers p (s.Spawn f n d) = HasParams p f n
-HasNumbers p (s.Call f n) = HasParams p f n
-HasNumbers p _ = Unit {0}
+abbrev pub HasProgramNumbers : Source → Step → Type 0
+HasProgramNumbers p (s.Ask (Read w d)) = w < cell_count p.words
+HasProgramNumbers p (s.Ask (ReadCell a n d)) = a.first + a.count ≤ cell_count p.words
+HasProgramNumbers p (s.Ask (Write w a)) = w < cell_count p.words
+HasProgramNumbers p (s.Ask (WriteCell a n b)) = a.first + a.count ≤ cell_count p.words
+HasProgramNumbers p (s.Ask (Lock m)) = m < length p.mutexes
+HasProgramNumbers p (s.Ask (Unlock m)) = m < length p.mutexes
+HasProgramNumbers p (s.Ask (Down x)) = x < length p.semas
+HasProgramNumbers p (s.Ask (Up x)) = x < length p.semas
+HasProgramNumbers p (s.Ask (Spawn f n d)) = HasParams p f n
+HasProgramNumbers p (s.Control (Call f n)) = HasParams p f n
+HasProgramNumbers p _ = Unit {0}
 
-abbrev pub AllHaveNumbers : Type 0
-AllHaveNumbers = (p : Source) → KeepsRules p → (at : ℕ) (i : Instr) → slice_get (lowered p).code at ≡ Some i → HasNumbers p i.step
+abbrev pub AllHaveProgramNumbers : Type 0
+AllHaveProgramNumbers = (p : Source) → KeepsRules p → (at : ℕ) (i : Instr) → slice_get (lowered p).code at ≡ Some i → HasProgramNumbers p i.step

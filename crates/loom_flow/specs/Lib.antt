@@ -1,6 +1,11 @@
-pub mod Flat
-pub mod Lowered
-pub mod Depth
-pub mod Laws
-pub mod Counted
+pub mod Arguments
 pub mod Code
+pub mod Depth
+pub mod Flat
+pub mod FlatCode
+pub mod FlatTrace
+pub mod Laws
+pub mod Position
+pub mod Progress
+pub mod Question
+pub mod State

@@ -1,15 +1,16 @@
 //! The instructions and the places of statements and their blocks. An `Err` is want of memory throughout.
 ghost use Rattle.std.specs.Prelude.{◌≡◌, ◌<◌, ◌≤◌, ◌+◌, ◌∷◌, ◌++◌, [], suc, true, OnOk, IfOk, length, slice_set};
 ghost use Rattle.loom_tree.specs.Tree.{end, if_, while_, behind, body_of, expression_of};
-ghost use Rattle.loom_flow.specs.Counted.{takes_body};
+ghost use Rattle.loom_flow.specs.Arguments.{takes_body};
 ghost use Rattle.loom_flow.specs.declared.code.Step.TheVariants as s;
-ghost use Rattle.loom_flow.specs.Lowered.{instr, instrs, operand_of, operand_steps, place_count, body_code, body_sites};
+ghost use Rattle.loom_flow.specs.declared.code.Control.TheVariants.{JumpIfZero};
+ghost use Rattle.loom_flow.specs.FlatCode.{instr, instrs, operand_of, operand_steps, place_count, body_code, body_sites, place_limit};
 
-use crate::code::{Instr, Operand, Site, Step};
+use crate::code::{Ask, Control, Instr, Operand, Site, Step};
 use crate::expression::{Spot, operand, push};
 use crate::numbers::Scope;
 use crate::statement::{
-    alone, assign, call_alone, give_back, join, next, print, put_site, set_cell, skip, spot_of,
+    assign, call_alone, give_back, join, next, one_step, print, put_site, set_cell, skip, spot_of,
 };
 use loom_tree::expression::Expr;
 use loom_tree::name::NoMemory;
@@ -25,13 +26,13 @@ struct Test {
 /// A test, with a jump to no instruction so far.
 #[tactic(auto, using(crate::proofs::Sizes::step_is, crate::proofs::Sizes::length_behind))]
 fn open_test(code: &mut Vec<Instr>, scope: &Scope, spot: Spot, e: &Expr) -> Result<Test, NoMemory>
-    ensures code { OnOk result (code.new.items ≡ code.old.items ++ instrs spot.line spot.place (operand_steps scope.now.program scope.now.locals (expression_of e.now) ++ s.JumpIfZero (operand_of scope.now.locals (expression_of e.now)) 0 ∷ [])) }
+    ensures code { OnOk result (code.new.items ≡ code.old.items ++ instrs spot.line spot.place (operand_steps scope.now.program scope.now.locals (expression_of e.now) ++ s.Control (JumpIfZero (operand_of scope.now.locals (expression_of e.now)) 0) ∷ [])) }
     ensures operand { IfOk result (λ t. t.operand ≡ operand_of scope.now.locals (expression_of e.now)) }
     ensures at { IfOk result (λ t. t.at ≡ length code.old.items + length (operand_steps scope.now.program scope.now.locals (expression_of e.now))) }
 {
     let operand = operand(code, scope, spot, e)?;
     let at = code.len();
-    push(code, spot, Step::JumpIfZero(operand, 0))?;
+    push(code, spot, Step::Control(Control::JumpIfZero(operand, 0)))?;
     Ok(Test { at, operand })
 }
 
@@ -59,22 +60,27 @@ fn choice(
 ) -> Result<(), NoMemory>
     requires known { takes_body scope.now.program (if_ spot.line (expression_of e.now) (body_of a.now) (body_of b.now) end) ≡ true }
     requires place { spot.place ≡ length sites.old.items }
-    requires room { length sites.old.items + place_count (if_ spot.line (expression_of e.now) (body_of a.now) (body_of b.now) end) ≤ 65536 }
+    requires room { length sites.old.items + place_count (if_ spot.line (expression_of e.now) (body_of a.now) (body_of b.now) end) ≤ place_limit }
     ensures code { OnOk result (code.new.items ≡ code.old.items ++ body_code scope.now.program scope.now.locals (length code.old.items) spot.place (if_ spot.line (expression_of e.now) (body_of a.now) (body_of b.now) end)) }
     ensures sites { OnOk result (sites.new.items ≡ sites.old.items ++ body_sites scope.now.program scope.now.locals (length code.old.items) (if_ spot.line (expression_of e.now) (body_of a.now) (body_of b.now) end)) }
 {
     put_site(sites, spot.line, 0)?;
-    push(code, spot, Step::Begin)?;
+    push(code, spot, Step::Control(Control::Begin))?;
     let test = open_test(code, scope, spot, e)?;
     body(code, sites, scope, a)?;
     let skip = code.len();
-    push(code, spot, Step::Jump(0))?;
+    push(code, spot, Step::Control(Control::Jump(0)))?;
     let second = next(code)?;
-    patch(code, test.at, spot, Step::JumpIfZero(test.operand, second));
+    patch(
+        code,
+        test.at,
+        spot,
+        Step::Control(Control::JumpIfZero(test.operand, second)),
+    );
     body(code, sites, scope, b)?;
     let done = next(code)?;
-    patch(code, skip, spot, Step::Jump(done));
-    push(code, spot, Step::Done)?;
+    patch(code, skip, spot, Step::Control(Control::Jump(done)));
+    push(code, spot, Step::Control(Control::Done))?;
     Ok(())
 }
 
@@ -89,21 +95,26 @@ fn repeat(
 ) -> Result<(), NoMemory>
     requires known { takes_body scope.now.program (while_ spot.line (expression_of e.now) (body_of a.now) end) ≡ true }
     requires place { spot.place ≡ length sites.old.items }
-    requires room { length sites.old.items + place_count (while_ spot.line (expression_of e.now) (body_of a.now) end) ≤ 65536 }
+    requires room { length sites.old.items + place_count (while_ spot.line (expression_of e.now) (body_of a.now) end) ≤ place_limit }
     ensures code { OnOk result (code.new.items ≡ code.old.items ++ body_code scope.now.program scope.now.locals (length code.old.items) spot.place (while_ spot.line (expression_of e.now) (body_of a.now) end)) }
     ensures sites { OnOk result (sites.new.items ≡ sites.old.items ++ body_sites scope.now.program scope.now.locals (length code.old.items) (while_ spot.line (expression_of e.now) (body_of a.now) end)) }
 {
     put_site(sites, spot.line, 0)?;
     let back = spot_of(sites, spot.line);
     put_site(sites, spot.line, 0)?;
-    push(code, spot, Step::Begin)?;
+    push(code, spot, Step::Control(Control::Begin))?;
     let head = next(code)?;
     let test = open_test(code, scope, spot, e)?;
     body(code, sites, scope, a)?;
-    push(code, back, Step::Edge(head))?;
+    push(code, back, Step::Control(Control::Edge(head)))?;
     let done = next(code)?;
-    patch(code, test.at, spot, Step::JumpIfZero(test.operand, done));
-    push(code, spot, Step::Done)?;
+    patch(
+        code,
+        test.at,
+        spot,
+        Step::Control(Control::JumpIfZero(test.operand, done)),
+    );
+    push(code, spot, Step::Control(Control::Done))?;
     Ok(())
 }
 
@@ -116,7 +127,7 @@ pub fn body(
     body: &Stmts,
 ) -> Result<(), NoMemory>
     requires known { takes_body scope.now.program (body_of body.now) ≡ true }
-    requires room { length sites.old.items + place_count (body_of body.now) ≤ 65536 }
+    requires room { length sites.old.items + place_count (body_of body.now) ≤ place_limit }
     ensures code { OnOk result (code.new.items ≡ code.old.items ++ body_code scope.now.program scope.now.locals (length code.old.items) (length sites.old.items) (body_of body.now)) }
     ensures sites { OnOk result (sites.new.items ≡ sites.old.items ++ body_sites scope.now.program scope.now.locals (length code.old.items) (body_of body.now)) }
 {
@@ -139,7 +150,7 @@ fn statement(
 ) -> Result<(), NoMemory>
     requires known { takes_body scope.now.program (behind spot.line kind.now end) ≡ true }
     requires place { spot.place ≡ length sites.old.items }
-    requires room { length sites.old.items + place_count (behind spot.line kind.now end) ≤ 65536 }
+    requires room { length sites.old.items + place_count (behind spot.line kind.now end) ≤ place_limit }
     ensures code { OnOk result (code.new.items ≡ code.old.items ++ body_code scope.now.program scope.now.locals (length code.old.items) spot.place (behind spot.line kind.now end)) }
     ensures sites { OnOk result (sites.new.items ≡ sites.old.items ++ body_sites scope.now.program scope.now.locals (length code.old.items) (behind spot.line kind.now end)) }
 {
@@ -151,10 +162,10 @@ fn statement(
         Kind::While(e, a) => repeat(code, sites, scope, spot, e, a),
         Kind::Call(f, es) => call_alone(code, sites, scope, spot, f, es),
         Kind::Return(e) => give_back(code, sites, scope, spot, e),
-        Kind::Lock(x) => alone(code, sites, spot, Step::Lock(scope.mutex(x))),
-        Kind::Unlock(x) => alone(code, sites, spot, Step::Unlock(scope.mutex(x))),
-        Kind::Down(x) => alone(code, sites, spot, Step::Down(scope.sema(x))),
-        Kind::Up(x) => alone(code, sites, spot, Step::Up(scope.sema(x))),
+        Kind::Lock(x) => one_step(code, sites, spot, Step::Ask(Ask::Lock(scope.mutex(x)))),
+        Kind::Unlock(x) => one_step(code, sites, spot, Step::Ask(Ask::Unlock(scope.mutex(x)))),
+        Kind::Down(x) => one_step(code, sites, spot, Step::Ask(Ask::Down(scope.sema(x)))),
+        Kind::Up(x) => one_step(code, sites, spot, Step::Ask(Ask::Up(scope.sema(x)))),
         Kind::Join(e) => join(code, sites, scope, spot, e),
         Kind::Print(e) => print(code, sites, scope, spot, e),
         Kind::Skip => skip(code, sites, spot),

@@ -2,7 +2,7 @@
 ghost use Rattle.std.specs.Prelude.{◌≡◌, ◌^◌, ◌<◌, bit_or};
 ghost use Rattle.loom_tree.specs.Tree.{body_of, behind, end, right_of};
 ghost use Rattle.loom_lang.specs.Numbers.{function_number};
-ghost use Rattle.loom_flow.specs.Lowered.{or_zero, calls_right, calls_body, set_of};
+ghost use Rattle.loom_flow.specs.FlatCode.{or_zero, calls_right, calls_body, set_of};
 
 use crate::numbers::Scope;
 use loom_tree::name::Name;

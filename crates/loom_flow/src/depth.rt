@@ -1,9 +1,10 @@
 //! How many values there are before instructions.
 ghost use Rattle.std.specs.Prelude.{ℕ, ◌≡◌, ◌≤◌, ◌<◌, Some, length, map, take};
 ghost use Rattle.loom_flow.specs.declared.code.Instr as instr;
+ghost use Rattle.loom_flow.specs.declared.code.Step.TheVariants as s;
 ghost use Rattle.loom_flow.specs.Depth.{taken, put, takes_off, puts_on, depth_after};
 
-use crate::code::{Instr, Operand, Step, Target};
+use crate::code::{Ask, Compute, Control, Instr, Operand, Step, Target};
 
 fn taken(a: Operand) -> usize
     ensures is { result ≡ taken a }
@@ -26,35 +27,108 @@ fn put(d: Target) -> usize
     }
 }
 
+fn compute_takes_off(step: Compute) -> usize
+    ensures { result ≡ takes_off (s.Compute step) }
+{
+    match step {
+        Compute::Move(a, _) => taken(a),
+        Compute::Negate(a, _) => taken(a),
+        Compute::Invert(a, _) => taken(a),
+        Compute::Apply(_, a, b, _) => taken(a) + taken(b),
+        Compute::Discard => 1,
+    }
+}
+
+fn ask_takes_off(step: Ask) -> usize
+    ensures { result ≡ takes_off (s.Ask step) }
+{
+    match step {
+        Ask::Read(_, _) => 0,
+        Ask::ReadCell(_, n, _) => taken(n),
+        Ask::Write(_, a) => taken(a),
+        Ask::WriteCell(_, n, b) => taken(n) + taken(b),
+        Ask::Lock(_) => 0,
+        Ask::Unlock(_) => 0,
+        Ask::Down(_) => 0,
+        Ask::Up(_) => 0,
+        Ask::Join(a) => taken(a),
+        Ask::Print(a) => taken(a),
+        Ask::Spawn(_, n, _) => n as usize,
+    }
+}
+
+fn control_takes_off(step: Control) -> usize
+    ensures { result ≡ takes_off (s.Control step) }
+{
+    match step {
+        Control::Begin => 0,
+        Control::Done => 0,
+        Control::Edge(_) => 0,
+        Control::Jump(_) => 0,
+        Control::JumpIfZero(a, _) => taken(a),
+        Control::Call(_, n) => n as usize,
+        Control::Return(a) => taken(a),
+        Control::Out => 0,
+    }
+}
+
 /// How many values an instruction takes off.
 fn takes_off(step: Step) -> usize
     ensures { result ≡ takes_off step }
 {
     match step {
-        Step::Move(a, _) => taken(a),
-        Step::Read(_, _) => 0,
-        Step::ReadCell(_, n, _) => taken(n),
-        Step::Negate(a, _) => taken(a),
-        Step::Invert(a, _) => taken(a),
-        Step::Apply(_, a, b, _) => taken(a) + taken(b),
-        Step::Write(_, a) => taken(a),
-        Step::WriteCell(_, n, b) => taken(n) + taken(b),
-        Step::Lock(_) => 0,
-        Step::Unlock(_) => 0,
-        Step::Down(_) => 0,
-        Step::Up(_) => 0,
-        Step::Join(a) => taken(a),
-        Step::Print(a) => taken(a),
-        Step::Spawn(_, n, _) => n as usize,
-        Step::Call(_, n) => n as usize,
-        Step::Discard => 1,
-        Step::Return(a) => taken(a),
-        Step::Begin => 0,
-        Step::Done => 0,
-        Step::Edge(_) => 0,
-        Step::Jump(_) => 0,
-        Step::JumpIfZero(a, _) => taken(a),
-        Step::Out => 0,
+        Step::Compute(x) => compute_takes_off(x),
+        Step::Ask(x) => ask_takes_off(x),
+        Step::Control(x) => control_takes_off(x),
+    }
+}
+
+fn compute_puts_on(step: Compute) -> usize
+    ensures is { result ≡ puts_on (s.Compute step) }
+    ensures few { result ≤ 1 }
+{
+    match step {
+        Compute::Move(_, d) => put(d),
+        Compute::Negate(_, d) => put(d),
+        Compute::Invert(_, d) => put(d),
+        Compute::Apply(_, _, _, d) => put(d),
+        Compute::Discard => 0,
+    }
+}
+
+fn ask_puts_on(step: Ask) -> usize
+    ensures is { result ≡ puts_on (s.Ask step) }
+    ensures few { result ≤ 1 }
+{
+    match step {
+        Ask::Read(_, d) => put(d),
+        Ask::ReadCell(_, _, d) => put(d),
+        Ask::Write(_, _) => 0,
+        Ask::WriteCell(_, _, _) => 0,
+        Ask::Lock(_) => 0,
+        Ask::Unlock(_) => 0,
+        Ask::Down(_) => 0,
+        Ask::Up(_) => 0,
+        Ask::Join(_) => 0,
+        Ask::Print(_) => 0,
+        Ask::Spawn(_, _, d) => put(d),
+    }
+}
+
+/// A call puts on its result.
+fn control_puts_on(step: Control) -> usize
+    ensures is { result ≡ puts_on (s.Control step) }
+    ensures few { result ≤ 1 }
+{
+    match step {
+        Control::Begin => 0,
+        Control::Done => 0,
+        Control::Edge(_) => 0,
+        Control::Jump(_) => 0,
+        Control::JumpIfZero(_, _) => 0,
+        Control::Call(_, _) => 1,
+        Control::Return(_) => 0,
+        Control::Out => 0,
     }
 }
 
@@ -64,30 +138,9 @@ fn puts_on(step: Step) -> usize
     ensures few { result ≤ 1 }
 {
     match step {
-        Step::Move(_, d) => put(d),
-        Step::Read(_, d) => put(d),
-        Step::ReadCell(_, _, d) => put(d),
-        Step::Negate(_, d) => put(d),
-        Step::Invert(_, d) => put(d),
-        Step::Apply(_, _, _, d) => put(d),
-        Step::Write(_, _) => 0,
-        Step::WriteCell(_, _, _) => 0,
-        Step::Lock(_) => 0,
-        Step::Unlock(_) => 0,
-        Step::Down(_) => 0,
-        Step::Up(_) => 0,
-        Step::Join(_) => 0,
-        Step::Print(_) => 0,
-        Step::Spawn(_, _, d) => put(d),
-        Step::Call(_, _) => 1,
-        Step::Discard => 0,
-        Step::Return(_) => 0,
-        Step::Begin => 0,
-        Step::Done => 0,
-        Step::Edge(_) => 0,
-        Step::Jump(_) => 0,
-        Step::JumpIfZero(_, _) => 0,
-        Step::Out => 0,
+        Step::Compute(x) => compute_puts_on(x),
+        Step::Ask(x) => ask_puts_on(x),
+        Step::Control(x) => control_puts_on(x),
     }
 }
 

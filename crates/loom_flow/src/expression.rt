@@ -2,9 +2,9 @@
 ghost use Rattle.std.specs.Prelude.{◌≡◌, ◌∷◌, ◌++◌, [], OnOk, IfOk};
 ghost use Rattle.loom_tree.specs.Tree.{expression_of, expressions_of};
 ghost use Rattle.loom_flow.specs.declared.code.Target.TheVariants as t;
-ghost use Rattle.loom_flow.specs.Lowered.{instr, instrs, operand_of, operand_steps, steps_to, argument_steps};
+ghost use Rattle.loom_flow.specs.FlatCode.{instr, instrs, operand_of, operand_steps, steps_to, argument_steps};
 
-use crate::code::{Instr, Operand, Step, Target};
+use crate::code::{Ask, Compute, Instr, Operand, Step, Target};
 use crate::numbers::Scope;
 use loom_tree::expression::{Expr, Exprs};
 use loom_tree::name::NoMemory;
@@ -79,27 +79,43 @@ pub fn expression(
     ensures { OnOk result (code.new.items ≡ code.old.items ++ instrs spot.line spot.place (steps_to scope.now.program scope.now.locals target (expression_of e.now))) }
 {
     match e {
-        Expr::Num(n) => push(code, spot, Step::Move(Operand::Number(*n), target)),
+        Expr::Num(n) => push(
+            code,
+            spot,
+            Step::Compute(Compute::Move(Operand::Number(*n), target)),
+        ),
         Expr::Var(x) => match scope.local(x) {
-            Some(local) => push(code, spot, Step::Move(Operand::Local(local), target)),
-            None => push(code, spot, Step::Read(scope.word(x), target)),
+            Some(local) => push(
+                code,
+                spot,
+                Step::Compute(Compute::Move(Operand::Local(local), target)),
+            ),
+            None => push(code, spot, Step::Ask(Ask::Read(scope.word(x), target))),
         },
         Expr::Cell(x, i) => {
             let index = operand(code, scope, spot, i)?;
-            push(code, spot, Step::ReadCell(scope.array(x), index, target))
+            push(
+                code,
+                spot,
+                Step::Ask(Ask::ReadCell(scope.array(x), index, target)),
+            )
         }
         Expr::Neg(a) => {
             let a = operand(code, scope, spot, a)?;
-            push(code, spot, Step::Negate(a, target))
+            push(code, spot, Step::Compute(Compute::Negate(a, target)))
         }
         Expr::Not(a) => {
             let a = operand(code, scope, spot, a)?;
-            push(code, spot, Step::Invert(a, target))
+            push(code, spot, Step::Compute(Compute::Invert(a, target)))
         }
         Expr::Bin(op, a, b) => {
             let left = operand(code, scope, spot, a)?;
             let right = operand(code, scope, spot, b)?;
-            push(code, spot, Step::Apply(*op, left, right, target))
+            push(
+                code,
+                spot,
+                Step::Compute(Compute::Apply(*op, left, right, target)),
+            )
         }
     }
 }

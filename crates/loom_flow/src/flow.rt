@@ -4,7 +4,7 @@ ghost use Rattle.std.specs.Arc.{arc_value};
 ghost use Rattle.loom_tree.specs.Tree.{Function};
 ghost use Rattle.loom_lang.specs.Places.{places, place_at, line_of_place};
 ghost use Rattle.loom_flow.specs.Code.{IsLowered};
-ghost use Rattle.loom_flow.specs.Lowered.{calls_body};
+ghost use Rattle.loom_flow.specs.FlatCode.{calls_body};
 ghost use Rattle.loom_flow.specs.Depth.{depth_before};
 
 use crate::code::{Entrance, Instr, Site};
@@ -107,7 +107,7 @@ impl Flow {
     }
 
     /// How many places there are, place 0 among them. A place is told by its number, from 0 on.
-    #[tactic(auto, using(crate::proofs::Kept::few_sites, crate::proofs::Kept::as_many_sites))]
+    #[tactic(auto, using(crate::proofs::FlowLaws::few_sites, crate::proofs::FlowLaws::as_many_sites))]
     pub fn places(&self) -> u16
         ensures places { result ≡ length self.now.sites }
         ensures program { result ≡ length (places self.now.program) }
@@ -116,7 +116,7 @@ impl Flow {
     }
 
     /// The line of a place; 0 for place 0.
-    #[tactic(auto, using(crate::proofs::Kept::site_line))]
+    #[tactic(auto, using(crate::proofs::FlowLaws::site_line))]
     pub fn place_line(&self, place: u16) -> u32
         requires { place < length self.now.sites }
         ensures { option_map (line_of_place self.now.program) (place_at self.now.program place) ≡ Some result }
@@ -126,7 +126,7 @@ impl Flow {
 
     /// The functions that the body of a function calls: bit `n` is set exactly where a call of the function of number `n` stands in it. A
     /// `spawn` is no call.
-    #[tactic(auto, using(crate::proofs::Kept::as_many_calls, crate::proofs::Kept::calls_kept))]
+    #[tactic(auto, using(crate::proofs::FlowLaws::as_many_calls, crate::proofs::FlowLaws::calls_kept))]
     pub fn calls_of(&self, func: u8) -> u64
         requires { func < length self.now.program.funcs }
         ensures { (f : Function) (g : ℕ) → slice_get self.now.program.funcs func ≡ Some f → IsBitSet result g ↔ Contains (calls_body self.now.program f.body) g }

@@ -1,5 +1,5 @@
 //! Laws of flat code.
-ghost use Rattle.loom_flow.specs.Laws.{AllJumpForward, AllKeepFunctions, AllHaveOperands, AllHaveNumbers};
+ghost use Rattle.loom_flow.specs.Laws.{AllJumpForward, AllKeepFunctions, AllHaveOperands, AllHaveProgramNumbers};
 
 /// No instruction leads out of the code, and in a frame only back edges lead back.
 #[tactic(auto, using(crate::proofs::Forward::lowered_forward))]
@@ -20,7 +20,7 @@ pub fn operands_are_there()
 {}
 
 /// The numbers in instructions are those of the program: of words, arrays, mutexes, semaphores and functions.
-#[tactic(auto, using(crate::proofs::Numbered::lowered_numbers))]
+#[tactic(auto, using(crate::proofs::ProgramNumbers::lowered_numbers))]
 pub fn numbers_are_there()
-    ensures { AllHaveNumbers }
+    ensures { AllHaveProgramNumbers }
 {}

@@ -1,6 +1,6 @@
 //! Flat code of programs.
 //!
-//! `lower` makes it, and `Flow` holds it with its program. What it means stands in `specs/Flat.antt`.
+//! `lower` makes it, and `Flow` holds it with its program. What it means stands in `specs/Progress.antt`.
 #![tactic(auto)]
 
 mod block;

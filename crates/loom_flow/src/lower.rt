@@ -3,11 +3,11 @@ ghost use Rattle.std.specs.Prelude.{◌≡◌, ◌<◌, ◌≤◌, ◌+◌, ◌�
 ghost use Rattle.loom_tree.specs.Tree.{body_of, function_of, functions_of};
 ghost use Rattle.loom_lang.specs.Rules.{KeepsRules, FunctionKeepsRules, locals_of};
 ghost use Rattle.loom_flow.specs.Laws.{HasTraces, HasPlaces, HasInstructionPlaces, HasCalls};
-ghost use Rattle.loom_flow.specs.Lowered.{place_count, functions_code, functions_sites, entrances, calls_body, set_of, lowered};
+ghost use Rattle.loom_flow.specs.FlatCode.{place_count, functions_code, functions_sites, entrances, calls_body, set_of, lowered, place_limit};
 
 use crate::block::body;
 use crate::calls::with_body;
-use crate::code::{Entrance, Instr, Site, Step};
+use crate::code::{Control, Entrance, Instr, Site, Step};
 use crate::expression::push;
 use crate::flow::Flow;
 use crate::numbers::Scope;
@@ -21,7 +21,7 @@ use std::sync::Arc;
 
 /// Where the function stands that is put next.
 fn entrance(code: &[Instr], sites: &[Site], f: &Func) -> Result<Entrance, NoMemory>
-    requires room { length sites.now < 65536 }
+    requires room { length sites.now < place_limit }
     requires params { length f.now.params ≤ 4 }
     ensures { IfOk result (λ e. e ≡ record { start = length code.now; place = length sites.now; params = length f.now.params }) }
 {
@@ -41,21 +41,21 @@ fn put_function(
 ) -> Result<(), NoMemory>
     requires locals { scope.now.locals ≡ locals_of (function_of f.now) }
     requires lawful { FunctionKeepsRules scope.now.program (function_of f.now) }
-    requires room { length sites.old.items + (2 + place_count (body_of f.now.body)) ≤ 65536 }
+    requires room { length sites.old.items + (2 + place_count (body_of f.now.body)) ≤ place_limit }
     ensures code { OnOk result (code.new.items ≡ code.old.items ++ functions_code scope.now.program (length code.old.items) (length sites.old.items) (function_of f.now ∷ [])) }
     ensures sites { OnOk result (sites.new.items ≡ sites.old.items ++ functions_sites scope.now.program (length code.old.items) (function_of f.now ∷ [])) }
 {
     put_site(sites, f.line, 0)?;
     body(code, sites, scope, &f.body)?;
     let out = spot_of(sites, f.line);
-    push(code, out, Step::Out)?;
+    push(code, out, Step::Control(Control::Out))?;
     put_site(sites, f.line, 0)?;
     Ok(())
 }
 
 /// The lists of flat code, as far as they are made.
 #[derive(Drop)]
-struct Made {
+struct Parts {
     code: Vec<Instr>,
     sites: Vec<Site>,
     entrances: Vec<Entrance>,
@@ -63,24 +63,24 @@ struct Made {
 }
 
 /// The next function.
-fn put(alloc: Global, made: &mut Made, scope: &mut Scope, f: &Func) -> Result<(), NoMemory>
+fn put(alloc: Global, parts: &mut Parts, scope: &mut Scope, f: &Func) -> Result<(), NoMemory>
     requires lawful { FunctionKeepsRules scope.old.program (function_of f.now) }
-    requires room { length made.old.sites.items + (2 + place_count (body_of f.now.body)) ≤ 65536 }
+    requires room { length parts.old.sites.items + (2 + place_count (body_of f.now.body)) ≤ place_limit }
     ensures program { OnOk result (scope.new.program ≡ scope.old.program) }
-    ensures code { OnOk result (made.new.code.items ≡ made.old.code.items ++ functions_code scope.old.program (length made.old.code.items) (length made.old.sites.items) (function_of f.now ∷ [])) }
-    ensures sites { OnOk result (made.new.sites.items ≡ made.old.sites.items ++ functions_sites scope.old.program (length made.old.code.items) (function_of f.now ∷ [])) }
-    ensures entrances { OnOk result (made.new.entrances.items ≡ made.old.entrances.items ++ entrances scope.old.program (length made.old.code.items) (length made.old.sites.items) (function_of f.now ∷ [])) }
-    ensures calls { OnOk result (made.new.calls.items ≡ made.old.calls.items ++ set_of 0 (calls_body scope.old.program (body_of f.now.body)) ∷ []) }
+    ensures code { OnOk result (parts.new.code.items ≡ parts.old.code.items ++ functions_code scope.old.program (length parts.old.code.items) (length parts.old.sites.items) (function_of f.now ∷ [])) }
+    ensures sites { OnOk result (parts.new.sites.items ≡ parts.old.sites.items ++ functions_sites scope.old.program (length parts.old.code.items) (function_of f.now ∷ [])) }
+    ensures entrances { OnOk result (parts.new.entrances.items ≡ parts.old.entrances.items ++ entrances scope.old.program (length parts.old.code.items) (length parts.old.sites.items) (function_of f.now ∷ [])) }
+    ensures calls { OnOk result (parts.new.calls.items ≡ parts.old.calls.items ++ set_of 0 (calls_body scope.old.program (body_of f.now.body)) ∷ []) }
 {
     scope.locals = locals(alloc, f)?;
-    made.calls.push(with_body(scope, 0, &f.body))?;
-    let entrance = entrance(&made.code, &made.sites, f)?;
-    made.entrances.push(entrance)?;
-    put_function(&mut made.code, &mut made.sites, scope, f)?;
+    parts.calls.push(with_body(scope, 0, &f.body))?;
+    let entrance = entrance(&parts.code, &parts.sites, f)?;
+    parts.entrances.push(entrance)?;
+    put_function(&mut parts.code, &mut parts.sites, scope, f)?;
     Ok(())
 }
 
-fn put_all(alloc: Global, scope: &mut Scope, funcs: &[Func]) -> Result<Made, NoMemory>
+fn put_all(alloc: Global, scope: &mut Scope, funcs: &[Func]) -> Result<Parts, NoMemory>
     requires funcs { functions_of funcs.now ≡ scope.old.program.funcs }
     requires lawful { KeepsRules scope.old.program }
     ensures program { OnOk result (scope.new.program ≡ scope.old.program) }
@@ -89,21 +89,21 @@ fn put_all(alloc: Global, scope: &mut Scope, funcs: &[Func]) -> Result<Made, NoM
     ensures entrances { IfOk result (λ m. m.entrances.items ≡ (lowered scope.old.program).entrances) }
     ensures calls { IfOk result (λ m. m.calls.items ≡ (lowered scope.old.program).calls) }
 {
-    let mut made = Made {
+    let mut parts = Parts {
         code: Vec::new(alloc),
         sites: Vec::new(alloc),
         entrances: Vec::new(alloc),
         calls: Vec::new(alloc),
     };
-    put_site(&mut made.sites, 0, 0)?;
+    put_site(&mut parts.sites, 0, 0)?;
     'put: for f in funcs {
-        put(alloc, &mut made, scope, f)?;
+        put(alloc, &mut parts, scope, f)?;
     }
-    Ok(made)
+    Ok(parts)
 }
 
 /// The flat code of a program. It has the traces of the program, its places and the calls of its functions. An `Err` is want of memory.
-#[tactic(auto, using(crate::proofs::Kept::places_of, crate::proofs::Kept::calls_of, crate::proofs::Kept::instructions_of))]
+#[tactic(auto, using(crate::proofs::FlowLaws::places_of, crate::proofs::FlowLaws::calls_of, crate::proofs::FlowLaws::instructions_of))]
 pub fn lower(alloc: Global, p: &Program) -> Result<Flow, NoMemory>
     ensures program { IfOk result (λ c. c.program ≡ p.now) }
     ensures traces { IfOk result (λ c. HasTraces c p.now) }
@@ -115,7 +115,7 @@ pub fn lower(alloc: Global, p: &Program) -> Result<Flow, NoMemory>
         program: p.copied(alloc)?,
         locals: Names(Vec::new(alloc)),
     };
-    let Made {
+    let Parts {
         code,
         sites,
         entrances,

@@ -5,7 +5,7 @@ ghost use Rattle.loom_tree.specs.declared.item.Sema as sema;
 ghost use Rattle.loom_tree.specs.Tree.{Function, functions_of};
 ghost use Rattle.loom_lang.specs.Numbers.{position, cells_from, mutex_number, sema_number, function_number};
 ghost use Rattle.loom_lang.specs.Rules.{cells_of, cell_count};
-ghost use Rattle.loom_flow.specs.Lowered.{array_of, array_named, word_named, or_zero};
+ghost use Rattle.loom_flow.specs.FlatCode.{array_of, array_named, word_named, or_zero};
 
 use crate::code::Array;
 use loom_lang::program::Program;

@@ -4,11 +4,12 @@ ghost use Rattle.loom_tree.specs.Tree.{Simple, expression_of, expressions_of, ri
 ghost use Rattle.loom_tree.specs.Tree as tree;
 ghost use Rattle.loom_lang.specs.Numbers.{position};
 ghost use Rattle.loom_lang.specs.Rules.{takes};
-ghost use Rattle.loom_flow.specs.Counted.{takes_right};
+ghost use Rattle.loom_flow.specs.Arguments.{takes_right};
 ghost use Rattle.loom_flow.specs.declared.code.Step.TheVariants as s;
-ghost use Rattle.loom_flow.specs.Lowered.{instr, instrs, call_steps, spawn_steps, store_step, value_steps, set_steps, simple_steps, resume_of, site};
+ghost use Rattle.loom_flow.specs.declared.code.Control.TheVariants.{Begin, Done};
+ghost use Rattle.loom_flow.specs.FlatCode.{instr, instrs, call_steps, spawn_steps, store_step, value_steps, set_steps, simple_steps, resume_of, site, place_limit};
 
-use crate::code::{Instr, Operand, Site, Step, Target};
+use crate::code::{Ask, Compute, Control, Instr, Operand, Site, Step, Target};
 use crate::expression::{Spot, arguments, expression, operand, push};
 use crate::numbers::Scope;
 use loom_tree::expression::{Expr, Exprs};
@@ -27,7 +28,7 @@ pub fn next(code: &[Instr]) -> Result<u32, NoMemory>
 
 /// Where the instructions of a statement stand whose place is the next.
 pub fn spot_of(sites: &[Site], line: u32) -> Spot
-    requires { length sites.now < 65536 }
+    requires { length sites.now < place_limit }
     ensures { result ≡ record { line = line; place = length sites.now } }
 {
     Spot {
@@ -45,7 +46,7 @@ pub fn put_site(sites: &mut Vec<Site>, line: u32, resume: u32) -> Result<(), NoM
 }
 
 /// How many arguments a call has.
-#[tactic(auto, using(crate::proofs::Known::few_arguments))]
+#[tactic(auto, using(crate::proofs::StatementRules::few_arguments))]
 fn count(scope: &Scope, f: &Name, es: &Exprs) -> u8
     requires { takes scope.now.program.funcs f.now (length (expressions_of es.now)) ≡ true }
     ensures { result ≡ length (expressions_of es.now) }
@@ -69,7 +70,11 @@ fn call(
 {
     arguments(code, scope, spot, es)?;
     let count = count(scope, f, es);
-    push(code, spot, Step::Call(scope.function(f), count))?;
+    push(
+        code,
+        spot,
+        Step::Control(Control::Call(scope.function(f), count)),
+    )?;
     let resume = next(code)?;
     Ok(resume)
 }
@@ -90,7 +95,7 @@ fn spawn(
     push(
         code,
         spot,
-        Step::Spawn(scope.function(f), count, Target::Push),
+        Step::Ask(Ask::Spawn(scope.function(f), count, Target::Push)),
     )
 }
 
@@ -99,8 +104,16 @@ fn store(code: &mut Vec<Instr>, scope: &Scope, spot: Spot, x: &Name) -> Result<(
     ensures { OnOk result (code.new.items ≡ code.old.items ++ instr spot.line spot.place (store_step scope.now.program x.now (position x.now scope.now.locals)) ∷ []) }
 {
     match scope.local(x) {
-        Some(local) => push(code, spot, Step::Move(Operand::Top, Target::Local(local))),
-        None => push(code, spot, Step::Write(scope.word(x), Operand::Top)),
+        Some(local) => push(
+            code,
+            spot,
+            Step::Compute(Compute::Move(Operand::Top, Target::Local(local))),
+        ),
+        None => push(
+            code,
+            spot,
+            Step::Ask(Ask::Write(scope.word(x), Operand::Top)),
+        ),
     }
 }
 
@@ -119,7 +132,7 @@ fn value(
         Some(local) => expression(code, scope, spot, Target::Local(local), e),
         None => {
             let operand = operand(code, scope, spot, e)?;
-            push(code, spot, Step::Write(scope.word(x), operand))
+            push(code, spot, Step::Ask(Ask::Write(scope.word(x), operand)))
         }
     }
 }
@@ -169,9 +182,9 @@ pub fn assign(
     ensures code { OnOk result (code.new.items ≡ code.old.items ++ instrs spot.line spot.place (simple_steps scope.now.program scope.now.locals (tree.set x.now (right_of right.now)))) }
     ensures sites { OnOk result (sites.new.items ≡ sites.old.items ++ site spot.line (resume_of scope.now.program scope.now.locals (length code.old.items) (tree.set x.now (right_of right.now))) ∷ []) }
 {
-    push(code, spot, Step::Begin)?;
+    push(code, spot, Step::Control(Control::Begin))?;
     let resume = set(code, scope, spot, x, right)?;
-    push(code, spot, Step::Done)?;
+    push(code, spot, Step::Control(Control::Done))?;
     put_site(sites, spot.line, resume)?;
     Ok(())
 }
@@ -191,11 +204,15 @@ pub fn set_cell(
     ensures sites { OnOk result (sites.new.items ≡ sites.old.items ++ site spot.line 0 ∷ []) }
 {
     put_site(sites, spot.line, 0)?;
-    push(code, spot, Step::Begin)?;
+    push(code, spot, Step::Control(Control::Begin))?;
     let index = operand(code, scope, spot, i)?;
     let value = operand(code, scope, spot, e)?;
-    push(code, spot, Step::WriteCell(scope.array(x), index, value))?;
-    push(code, spot, Step::Done)?;
+    push(
+        code,
+        spot,
+        Step::Ask(Ask::WriteCell(scope.array(x), index, value)),
+    )?;
+    push(code, spot, Step::Control(Control::Done))?;
     Ok(())
 }
 
@@ -213,10 +230,10 @@ pub fn call_alone(
     ensures code { OnOk result (code.new.items ≡ code.old.items ++ instrs spot.line spot.place (simple_steps scope.now.program scope.now.locals (Simple.call f.now (expressions_of es.now)))) }
     ensures sites { OnOk result (sites.new.items ≡ sites.old.items ++ site spot.line (resume_of scope.now.program scope.now.locals (length code.old.items) (Simple.call f.now (expressions_of es.now))) ∷ []) }
 {
-    push(code, spot, Step::Begin)?;
+    push(code, spot, Step::Control(Control::Begin))?;
     let resume = call(code, scope, spot, f, es)?;
-    push(code, spot, Step::Discard)?;
-    push(code, spot, Step::Done)?;
+    push(code, spot, Step::Compute(Compute::Discard))?;
+    push(code, spot, Step::Control(Control::Done))?;
     put_site(sites, spot.line, resume)?;
     Ok(())
 }
@@ -234,45 +251,49 @@ pub fn give_back(
     ensures sites { OnOk result (sites.new.items ≡ sites.old.items ++ site spot.line 0 ∷ []) }
 {
     put_site(sites, spot.line, 0)?;
-    push(code, spot, Step::Begin)?;
+    push(code, spot, Step::Control(Control::Begin))?;
     match e {
         None => {
-            push(code, spot, Step::Return(Operand::Number(0)))?;
+            push(
+                code,
+                spot,
+                Step::Control(Control::Return(Operand::Number(0))),
+            )?;
             Ok(())
         }
         Some(e) => {
             let given = operand(code, scope, spot, e)?;
-            push(code, spot, Step::Return(given))?;
+            push(code, spot, Step::Control(Control::Return(given)))?;
             Ok(())
         }
     }
 }
 
 /// A statement of one step between its beginning and its completion.
-pub fn alone(
+pub fn one_step(
     code: &mut Vec<Instr>,
     sites: &mut Vec<Site>,
     spot: Spot,
     step: Step,
 ) -> Result<(), NoMemory>
-    ensures code { OnOk result (code.new.items ≡ code.old.items ++ instrs spot.line spot.place (s.Begin ∷ step ∷ s.Done ∷ [])) }
+    ensures code { OnOk result (code.new.items ≡ code.old.items ++ instrs spot.line spot.place (s.Control Begin ∷ step ∷ s.Control Done ∷ [])) }
     ensures sites { OnOk result (sites.new.items ≡ sites.old.items ++ site spot.line 0 ∷ []) }
 {
     put_site(sites, spot.line, 0)?;
-    push(code, spot, Step::Begin)?;
+    push(code, spot, Step::Control(Control::Begin))?;
     push(code, spot, step)?;
-    push(code, spot, Step::Done)?;
+    push(code, spot, Step::Control(Control::Done))?;
     Ok(())
 }
 
 /// A statement of no step.
 pub fn skip(code: &mut Vec<Instr>, sites: &mut Vec<Site>, spot: Spot) -> Result<(), NoMemory>
-    ensures code { OnOk result (code.new.items ≡ code.old.items ++ instrs spot.line spot.place (s.Begin ∷ s.Done ∷ [])) }
+    ensures code { OnOk result (code.new.items ≡ code.old.items ++ instrs spot.line spot.place (s.Control Begin ∷ s.Control Done ∷ [])) }
     ensures sites { OnOk result (sites.new.items ≡ sites.old.items ++ site spot.line 0 ∷ []) }
 {
     put_site(sites, spot.line, 0)?;
-    push(code, spot, Step::Begin)?;
-    push(code, spot, Step::Done)?;
+    push(code, spot, Step::Control(Control::Begin))?;
+    push(code, spot, Step::Control(Control::Done))?;
     Ok(())
 }
 
@@ -289,10 +310,10 @@ pub fn join(
     ensures sites { OnOk result (sites.new.items ≡ sites.old.items ++ site spot.line 0 ∷ []) }
 {
     put_site(sites, spot.line, 0)?;
-    push(code, spot, Step::Begin)?;
+    push(code, spot, Step::Control(Control::Begin))?;
     let thread = operand(code, scope, spot, e)?;
-    push(code, spot, Step::Join(thread))?;
-    push(code, spot, Step::Done)?;
+    push(code, spot, Step::Ask(Ask::Join(thread)))?;
+    push(code, spot, Step::Control(Control::Done))?;
     Ok(())
 }
 
@@ -309,9 +330,9 @@ pub fn print(
     ensures sites { OnOk result (sites.new.items ≡ sites.old.items ++ site spot.line 0 ∷ []) }
 {
     put_site(sites, spot.line, 0)?;
-    push(code, spot, Step::Begin)?;
+    push(code, spot, Step::Control(Control::Begin))?;
     let printed = operand(code, scope, spot, e)?;
-    push(code, spot, Step::Print(printed))?;
-    push(code, spot, Step::Done)?;
+    push(code, spot, Step::Ask(Ask::Print(printed)))?;
+    push(code, spot, Step::Control(Control::Done))?;
     Ok(())
 }

@@ -1,6 +1,6 @@
 //! Flat code of two programs, made by hand.
 
-use crate::code::{Entrance, Instr, Operand, Site, Step, Target};
+use crate::code::{Compute, Control, Entrance, Instr, Operand, Site, Step, Target};
 use crate::flow::Flow;
 use crate::lower::lower;
 use loom_lang::parse::{LangError, parse_program};
@@ -78,14 +78,19 @@ fn shares_its_program(rt: HostRuntime) -> Result<(), Fail> {
 fn makes_code(rt: HostRuntime) -> Result<(), Fail> {
     let flow = flow_of(rt.alloc(), STEPS)?;
     assert_eq!(rt; flow.code().len(), 31);
-    let apply = Step::Apply(Op::Add, Operand::Top, Operand::Number(1), Target::Push);
-    let jump = Step::JumpIfZero(Operand::Top, 25);
+    let apply = Step::Compute(Compute::Apply(
+        Op::Add,
+        Operand::Top,
+        Operand::Number(1),
+        Target::Push,
+    ));
+    let jump = Step::Control(Control::JumpIfZero(Operand::Top, 25));
     let steps = [
         (2, 3, 2, apply),
         (11, 7, 6, jump),
-        (13, 8, 8, Step::Call(0, 0)),
-        (24, 7, 7, Step::Edge(10)),
-        (30, 5, 12, Step::Out),
+        (13, 8, 8, Step::Control(Control::Call(0, 0))),
+        (24, 7, 7, Step::Control(Control::Edge(10))),
+        (30, 5, 12, Step::Control(Control::Out)),
     ];
     for (at, line, place, step) in steps {
         let wanted = Instr { line, place, step };

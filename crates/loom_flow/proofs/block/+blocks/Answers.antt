@@ -3,7 +3,8 @@ use Rattle.loom_tree.specs.declared.statement.Stmts.{the_lemmas}
 use Rattle.loom_tree.specs.Tree.{end, body_of, behind, expression_of}
 use Rattle.loom_flow.specs.declared.expression.Spot.{Spot}
 use Rattle.loom_flow.specs.declared.code.Step.TheVariants as s
-use Rattle.loom_flow.specs.Lowered.{body_code, site, instr, operand_steps}
+use Rattle.loom_flow.specs.declared.code.Control.TheVariants.{Edge}
+use Rattle.loom_flow.specs.FlatCode.{body_code, site, instr, operand_steps}
 use Rattle.loom_flow.proofs.Bodies.{if_count, while_count, known_then, known_else, known_again, known_first, known_rest, count_first, some_first, sites_more, code_step, sites_step, if_sites, while_sites}
 use Rattle.loom_flow.proofs.Jumps.{at_within, pushed, tested_long, aimed_long, if_code, while_code}
 use Rattle.loom_flow.proofs.block.+blocks.Goals as goal
@@ -65,7 +66,7 @@ repeat-returns-clause-code t c =
     let back : c.spot_of-back.result ≡ record { line = c.args.spot.line; place = suc c.args.spot.place } = c.spot_of-back.ensures ∙ ap (λ n. record { line = c.args.spot.line; place = n }) behind in
     while_code c.args.scope.now.program c.args.scope.now.locals c.args.spot.line c.args.spot.place (expression_of c.args.e.now) (body_of c.args.a.now) _ _ _ _ _ _ _ _ _ _ _ _
     c.in_ok-push.ensures (c.in_ok-head.ensures ∙ ap length c.deref-2.ensures.value) c.in_ok-test.ensures.code c.in_ok-test.ensures.at c.in_ok-test.ensures.operand c.in_ok-body.ensures.code
-    (c.in_ok-push-2.ensures ∙ ap (λ (z : Spot). c.body.new.code.items ++ instr z.line z.place (s.Edge c.in_ok-head.head) ∷ []) back) (c.in_ok-done.ensures ∙ ap length c.deref-3.ensures.value) c.patch.ensures c.in_ok-push-3.ensures (omega arith)
+    (c.in_ok-push-2.ensures ∙ ap (λ (z : Spot). c.body.new.code.items ++ instr z.line z.place (s.Control (Edge c.in_ok-head.head)) ∷ []) back) (c.in_ok-done.ensures ∙ ap length c.deref-3.ensures.value) c.patch.ensures c.in_ok-push-3.ensures (omega arith)
 
 pub repeat-returns-clause-sites : goal.repeat-returns-clause-sites
 repeat-returns-clause-sites t c =

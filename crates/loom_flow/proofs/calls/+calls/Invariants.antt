@@ -1,7 +1,7 @@
 use Rattle.std.proofs.Common.{◌≡◌, ◌≤◌}
 use Rattle.loom_tree.specs.declared.statement.Stmts.{size-Stmts}
 use Rattle.loom_tree.specs.Tree.{body_of}
-use Rattle.loom_flow.specs.Lowered.{calls_body, set_of}
+use Rattle.loom_flow.specs.FlatCode.{calls_body, set_of}
 use Rattle.loom_flow.proofs.calls.+calls.Given as goal
 
 abbrev pub invariant-with_body-walk : goal.invariant-with_body-walk

@@ -1,6 +1,6 @@
 use Rattle.std.proofs.Common.{◌≡◌, ◌++◌, drop}
 use Rattle.loom_tree.specs.Tree.{expressions_of}
-use Rattle.loom_flow.specs.Lowered.{instrs, argument_steps}
+use Rattle.loom_flow.specs.FlatCode.{instrs, argument_steps}
 use Rattle.loom_flow.proofs.expression.arguments.Given as goal
 
 abbrev pub invariant-put : goal.invariant-put

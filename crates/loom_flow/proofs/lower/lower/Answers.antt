@@ -1,6 +1,6 @@
 use Rattle.std.proofs.Common.{◌≡◌, ap, ◌∙◌}
 use Rattle.loom_flow.specs.Flat.{Flat}
-use Rattle.loom_flow.proofs.Kept.{traces_of, calls_of}
+use Rattle.loom_flow.proofs.FlowLaws.{traces_of, calls_of}
 use Rattle.loom_flow.proofs.lower.lower.Goals as goal
 
 pub returns-clause-traces : goal.returns-clause-traces

@@ -1,7 +1,7 @@
 use Rattle.std.proofs.Common.{◌≡◌, ◌+◌, List, [], ◌∷◌, ◌++◌, length, drop, ap, ◌∙◌, subst}
 use Rattle.loom_tree.specs.Tree.{Function, Source, function_of, functions_of}
 use Rattle.loom_lang.specs.Rules.{FunctionsKeepRules}
-use Rattle.loom_flow.specs.Lowered.{functions_code, functions_sites, entrances, calls_body, set_of}
+use Rattle.loom_flow.specs.FlatCode.{functions_code, functions_sites, entrances, calls_body, set_of}
 use Rattle.loom_lang.proofs.Noted.{drop_at}
 use Rattle.loom_flow.proofs.Functions.{functions_code_step, functions_sites_step, entrances_step, calls_on, room_for}
 use Rattle.loom_flow.proofs.lower.put_all.Goals as goal
@@ -16,10 +16,10 @@ put-preserved c =
     let f : Function = function_of c.f-item.result in
     let next : functions_of (drop c.put.f-index c.args.funcs.now) ≡ f ∷ functions_of (drop (c.put.f-index + 1) c.args.funcs.now) = ap functions_of (drop_at _ _ c.f-item.result c.put-test.true c.f-item.is) in
     let is : c.put.scope.program ≡ c.args.scope.now.program = c.put.invariant.program in
-    let code = c.in_ok-put.ensures.code ∙ ap (λ (q : Source). c.put.made.code.items ++ functions_code q (length c.put.made.code.items) (length c.put.made.sites.items) (f ∷ [])) is in
-    let sites = c.in_ok-put.ensures.sites ∙ ap (λ (q : Source). c.put.made.sites.items ++ functions_sites q (length c.put.made.code.items) (f ∷ [])) is in
-    let entries = c.in_ok-put.ensures.entrances ∙ ap (λ (q : Source). c.put.made.entrances.items ++ entrances q (length c.put.made.code.items) (length c.put.made.sites.items) (f ∷ [])) is in
-    let calls = c.in_ok-put.ensures.calls ∙ ap (λ (q : Source). c.put.made.calls.items ++ set_of 0 (calls_body q f.body) ∷ []) is in
+    let code = c.in_ok-put.ensures.code ∙ ap (λ (q : Source). c.put.parts.code.items ++ functions_code q (length c.put.parts.code.items) (length c.put.parts.sites.items) (f ∷ [])) is in
+    let sites = c.in_ok-put.ensures.sites ∙ ap (λ (q : Source). c.put.parts.sites.items ++ functions_sites q (length c.put.parts.code.items) (f ∷ [])) is in
+    let entries = c.in_ok-put.ensures.entrances ∙ ap (λ (q : Source). c.put.parts.entrances.items ++ entrances q (length c.put.parts.code.items) (length c.put.parts.sites.items) (f ∷ [])) is in
+    let calls = c.in_ok-put.ensures.calls ∙ ap (λ (q : Source). c.put.parts.calls.items ++ set_of 0 (calls_body q f.body) ∷ []) is in
     record {
       program = c.in_ok-put.ensures.program ∙ is;
       lawful = (let P : List Function → Type 0 = λ fs. FunctionsKeepRules c.args.scope.now.program fs in subst P next c.put.invariant.lawful).1;

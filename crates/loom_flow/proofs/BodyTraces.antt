@@ -9,13 +9,16 @@ use Rattle.loom_flow.specs.declared.code.Operand.TheVariants as operand
 use Rattle.loom_flow.specs.declared.code.Target.TheVariants as target
 use Rattle.loom_flow.specs.declared.code.Step.{Step}
 use Rattle.loom_flow.specs.declared.code.Step.TheVariants as s
+use Rattle.loom_flow.specs.declared.code.Control.TheVariants.{Begin, Done, Edge, Jump, JumpIfZero}
 use Rattle.loom_flow.specs.declared.code.Instr.{Instr}
-use Rattle.loom_flow.specs.Flat.{Flat, State, jumped, named, names, locals_now, resume, performed, fetched, runs}
-use Rattle.loom_flow.specs.Lowered.{operand_of, operand_steps, simple_steps, instr, instrs, size, place_count, body_code, body_sites}
+use Rattle.loom_flow.specs.Flat.{Flat, resume}
+use Rattle.loom_flow.specs.Position as position
+use Rattle.loom_flow.specs.State.{State, jumped, named, names, locals_now}
+use Rattle.loom_flow.specs.FlatCode.{operand_of, operand_steps, simple_steps, instr, instrs, size, place_count, body_code, body_sites}
 use Rattle.loom_flow.proofs.Relations.{Within, Meets, meets_same, meets_on, meets_emit, meets_choice, breaks, choice_open}
-use Rattle.loom_flow.proofs.Steps.{meets_performed}
-use Rattle.loom_flow.proofs.Running.{runs_more, ever, ever_fetched, ever_open}
-use Rattle.loom_flow.proofs.Lying.{Lies, lies_first, lies_second}
+use Rattle.loom_flow.proofs.Steps.{performed, fetched, jump_gives, meets_performed}
+use Rattle.loom_flow.proofs.Runs.{runs_from, ever_from, runs_next, runs_fetched, ever_fetched, ever_open}
+use Rattle.loom_flow.proofs.Sublist.{Lies, lies_first, lies_second}
 use Rattle.loom_flow.proofs.Straight.{straight, skip, skip_length, AllStraight, Fetches, meets_instr}
 use Rattle.loom_flow.proofs.Expressions.{IsKnown, left, settled, settled_is, operand_are, steps_are}
 use Rattle.loom_flow.proofs.Trees.{Turn, meets_expression, expression_open, body_open, turns_open}
@@ -33,29 +36,30 @@ pub record Runner (b : Bool) (c : Flat) (t : Thread) (m : ℕ → State → List
       → (vs : List ℤ) → length vs ≡ count → Meets b (fetched c t (m i) (head vs) (slice_get c.code (head vs).at)) (turn (named xs vs) again leave))
       → (vs : List ℤ) → length vs ≡ count → Meets b (m n (head vs)) (turns j turn leave (named xs vs))
 
-runs_loop : (c : Flat) (t : Thread) (n j : ℕ) → n ≤ j → (head : List ℤ → State) (turn : Turn) (leave : Locals → Lists) (xs : List (List ℕ)) (count : ℕ)
+runs_loop : (c : Flat) (t : Thread) → t.stopped [] Open → (n j : ℕ) → n ≤ j → (head : List ℤ → State) (turn : Turn) (leave : Locals → Lists) (xs : List (List ℕ)) (count : ℕ)
     → ((env : Locals) (again : Locals → Lists) → turn env again leave [] Open)
-    → ((i : ℕ) → i ≤ n → (again : Locals → Lists) → ((h : ℕ) → h ≤ i → (vs : List ℤ) → length vs ≡ count → Within (runs c t h (head vs)) (again (named xs vs)))
-    → (vs : List ℤ) → length vs ≡ count → Within (fetched c t (runs c t i) (head vs) (slice_get c.code (head vs).at)) (turn (named xs vs) again leave))
-    → (vs : List ℤ) → length vs ≡ count → Within (runs c t n (head vs)) (turns j turn leave (named xs vs))
-runs_loop c t zero j le head turn leave xs count opens step vs h = breaks (turns j turn leave (named xs vs)) (turns_open j turn leave (named xs vs) opens)
-runs_loop c t (suc n) zero le head turn leave xs count opens step vs h = absurd (omega (arith, le))
-runs_loop c t (suc n) (suc j) le head turn leave xs count opens step vs h =
+    → ((i : ℕ) → i ≤ n → (again : Locals → Lists) → ((h : ℕ) → h ≤ i → (vs : List ℤ) → length vs ≡ count → Within (runs_from c t h (head vs)) (again (named xs vs)))
+    → (vs : List ℤ) → length vs ≡ count → Within (fetched c t (runs_from c t i) (head vs) (slice_get c.code (head vs).at)) (turn (named xs vs) again leave))
+    → (vs : List ℤ) → length vs ≡ count → Within (runs_from c t n (head vs)) (turns j turn leave (named xs vs))
+runs_loop c t stops zero j le head turn leave xs count opens step vs h = breaks (turns j turn leave (named xs vs)) (turns_open j turn leave (named xs vs) opens)
+runs_loop c t stops (suc n) zero le head turn leave xs count opens step vs h = absurd (omega (arith, le))
+runs_loop c t stops (suc n) (suc j) le head turn leave xs count opens step vs h = λ es r f.
     step n (omega arith) (λ env. turns j turn leave env)
-    (λ i below ws g. runs_loop c t i j (omega (arith, below, le)) head turn leave xs count opens (λ i' le'. step i' (omega (arith, le', below))) ws g) vs h
+    (λ i below ws g. runs_loop c t stops i j (omega (arith, below, le)) head turn leave xs count opens (λ i' le'. step i' (omega (arith, le', below))) ws g) vs h es r
+    (runs_next c t stops n (head vs) es r f)
 
-pub runs_runner : (c : Flat) (t : Thread) → Runner true c t (runs c t)
-runs_runner c t = record { fetches = λ j z. runs_more c t j z; loops = runs_loop c t }
+pub runs_runner : (c : Flat) (t : Thread) → t.stopped [] Open → Runner true c t (runs_from c t)
+runs_runner c t stops = record { fetches = runs_fetched c t stops; loops = runs_loop c t stops }
 
 ever_loop : (c : Flat) (t : Thread) (n j : ℕ) (head : List ℤ → State) (turn : Turn) (leave : Locals → Lists) (xs : List (List ℕ)) (count : ℕ)
-    → ((i : ℕ) → i ≤ n → (again : Locals → Lists) → ((h : ℕ) → h ≤ i → (vs : List ℤ) → length vs ≡ count → Within (again (named xs vs)) (ever c t (head vs)))
-    → (vs : List ℤ) → length vs ≡ count → Within (turn (named xs vs) again leave) (fetched c t (ever c t) (head vs) (slice_get c.code (head vs).at)))
-    → (vs : List ℤ) → length vs ≡ count → Within (turns j turn leave (named xs vs)) (ever c t (head vs))
-ever_loop c t n zero head turn leave xs count step vs h = breaks (ever c t (head vs)) (ever_open c t (head vs))
+    → ((i : ℕ) → i ≤ n → (again : Locals → Lists) → ((h : ℕ) → h ≤ i → (vs : List ℤ) → length vs ≡ count → Within (again (named xs vs)) (ever_from c t (head vs)))
+    → (vs : List ℤ) → length vs ≡ count → Within (turn (named xs vs) again leave) (fetched c t (ever_from c t) (head vs) (slice_get c.code (head vs).at)))
+    → (vs : List ℤ) → length vs ≡ count → Within (turns j turn leave (named xs vs)) (ever_from c t (head vs))
+ever_loop c t n zero head turn leave xs count step vs h = breaks (ever_from c t (head vs)) (ever_open c t (position.before (head vs)))
 ever_loop c t n (suc j) head turn leave xs count step vs h = λ es r g.
     ever_fetched c t (head vs) es r (step n (omega arith) (λ env. turns j turn leave env) (λ i below ws e. ever_loop c t n j head turn leave xs count step ws e) vs h es r g)
 
-pub ever_runner : (c : Flat) (t : Thread) → Runner false c t (λ j. ever c t)
+pub ever_runner : (c : Flat) (t : Thread) → Runner false c t (λ j. ever_from c t)
 ever_runner c t = record {
   fetches = λ j z. ever_fetched c t z;
   loops = λ n j le head turn leave xs count opens step. ever_loop c t n j head turn leave xs count step;
@@ -75,7 +79,7 @@ meets_then b c t l k m [] x at z f a h e = meets_instr b c t m z (instr l k x) f
 meets_then b c t l k m (y ∷ ys) x at z f a h e =
     meets_on b (m z) (performed c t m z (instr l k y) y) _
     (meets_instr b c t m z (instr l k y) f (ap (slice_get c.code) e ∙ h.0))
-    (meets_performed b c t m (straight c t l k ys (λ z'. performed c t m z' (instr l k x) x)) z (instr l k y) y (λ z' g. meets_then b c t l k m ys x (suc at) z' f a.1 h.1 (g a.0 ∙ ap suc e)))
+    (meets_performed b c t m (straight c t l k ys (λ z'. performed c t m z' (instr l k x) x)) z (instr l k y) y a.0 (λ z' g. meets_then b c t l k m ys x (suc at) z' f a.1 h.1 (g ∙ ap suc e)))
 
 fetched_then : (b : Bool) (c : Flat) (t : Thread) (l k : ℕ) (m : State → Lists) (xs : List Step) (x : Step) (at : ℕ) (z : State)
     → Fetches b c t m → AllStraight xs → Lies c.code at (instrs l k (xs ++ x ∷ [])) → z.at ≡ at
@@ -84,20 +88,20 @@ fetched_then b c t l k m [] x at z f a h e = meets_same b _ _ (ap (fetched c t m
 fetched_then b c t l k m (y ∷ ys) x at z f a h e =
     meets_on b (fetched c t m z (slice_get c.code z.at)) (performed c t m z (instr l k y) y) _
     (meets_same b _ _ (ap (fetched c t m z) (ap (slice_get c.code) e ∙ h.0)))
-    (meets_performed b c t m (straight c t l k ys (λ z'. performed c t m z' (instr l k x) x)) z (instr l k y) y (λ z' g. meets_then b c t l k m ys x (suc at) z' f a.1 h.1 (g a.0 ∙ ap suc e)))
+    (meets_performed b c t m (straight c t l k ys (λ z'. performed c t m z' (instr l k x) x)) z (instr l k y) y a.0 (λ z' g. meets_then b c t l k m ys x (suc at) z' f a.1 h.1 (g ∙ ap suc e)))
 
 jump_is : (c : Flat) (t : Thread) (l k to n : ℕ) (a : Operand) (m : State → Lists) (z : State) (v : ℤ)
-    → performed c t m (jumped (left a v z) n) (instr l k (s.JumpIfZero a to)) (s.JumpIfZero a to) ≡ choice (is_zero (settled a z.locals v)) (m (jumped z to)) (m (jumped z (suc n)))
-jump_is c t l k to n operand.Top m z v = refl
-jump_is c t l k to n (operand.Local j) m z v = refl
-jump_is c t l k to n (operand.Number i) m z v = refl
+    → performed c t m (jumped (left a v z) n) (instr l k (s.Control (JumpIfZero a to))) (s.Control (JumpIfZero a to)) ≡ choice (is_zero (settled a z.locals v)) (m (jumped z to)) (m (jumped z (suc n)))
+jump_is c t l k to n operand.Top m z v = jump_gives c t m (jumped (left operand.Top v z) n) (instr l k (s.Control (JumpIfZero operand.Top to))) operand.Top to
+jump_is c t l k to n (operand.Local j) m z v = jump_gives c t m (jumped (left (operand.Local j) v z) n) (instr l k (s.Control (JumpIfZero (operand.Local j) to))) (operand.Local j) to
+jump_is c t l k to n (operand.Number i) m z v = jump_gives c t m (jumped (left (operand.Number i) v z) n) (instr l k (s.Control (JumpIfZero (operand.Number i) to))) (operand.Number i) to
 
 condition_are : (c : Flat) (t : Thread) (l k to at : ℕ) (xs : List (List ℕ)) (m : State → Lists) (z : State) (e : Expression) → length xs ≤ length z.locals → IsKnown t.program xs e
-    → straight c t l k (operand_steps t.program xs e) (λ z'. performed c t m z' (instr l k (s.JumpIfZero (operand_of xs e) to)) (s.JumpIfZero (operand_of xs e) to)) (jumped z at)
+    → straight c t l k (operand_steps t.program xs e) (λ z'. performed c t m z' (instr l k (s.Control (JumpIfZero (operand_of xs e) to))) (s.Control (JumpIfZero (operand_of xs e) to))) (jumped z at)
     ≡ expression t l (named xs z.locals) e (λ v. choice (is_zero v) (m (jumped z to)) (m (jumped z (suc (skip at (operand_steps t.program xs e))))))
 condition_are c t l k to at xs m z e h known =
     let a : Operand = operand_of xs e in
-    let last : State → Lists = λ z'. performed c t m z' (instr l k (s.JumpIfZero a to)) (s.JumpIfZero a to) in
+    let last : State → Lists = λ z'. performed c t m z' (instr l k (s.Control (JumpIfZero a to))) (s.Control (JumpIfZero a to)) in
     let n : ℕ = skip at (operand_steps t.program xs e) in
     operand_are c t l k xs e last z at h (steps_are c t l k xs target.Push e last z at h known)
     ∙ ap {B = Lists} (λ (f : ℤ → Lists). expression t l (named xs z.locals) e f) (fun_ext (λ v. jump_is c t l k to n a m z v))
@@ -120,17 +124,17 @@ at_most : {k m n : ℕ} → k ≤ n → m ≡ n → k ≤ m
 at_most {k = k} {m = m} {n = n} h g = subst (λ j. k ≤ j) (sym g) h
 
 -- at an instruction that completes a statement
-meets_done : (b : Bool) (c : Flat) (t : Thread) (m : State → Lists) (l k at : ℕ) (z : State) (q : Lists) → Fetches b c t m → slice_get c.code at ≡ Some (instr l k s.Done)
+meets_done : (b : Bool) (c : Flat) (t : Thread) (m : State → Lists) (l k at : ℕ) (z : State) (q : Lists) → Fetches b c t m → slice_get c.code at ≡ Some (instr l k (s.Control Done))
     → Meets b (m (jumped z (suc at))) q → Meets b (m (jumped z at)) (emit (done l) q)
-meets_done b c t m l k at z q f e g = meets_on b (m (jumped z at)) (emit (done l) (m (jumped z (suc at)))) _ (meets_instr b c t m (jumped z at) (instr l k s.Done) f e) (meets_emit b (done l) _ q g)
+meets_done b c t m l k at z q f e g = meets_on b (m (jumped z at)) (emit (done l) (m (jumped z (suc at)))) _ (meets_instr b c t m (jumped z at) (instr l k (s.Control Done)) f e) (meets_emit b (done l) _ q g)
 
 -- at one that begins it
 begins_at : (b : Bool) (c : Flat) (t : Thread) (m : State → Lists) (l k at : ℕ) (xs : List (List ℕ)) (z : State) (q : Lists)
-    → Fetches b c t m → names (slice_get c.program.funcs z.func) ≡ xs → slice_get c.code at ≡ Some (instr l k s.Begin)
+    → Fetches b c t m → names (slice_get c.program.funcs z.func) ≡ xs → slice_get c.code at ≡ Some (instr l k (s.Control Begin))
     → Meets b (m (jumped z (suc at))) q → Meets b (m (jumped z at)) (emit (begins l (named xs z.locals)) q)
 begins_at b c t m l k at xs z q f e g h =
     meets_on b (m (jumped z at)) (emit (begins l (locals_now c z)) (m (jumped z (suc at)))) _
-    (meets_instr b c t m (jumped z at) (instr l k s.Begin) f g)
+    (meets_instr b c t m (jumped z at) (instr l k (s.Control Begin)) f g)
     (meets_on b _ (emit (begins l (locals_now c z)) q) _
     (meets_emit b (begins l (locals_now c z)) (m (jumped z (suc at))) q h)
     (meets_same b _ _ (ap {B = Lists} (λ ys. emit (begins l (named ys z.locals)) q) e)))
@@ -168,24 +172,24 @@ body_meets b c t m runner most n le calls xs z (if_ l e x y rest) k at ret more 
     let first : ℕ = at + (2 + length before) in
     let second : ℕ = first + (1 + size p xs x) in
     let last : ℕ = second + size p xs y in
-    let jump : Step = s.JumpIfZero (operand_of xs e) second in
-    let head : List Step = s.Begin ∷ (before ++ jump ∷ []) in
+    let jump : Step = s.Control (JumpIfZero (operand_of xs e) second) in
+    let head : List Step = s.Control Begin ∷ (before ++ jump ∷ []) in
     let code_x : List Instr = body_code p xs first (suc k) x in
     let code_y : List Instr = body_code p xs second (suc k + place_count x) y in
     let code_rest : List Instr = body_code p xs (suc last) (suc k + place_count x + place_count y) rest in
-    let lies_head : Lies c.code at (instrs l k head) = lies_first c.code at (instrs l k head) (code_x ++ instr l k (s.Jump last) ∷ (code_y ++ instr l k s.Done ∷ code_rest)) lies in
-    let lies_from_x : Lies c.code first (code_x ++ instr l k (s.Jump last) ∷ (code_y ++ instr l k s.Done ∷ code_rest)) =
-    subst (λ i. Lies c.code i (code_x ++ instr l k (s.Jump last) ∷ (code_y ++ instr l k s.Done ∷ code_rest))) (ap (λ i. at + i) (condition_length l k before s.Begin jump))
-    (lies_second c.code at (instrs l k head) (code_x ++ instr l k (s.Jump last) ∷ (code_y ++ instr l k s.Done ∷ code_rest)) lies) in
-    let lies_x : Lies c.code first code_x = lies_first c.code first code_x (instr l k (s.Jump last) ∷ (code_y ++ instr l k s.Done ∷ code_rest)) lies_from_x in
-    let lies_jump : Lies c.code (first + size p xs x) (instr l k (s.Jump last) ∷ (code_y ++ instr l k s.Done ∷ code_rest)) =
-    subst (λ i. Lies c.code i (instr l k (s.Jump last) ∷ (code_y ++ instr l k s.Done ∷ code_rest))) (ap (λ i. first + i) (code_length p xs x first (suc k)))
-    (lies_second c.code first code_x (instr l k (s.Jump last) ∷ (code_y ++ instr l k s.Done ∷ code_rest)) lies_from_x) in
-    let lies_from_y : Lies c.code second (code_y ++ instr l k s.Done ∷ code_rest) = subst (λ i. Lies c.code i (code_y ++ instr l k s.Done ∷ code_rest)) (omega arith) lies_jump.1 in
-    let lies_y : Lies c.code second code_y = lies_first c.code second code_y (instr l k s.Done ∷ code_rest) lies_from_y in
-    let lies_done : Lies c.code last (instr l k s.Done ∷ code_rest) =
-    subst (λ i. Lies c.code i (instr l k s.Done ∷ code_rest)) (ap (λ i. second + i) (code_length p xs y second (suc k + place_count x)))
-    (lies_second c.code second code_y (instr l k s.Done ∷ code_rest) lies_from_y) in
+    let lies_head : Lies c.code at (instrs l k head) = lies_first c.code at (instrs l k head) (code_x ++ instr l k (s.Control (Jump last)) ∷ (code_y ++ instr l k (s.Control Done) ∷ code_rest)) lies in
+    let lies_from_x : Lies c.code first (code_x ++ instr l k (s.Control (Jump last)) ∷ (code_y ++ instr l k (s.Control Done) ∷ code_rest)) =
+    subst (λ i. Lies c.code i (code_x ++ instr l k (s.Control (Jump last)) ∷ (code_y ++ instr l k (s.Control Done) ∷ code_rest))) (ap (λ i. at + i) (condition_length l k before (s.Control Begin) jump))
+    (lies_second c.code at (instrs l k head) (code_x ++ instr l k (s.Control (Jump last)) ∷ (code_y ++ instr l k (s.Control Done) ∷ code_rest)) lies) in
+    let lies_x : Lies c.code first code_x = lies_first c.code first code_x (instr l k (s.Control (Jump last)) ∷ (code_y ++ instr l k (s.Control Done) ∷ code_rest)) lies_from_x in
+    let lies_jump : Lies c.code (first + size p xs x) (instr l k (s.Control (Jump last)) ∷ (code_y ++ instr l k (s.Control Done) ∷ code_rest)) =
+    subst (λ i. Lies c.code i (instr l k (s.Control (Jump last)) ∷ (code_y ++ instr l k (s.Control Done) ∷ code_rest))) (ap (λ i. first + i) (code_length p xs x first (suc k)))
+    (lies_second c.code first code_x (instr l k (s.Control (Jump last)) ∷ (code_y ++ instr l k (s.Control Done) ∷ code_rest)) lies_from_x) in
+    let lies_from_y : Lies c.code second (code_y ++ instr l k (s.Control Done) ∷ code_rest) = subst (λ i. Lies c.code i (code_y ++ instr l k (s.Control Done) ∷ code_rest)) (omega arith) lies_jump.1 in
+    let lies_y : Lies c.code second code_y = lies_first c.code second code_y (instr l k (s.Control Done) ∷ code_rest) lies_from_y in
+    let lies_done : Lies c.code last (instr l k (s.Control Done) ∷ code_rest) =
+    subst (λ i. Lies c.code i (instr l k (s.Control Done) ∷ code_rest)) (ap (λ i. second + i) (code_length p xs y second (suc k + place_count x)))
+    (lies_second c.code second code_y (instr l k (s.Control Done) ∷ code_rest) lies_from_y) in
     let sites_x : Lies c.sites (suc k) (body_sites p xs first x) = lies_first c.sites (suc k) (body_sites p xs first x) (body_sites p xs second y ++ body_sites p xs (suc last) rest) sites.1 in
     let sites_from_y : Lies c.sites (suc k + place_count x) (body_sites p xs second y ++ body_sites p xs (suc last) rest) =
     subst (λ i. Lies c.sites i (body_sites p xs second y ++ body_sites p xs (suc last) rest)) (ap (λ i. suc k + i) (sites_length p xs x first))
@@ -202,7 +206,7 @@ body_meets b c t m runner most n le calls xs z (if_ l e x y rest) k at ret more 
     let in_x : Meets b (m n (jumped z first)) (body t calls most (named xs z.locals) x ret (λ env. emit (done l) (body t calls most env rest ret more))) =
     body_meets b c t m runner most n le calls xs z x (suc k) first ret (λ env. emit (done l) (body t calls most env rest ret more)) meets names_are h known.1 lies_x sites_x returns
     (λ j below vs g. meets_on b (m j (jumped (record z { locals = vs }) (first + size p xs x))) (m j (jumped (record z { locals = vs }) last)) _
-    (meets_instr b c t (m j) (jumped (record z { locals = vs }) (first + size p xs x)) (instr l k (s.Jump last)) (runner.fetches j) lies_jump.0) (behind j below vs g)) in
+    (meets_instr b c t (m j) (jumped (record z { locals = vs }) (first + size p xs x)) (instr l k (s.Control (Jump last))) (runner.fetches j) lies_jump.0) (behind j below vs g)) in
     let in_y : Meets b (m n (jumped z second)) (body t calls most (named xs z.locals) y ret (λ env. emit (done l) (body t calls most env rest ret more))) =
     body_meets b c t m runner most n le calls xs z y (suc k + place_count x) second ret (λ env. emit (done l) (body t calls most env rest ret more)) meets names_are h known.2 lies_y sites_y returns behind in
     begins_at b c t (m n) l k at xs z _ (runner.fetches n) names_are lies_head.0
@@ -217,19 +221,19 @@ body_meets b c t m runner most n le calls xs z (while_ l e x rest) k at ret more
     let head : ℕ = at + 1 in
     let first : ℕ = head + (1 + length before) in
     let last : ℕ = first + (1 + size p xs x) in
-    let jump : Step = s.JumpIfZero (operand_of xs e) last in
-    let begin : List Step = s.Begin ∷ (before ++ jump ∷ []) in
+    let jump : Step = s.Control (JumpIfZero (operand_of xs e) last) in
+    let begin : List Step = s.Control Begin ∷ (before ++ jump ∷ []) in
     let code_x : List Instr = body_code p xs first (suc (suc k)) x in
     let code_rest : List Instr = body_code p xs (suc last) (suc (suc k) + place_count x) rest in
-    let lies_begin : Lies c.code at (instrs l k begin) = lies_first c.code at (instrs l k begin) (code_x ++ instr l (suc k) (s.Edge head) ∷ instr l k s.Done ∷ code_rest) lies in
-    let lies_from_x : Lies c.code first (code_x ++ instr l (suc k) (s.Edge head) ∷ instr l k s.Done ∷ code_rest) =
-    subst (λ i. Lies c.code i (code_x ++ instr l (suc k) (s.Edge head) ∷ instr l k s.Done ∷ code_rest)) (ap (λ i. at + i) (condition_length l k before s.Begin jump) ∙ first_again at (length before))
-    (lies_second c.code at (instrs l k begin) (code_x ++ instr l (suc k) (s.Edge head) ∷ instr l k s.Done ∷ code_rest) lies) in
-    let lies_x : Lies c.code first code_x = lies_first c.code first code_x (instr l (suc k) (s.Edge head) ∷ instr l k s.Done ∷ code_rest) lies_from_x in
-    let lies_edge : Lies c.code (first + size p xs x) (instr l (suc k) (s.Edge head) ∷ instr l k s.Done ∷ code_rest) =
-    subst (λ i. Lies c.code i (instr l (suc k) (s.Edge head) ∷ instr l k s.Done ∷ code_rest)) (ap (λ i. first + i) (code_length p xs x first (suc (suc k))))
-    (lies_second c.code first code_x (instr l (suc k) (s.Edge head) ∷ instr l k s.Done ∷ code_rest) lies_from_x) in
-    let lies_done : Lies c.code last (instr l k s.Done ∷ code_rest) = subst (λ i. Lies c.code i (instr l k s.Done ∷ code_rest)) (omega arith) lies_edge.1 in
+    let lies_begin : Lies c.code at (instrs l k begin) = lies_first c.code at (instrs l k begin) (code_x ++ instr l (suc k) (s.Control (Edge head)) ∷ instr l k (s.Control Done) ∷ code_rest) lies in
+    let lies_from_x : Lies c.code first (code_x ++ instr l (suc k) (s.Control (Edge head)) ∷ instr l k (s.Control Done) ∷ code_rest) =
+    subst (λ i. Lies c.code i (code_x ++ instr l (suc k) (s.Control (Edge head)) ∷ instr l k (s.Control Done) ∷ code_rest)) (ap (λ i. at + i) (condition_length l k before (s.Control Begin) jump) ∙ first_again at (length before))
+    (lies_second c.code at (instrs l k begin) (code_x ++ instr l (suc k) (s.Control (Edge head)) ∷ instr l k (s.Control Done) ∷ code_rest) lies) in
+    let lies_x : Lies c.code first code_x = lies_first c.code first code_x (instr l (suc k) (s.Control (Edge head)) ∷ instr l k (s.Control Done) ∷ code_rest) lies_from_x in
+    let lies_edge : Lies c.code (first + size p xs x) (instr l (suc k) (s.Control (Edge head)) ∷ instr l k (s.Control Done) ∷ code_rest) =
+    subst (λ i. Lies c.code i (instr l (suc k) (s.Control (Edge head)) ∷ instr l k (s.Control Done) ∷ code_rest)) (ap (λ i. first + i) (code_length p xs x first (suc (suc k))))
+    (lies_second c.code first code_x (instr l (suc k) (s.Control (Edge head)) ∷ instr l k (s.Control Done) ∷ code_rest) lies_from_x) in
+    let lies_done : Lies c.code last (instr l k (s.Control Done) ∷ code_rest) = subst (λ i. Lies c.code i (instr l k (s.Control Done) ∷ code_rest)) (omega arith) lies_edge.1 in
     let place : ℕ = at + (2 + length before) in
     let sites_x : Lies c.sites (suc (suc k)) (body_sites p xs first x) =
     subst (λ i. Lies c.sites (suc (suc k)) (body_sites p xs i x)) (first_again at (length before))
@@ -252,7 +256,7 @@ body_meets b c t m runner most n le calls xs z (while_ l e x rest) k at ret more
     body_meets b c t m runner most i (omega (arith, below, le)) calls xs y x (suc (suc k)) first ret (λ env. emit (edge l) (again env))
     (λ j under. meets j (omega (arith, under, below))) names_are (at_most h g) known.1 lies_x sites_x (λ j under. returns j (omega (arith, under, below)))
     (λ j under ws f. meets_on b (m j (jumped (record z { locals = ws }) (first + size p xs x))) (emit (edge l) (m j (jumped (record z { locals = ws }) head))) _
-    (meets_instr b c t (m j) (jumped (record z { locals = ws }) (first + size p xs x)) (instr l (suc k) (s.Edge head)) (runner.fetches j) lies_edge.0)
+    (meets_instr b c t (m j) (jumped (record z { locals = ws }) (first + size p xs x)) (instr l (suc k) (s.Control (Edge head))) (runner.fetches j) lies_edge.0)
     (meets_emit b (edge l) _ _ (hyp j under ws (f ∙ g)))) in
     meets_on b _ (straight c t l k before (λ z'. performed c t (m i) z' (instr l k jump) jump) (jumped y head)) _
     (fetched_then b c t l k (m i) before jump head (jumped y head) (runner.fetches i) (operand_straight p xs e) (subst (λ q. Lies c.code q (instrs l k (before ++ jump ∷ []))) (omega arith) lies_begin.1) refl)

@@ -3,11 +3,12 @@ use Rattle.std.proofs.Common.{ℕ, suc, zero, ◌+◌, ◌≡◌, List, [], ◌�
 use Rattle.loom_tree.specs.Tree.{Function, Source}
 use Rattle.loom_lang.specs.Rules.{locals_of, KeepsRules, FunctionsKeepRules}
 use Rattle.loom_flow.specs.declared.code.Step.TheVariants as s
+use Rattle.loom_flow.specs.declared.code.Control.TheVariants.{Out}
 use Rattle.loom_flow.specs.declared.code.Instr.{Instr}
 use Rattle.loom_flow.specs.declared.code.Site.{Site}
 use Rattle.loom_flow.specs.Flat.{Flat}
-use Rattle.loom_flow.specs.Lowered.{instr, size, place_count, body_code, body_sites, site, functions_code, functions_sites, entrances, lowered}
-use Rattle.loom_flow.proofs.Lying.{Lies, lies_first, lies_second, lies_behind, lies_whole}
+use Rattle.loom_flow.specs.FlatCode.{instr, size, place_count, body_code, body_sites, site, functions_code, functions_sites, entrances, lowered}
+use Rattle.loom_flow.proofs.Sublist.{Lies, lies_first, lies_second, lies_behind, lies_whole}
 use Rattle.loom_flow.proofs.Sizes.{code_length, sites_length}
 use Rattle.loom_flow.proofs.Roles.{body_known}
 use Rattle.loom_flow.proofs.Frames.{IsFunctionPlaced, ArePlaced}
@@ -20,7 +21,7 @@ placed_from c [] at place l ls code sites f = refl
 placed_from c (g ∷ gs) at place l ls code sites zero =
     let p : Source = c.program in
     let xs : List (List ℕ) = locals_of g in
-    let rest : List Instr = instr g.line (suc place + place_count g.body) s.Out ∷ functions_code p (suc (at + size p xs g.body)) (suc (suc (place + place_count g.body))) gs in
+    let rest : List Instr = instr g.line (suc place + place_count g.body) (s.Control Out) ∷ functions_code p (suc (at + size p xs g.body)) (suc (suc (place + place_count g.body))) gs in
     let last : Lies c.code (at + length (body_code p xs at (suc place) g.body)) rest = lies_second c.code at (body_code p xs at (suc place) g.body) rest code in (
       record { start = at; place = place; params = length g.params },
       refl,
@@ -40,8 +41,8 @@ placed_from c (g ∷ gs) at place l ls code sites (suc f) =
     let later : ℕ = suc (suc (place + place_count g.body)) in
     let more : List Instr = functions_code p next later gs in
     let others : List Site = functions_sites p next gs in
-    let code_last : Lies c.code (at + length (body_code p xs at (suc place) g.body)) (instr g.line (suc place + place_count g.body) s.Out ∷ more) =
-    lies_second c.code at (body_code p xs at (suc place) g.body) (instr g.line (suc place + place_count g.body) s.Out ∷ more) code in
+    let code_last : Lies c.code (at + length (body_code p xs at (suc place) g.body)) (instr g.line (suc place + place_count g.body) (s.Control Out) ∷ more) =
+    lies_second c.code at (body_code p xs at (suc place) g.body) (instr g.line (suc place + place_count g.body) (s.Control Out) ∷ more) code in
     let sites_last : Lies c.sites (suc place + length (body_sites p xs at g.body)) (site g.line 0 ∷ others) =
     lies_second c.sites (suc place) (body_sites p xs at g.body) (site g.line 0 ∷ others) sites.1 in
     let code_length_is : length (body_code p xs at (suc place) g.body) ≡ size p xs g.body = code_length p xs g.body at (suc place) in

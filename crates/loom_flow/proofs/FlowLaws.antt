@@ -8,11 +8,11 @@ use Rattle.loom_lang.specs.Places.{places, place_at, line_of_place}
 use Rattle.loom_flow.specs.declared.code.Site.{Site}
 use Rattle.loom_flow.specs.Flat.{Flat}
 use Rattle.loom_flow.specs.Laws.{HasTraces, HasPlaces, HasInstructionPlaces, HasCalls}
-use Rattle.loom_flow.specs.Lowered.{or_zero, calls_body, set_of}
+use Rattle.loom_flow.specs.FlatCode.{or_zero, calls_body, set_of}
 use Rattle.loom_flow.specs.Code.{IsLowered}
 use Rattle.loom_flow.proofs.Places.{lowered_places, few_places}
 use Rattle.loom_flow.proofs.CallSets.{lowered_calls}
-use Rattle.loom_flow.proofs.Located as located
+use Rattle.loom_flow.proofs.InstructionPlaces as located
 use Rattle.loom_flow.proofs.Traces.{lowered_traces}
 
 pub has_places : (c : Flat) → IsLowered c → HasPlaces c c.program

@@ -10,9 +10,11 @@ use Rattle.loom_lang.specs.Numbers.{position, Cells, cells_from, cells_named, se
 use Rattle.loom_lang.specs.Rules.{cells_of, cell_count, is_in, is_distinct, is_word, is_sema, takes, shared_names, KeepsRules}
 use Rattle.loom_flow.specs.declared.code.Step.{Step}
 use Rattle.loom_flow.specs.declared.code.Step.TheVariants as s
+use Rattle.loom_flow.specs.declared.code.Ask.TheVariants.{Read, ReadCell, Write, WriteCell, Lock, Unlock, Down, Up, Spawn}
+use Rattle.loom_flow.specs.declared.code.Control.TheVariants.{Call}
 use Rattle.loom_flow.specs.declared.code.Instr.{Instr}
-use Rattle.loom_flow.specs.Laws.{HasParams, HasNumbers}
-use Rattle.loom_flow.specs.Lowered.{or_zero, first_cell, array_of, lowered}
+use Rattle.loom_flow.specs.Laws.{HasParams, HasProgramNumbers}
+use Rattle.loom_flow.specs.FlatCode.{or_zero, first_cell, array_of, lowered}
 use Rattle.loom_flow.proofs.EachStep.{HoldsOf, is_unnumbered, each_step}
 use Rattle.loom_flow.proofs.Roles.{never, sema_in, distinct_front}
 use Rattle.loom_flow.proofs.Truths.{both, or_else}
@@ -129,20 +131,20 @@ params_there p f n l h =
 
 -- Instructions
 
-other_numbers : (p : Source) (x : Step) → is_unnumbered x ≡ true → HasNumbers p x
-other_numbers p (s.Read w d) h = cc
-other_numbers p (s.ReadCell a n d) h = cc
-other_numbers p (s.Write w a) h = cc
-other_numbers p (s.WriteCell a n b) h = cc
-other_numbers p (s.Lock m) h = cc
-other_numbers p (s.Unlock m) h = cc
-other_numbers p (s.Down x) h = cc
-other_numbers p (s.Up x) h = cc
-other_numbers p (s.Spawn f n d) h = cc
-other_numbers p (s.Call f n) h = cc
+other_numbers : (p : Source) (x : Step) → is_unnumbered x ≡ true → HasProgramNumbers p x
+other_numbers p (s.Ask (Read w d)) h = cc
+other_numbers p (s.Ask (ReadCell a n d)) h = cc
+other_numbers p (s.Ask (Write w a)) h = cc
+other_numbers p (s.Ask (WriteCell a n b)) h = cc
+other_numbers p (s.Ask (Lock m)) h = cc
+other_numbers p (s.Ask (Unlock m)) h = cc
+other_numbers p (s.Ask (Down x)) h = cc
+other_numbers p (s.Ask (Up x)) h = cc
+other_numbers p (s.Ask (Spawn f n d)) h = cc
+other_numbers p (s.Control (Call f n)) h = cc
 other_numbers p _ h = tt
 
-numbers_hold : (p : Source) → KeepsRules p → HoldsOf p (HasNumbers p)
+numbers_hold : (p : Source) → KeepsRules p → HoldsOf p (HasProgramNumbers p)
 numbers_hold p l = record {
   other = other_numbers p;
   read = λ x d h. word_there p x l h;
@@ -157,5 +159,5 @@ numbers_hold p l = record {
   call = λ f n h. params_there p f n l h;
 }
 
-pub lowered_numbers : (p : Source) → KeepsRules p → (at : ℕ) (i : Instr) → slice_get (lowered p).code at ≡ Some i → HasNumbers p i.step
-lowered_numbers p l at i h = each_step p (HasNumbers p) at i l (numbers_hold p l) h
+pub lowered_numbers : (p : Source) → KeepsRules p → (at : ℕ) (i : Instr) → slice_get (lowered p).code at ≡ Some i → HasProgramNumbers p i.step
+lowered_numbers p l at i h = each_step p (HasProgramNumbers p) at i l (numbers_hold p l) h

@@ -12,6 +12,9 @@ use Rattle.loom_flow.specs.declared.code.Target.TheVariants as t
 use Rattle.loom_flow.specs.declared.code.Array.{Array}
 use Rattle.loom_flow.specs.declared.code.Step.{Step}
 use Rattle.loom_flow.specs.declared.code.Step.TheVariants as s
+use Rattle.loom_flow.specs.declared.code.Compute.TheVariants.{Move, Negate, Invert, Apply, Discard}
+use Rattle.loom_flow.specs.declared.code.Ask.TheVariants.{Read, ReadCell, Write, WriteCell, Lock, Unlock, Down, Up, Join, Print, Spawn}
+use Rattle.loom_flow.specs.declared.code.Control.TheVariants.{Begin, Done, Edge, Jump, JumpIfZero, Call, Return, Out}
 use Rattle.loom_flow.specs.declared.code.Instr.{Instr}
 use Rattle.loom_flow.specs.declared.code.Site.{Site}
 use Rattle.loom_flow.specs.declared.code.Entrance.{Entrance}
@@ -55,19 +58,19 @@ unless_there o.Top steps = steps
 unless_there _ steps = []
 
 abbrev pub variable_step : Source → Target → List ℕ → Option ℕ → Step
-variable_step p d x None = s.Read (word_named p x) d
-variable_step p d x (Some k) = s.Move (o.Local k) d
+variable_step p d x None = s.Ask (Read (word_named p x) d)
+variable_step p d x (Some k) = s.Compute (Move (o.Local k) d)
 
 -- the steps that leave an expression's value
 abbrev pub steps_to : Source → List (List ℕ) → Target → Expression → List Step
-steps_to p xs d (num n) = s.Move (o.Number n) d ∷ []
+steps_to p xs d (num n) = s.Compute (Move (o.Number n) d) ∷ []
 steps_to p xs d (var x) = variable_step p d x (position x xs) ∷ []
-steps_to p xs d (cell x i) = unless_there (operand_of xs i) (steps_to p xs t.Push i) ++ s.ReadCell (array_named p x) (operand_of xs i) d ∷ []
-steps_to p xs d (neg a) = unless_there (operand_of xs a) (steps_to p xs t.Push a) ++ s.Negate (operand_of xs a) d ∷ []
-steps_to p xs d (inverse a) = unless_there (operand_of xs a) (steps_to p xs t.Push a) ++ s.Invert (operand_of xs a) d ∷ []
+steps_to p xs d (cell x i) = unless_there (operand_of xs i) (steps_to p xs t.Push i) ++ s.Ask (ReadCell (array_named p x) (operand_of xs i) d) ∷ []
+steps_to p xs d (neg a) = unless_there (operand_of xs a) (steps_to p xs t.Push a) ++ s.Compute (Negate (operand_of xs a) d) ∷ []
+steps_to p xs d (inverse a) = unless_there (operand_of xs a) (steps_to p xs t.Push a) ++ s.Compute (Invert (operand_of xs a) d) ∷ []
 steps_to p xs d (bin o a b) =
     unless_there (operand_of xs a) (steps_to p xs t.Push a)
-    ++ (unless_there (operand_of xs b) (steps_to p xs t.Push b) ++ s.Apply o (operand_of xs a) (operand_of xs b) d ∷ [])
+    ++ (unless_there (operand_of xs b) (steps_to p xs t.Push b) ++ s.Compute (Apply o (operand_of xs a) (operand_of xs b) d) ∷ [])
 
 -- the steps before an instruction that takes the expression as an operand
 abbrev pub operand_steps : Source → List (List ℕ) → Expression → List Step
@@ -78,21 +81,21 @@ argument_steps p xs [] = []
 argument_steps p xs (e ∷ es) = steps_to p xs t.Push e ++ argument_steps p xs es
 
 abbrev pub call_steps : Source → List (List ℕ) → List ℕ → List Expression → List Step
-call_steps p xs f es = argument_steps p xs es ++ s.Call (or_zero (function_number p f)) (length es) ∷ []
+call_steps p xs f es = argument_steps p xs es ++ s.Control (Call (or_zero (function_number p f)) (length es)) ∷ []
 
 abbrev pub spawn_steps : Source → List (List ℕ) → List ℕ → List Expression → List Step
-spawn_steps p xs f es = argument_steps p xs es ++ s.Spawn (or_zero (function_number p f)) (length es) t.Push ∷ []
+spawn_steps p xs f es = argument_steps p xs es ++ s.Ask (Spawn (or_zero (function_number p f)) (length es) t.Push) ∷ []
 
 -- Statements
 
 -- the step that writes what is on top
 abbrev pub store_step : Source → List ℕ → Option ℕ → Step
-store_step p x None = s.Write (word_named p x) o.Top
-store_step p x (Some k) = s.Move o.Top (t.Local k)
+store_step p x None = s.Ask (Write (word_named p x) o.Top)
+store_step p x (Some k) = s.Compute (Move o.Top (t.Local k))
 
 -- an expression's value is left in a local at once
 abbrev pub value_steps : Source → List (List ℕ) → List ℕ → Expression → Option ℕ → List Step
-value_steps p xs x e None = operand_steps p xs e ++ s.Write (word_named p x) (operand_of xs e) ∷ []
+value_steps p xs x e None = operand_steps p xs e ++ s.Ask (Write (word_named p x) (operand_of xs e)) ∷ []
 value_steps p xs x e (Some k) = steps_to p xs (t.Local k) e
 
 abbrev pub set_steps : Source → List (List ℕ) → List ℕ → Right Expression → List Step
@@ -102,20 +105,20 @@ set_steps p xs x (Right.spawn f es) = spawn_steps p xs f es ++ store_step p x (p
 
 -- from the statement's beginning to its completion
 abbrev pub simple_steps : Source → List (List ℕ) → Simple Expression → List Step
-simple_steps p xs (let_ x r) = s.Begin ∷ (set_steps p xs x r ++ s.Done ∷ [])
-simple_steps p xs (set x r) = s.Begin ∷ (set_steps p xs x r ++ s.Done ∷ [])
+simple_steps p xs (let_ x r) = s.Control Begin ∷ (set_steps p xs x r ++ s.Control Done ∷ [])
+simple_steps p xs (set x r) = s.Control Begin ∷ (set_steps p xs x r ++ s.Control Done ∷ [])
 simple_steps p xs (set_cell x i e) =
-    s.Begin ∷ (operand_steps p xs i ++ (operand_steps p xs e ++ s.WriteCell (array_named p x) (operand_of xs i) (operand_of xs e) ∷ s.Done ∷ []))
-simple_steps p xs (Simple.call f es) = s.Begin ∷ (call_steps p xs f es ++ s.Discard ∷ s.Done ∷ [])
-simple_steps p xs (return None) = s.Begin ∷ s.Return (o.Number (pos 0)) ∷ []
-simple_steps p xs (return (Some e)) = s.Begin ∷ (operand_steps p xs e ++ s.Return (operand_of xs e) ∷ [])
-simple_steps p xs (tree.lock x) = s.Begin ∷ s.Lock (or_zero (mutex_number p x)) ∷ s.Done ∷ []
-simple_steps p xs (tree.unlock x) = s.Begin ∷ s.Unlock (or_zero (mutex_number p x)) ∷ s.Done ∷ []
-simple_steps p xs (tree.down x) = s.Begin ∷ s.Down (or_zero (sema_number p x)) ∷ s.Done ∷ []
-simple_steps p xs (tree.up x) = s.Begin ∷ s.Up (or_zero (sema_number p x)) ∷ s.Done ∷ []
-simple_steps p xs (tree.join e) = s.Begin ∷ (operand_steps p xs e ++ s.Join (operand_of xs e) ∷ s.Done ∷ [])
-simple_steps p xs (tree.print e) = s.Begin ∷ (operand_steps p xs e ++ s.Print (operand_of xs e) ∷ s.Done ∷ [])
-simple_steps p xs tree.skip = s.Begin ∷ s.Done ∷ []
+    s.Control Begin ∷ (operand_steps p xs i ++ (operand_steps p xs e ++ s.Ask (WriteCell (array_named p x) (operand_of xs i) (operand_of xs e)) ∷ s.Control Done ∷ []))
+simple_steps p xs (Simple.call f es) = s.Control Begin ∷ (call_steps p xs f es ++ s.Compute Discard ∷ s.Control Done ∷ [])
+simple_steps p xs (return None) = s.Control Begin ∷ s.Control (Return (o.Number (pos 0))) ∷ []
+simple_steps p xs (return (Some e)) = s.Control Begin ∷ (operand_steps p xs e ++ s.Control (Return (operand_of xs e)) ∷ [])
+simple_steps p xs (tree.lock x) = s.Control Begin ∷ s.Ask (Lock (or_zero (mutex_number p x))) ∷ s.Control Done ∷ []
+simple_steps p xs (tree.unlock x) = s.Control Begin ∷ s.Ask (Unlock (or_zero (mutex_number p x))) ∷ s.Control Done ∷ []
+simple_steps p xs (tree.down x) = s.Control Begin ∷ s.Ask (Down (or_zero (sema_number p x))) ∷ s.Control Done ∷ []
+simple_steps p xs (tree.up x) = s.Control Begin ∷ s.Ask (Up (or_zero (sema_number p x))) ∷ s.Control Done ∷ []
+simple_steps p xs (tree.join e) = s.Control Begin ∷ (operand_steps p xs e ++ s.Ask (Join (operand_of xs e)) ∷ s.Control Done ∷ [])
+simple_steps p xs (tree.print e) = s.Control Begin ∷ (operand_steps p xs e ++ s.Ask (Print (operand_of xs e)) ∷ s.Control Done ∷ [])
+simple_steps p xs tree.skip = s.Control Begin ∷ s.Control Done ∷ []
 
 -- the number of the instruction behind the call of a statement whose first instruction has this number, or 0
 abbrev pub resume_of : Source → List (List ℕ) → ℕ → Simple Expression → ℕ
@@ -138,6 +141,10 @@ size p xs (simple l x rest) = length (simple_steps p xs x) + size p xs rest
 size p xs (if_ l e a b rest) = length (operand_steps p xs e) + (4 + size p xs a + size p xs b + size p xs rest)
 size p xs (while_ l e a rest) = length (operand_steps p xs e) + (4 + size p xs a + size p xs rest)
 
+-- A place's number has 16 bits.
+abbrev pub place_limit : ℕ
+place_limit = 65536
+
 -- how many places they have
 abbrev pub place_count : Body → ℕ
 place_count b = length (body_places b)
@@ -151,20 +158,20 @@ body_code p xs at place (if_ l e a b rest) =
     let first : ℕ = at + (2 + length (operand_steps p xs e)) in
     let second : ℕ = first + (1 + size p xs a) in
     let done : ℕ = second + size p xs b in
-    instrs l place (s.Begin ∷ (operand_steps p xs e ++ s.JumpIfZero (operand_of xs e) second ∷ []))
+    instrs l place (s.Control Begin ∷ (operand_steps p xs e ++ s.Control (JumpIfZero (operand_of xs e) second) ∷ []))
     ++ (body_code p xs first (suc place) a
-    ++ instr l place (s.Jump done)
+    ++ instr l place (s.Control (Jump done))
     ∷ (body_code p xs second (suc place + place_count a) b
-    ++ instr l place s.Done
+    ++ instr l place (s.Control Done)
     ∷ body_code p xs (suc done) (suc place + place_count a + place_count b) rest))
 body_code p xs at place (while_ l e a rest) =
     let head : ℕ = at + 1 in
     let first : ℕ = head + (1 + length (operand_steps p xs e)) in
     let done : ℕ = first + (1 + size p xs a) in
-    instrs l place (s.Begin ∷ (operand_steps p xs e ++ s.JumpIfZero (operand_of xs e) done ∷ []))
+    instrs l place (s.Control Begin ∷ (operand_steps p xs e ++ s.Control (JumpIfZero (operand_of xs e) done) ∷ []))
     ++ (body_code p xs first (suc (suc place)) a
-    ++ instr l (suc place) (s.Edge head)
-    ∷ instr l place s.Done
+    ++ instr l (suc place) (s.Control (Edge head))
+    ∷ instr l place (s.Control Done)
     ∷ body_code p xs (suc done) (suc (suc place) + place_count a) rest)
 
 abbrev pub site : ℕ → ℕ → Site
@@ -190,7 +197,7 @@ abbrev pub functions_code : Source → ℕ → ℕ → List Function → List In
 functions_code p at place [] = []
 functions_code p at place (f ∷ fs) =
     body_code p (locals_of f) at (suc place) f.body
-    ++ instr f.line (suc place + place_count f.body) s.Out
+    ++ instr f.line (suc place + place_count f.body) (s.Control Out)
     ∷ functions_code p (suc (at + size p (locals_of f) f.body)) (suc (suc (place + place_count f.body))) fs
 
 abbrev pub functions_sites : Source → ℕ → List Function → List Site

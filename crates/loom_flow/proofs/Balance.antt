@@ -3,8 +3,8 @@ use Rattle.std.proofs.Common.{ℕ, ◌+◌, ◌-◌, ◌≡◌, ◌≤◌, List,
 use Rattle.loom_tree.specs.Tree.{Expression, num, var, cell, neg, inverse, bin, Right, Simple, let_, set, set_cell, return, Function, Source}
 use Rattle.loom_tree.specs.Tree as tree
 use Rattle.loom_lang.specs.Rules.{takes, KeepsRules}
-use Rattle.loom_flow.specs.Counted.{takes_right, takes_simple}
-use Rattle.loom_flow.proofs.Known.{few_in}
+use Rattle.loom_flow.specs.Arguments.{takes_right, takes_simple}
+use Rattle.loom_flow.proofs.StatementRules.{few_in}
 use Rattle.loom_lang.specs.Numbers.{position, function_number}
 use Rattle.loom_flow.specs.declared.code.Operand.{Operand}
 use Rattle.loom_flow.specs.declared.code.Operand.TheVariants as operand
@@ -12,26 +12,29 @@ use Rattle.loom_flow.specs.declared.code.Target.{Target}
 use Rattle.loom_flow.specs.declared.code.Target.TheVariants as target
 use Rattle.loom_flow.specs.declared.code.Step.{Step}
 use Rattle.loom_flow.specs.declared.code.Step.TheVariants as s
-use Rattle.loom_flow.specs.Lowered.{or_zero, word_named, array_named, operand_of, unless_there, variable_step, steps_to, operand_steps, argument_steps, call_steps, spawn_steps, store_step, value_steps, set_steps, simple_steps}
+use Rattle.loom_flow.specs.declared.code.Compute.TheVariants.{Negate, Invert, Apply, Discard}
+use Rattle.loom_flow.specs.declared.code.Ask.TheVariants.{ReadCell, Write, WriteCell, Join, Print, Spawn}
+use Rattle.loom_flow.specs.declared.code.Control.TheVariants.{Begin, Done, Edge, Jump, JumpIfZero, Call, Return, Out}
+use Rattle.loom_flow.specs.FlatCode.{or_zero, word_named, array_named, operand_of, unless_there, variable_step, steps_to, operand_steps, argument_steps, call_steps, spawn_steps, store_step, value_steps, set_steps, simple_steps}
 use Rattle.loom_flow.specs.Depth.{taken, put, takes_off, puts_on, nodes, AreSmall, IsSmallRight, IsSmallSimple}
 
 -- A step may stand where there are `d` values: what jumps, calls or returns takes off all.
 abbrev pub Fits : ℕ → Step → Type 0
-Fits d (s.Call f n) = d ≡ n
-Fits d (s.Return a) = d ≡ taken a
-Fits d s.Out = d ≡ 0
-Fits d (s.Edge to) = d ≡ 0
-Fits d (s.Jump to) = d ≡ 0
-Fits d (s.JumpIfZero a to) = d ≡ taken a
+Fits d (s.Control (Call f n)) = d ≡ n
+Fits d (s.Control (Return a)) = d ≡ taken a
+Fits d (s.Control Out) = d ≡ 0
+Fits d (s.Control (Edge to)) = d ≡ 0
+Fits d (s.Control (Jump to)) = d ≡ 0
+Fits d (s.Control (JumpIfZero a to)) = d ≡ taken a
 Fits d x = takes_off x ≤ d
 
 pub fits_takes : (d : ℕ) (x : Step) → Fits d x → takes_off x ≤ d
-fits_takes d (s.Call f n) h = omega (arith, h)
-fits_takes d (s.Return a) h = omega (arith, h)
-fits_takes d s.Out h = omega arith
-fits_takes d (s.Edge to) h = omega arith
-fits_takes d (s.Jump to) h = omega arith
-fits_takes d (s.JumpIfZero a to) h = omega (arith, h)
+fits_takes d (s.Control (Call f n)) h = omega (arith, h)
+fits_takes d (s.Control (Return a)) h = omega (arith, h)
+fits_takes d (s.Control Out) h = omega arith
+fits_takes d (s.Control (Edge to)) h = omega arith
+fits_takes d (s.Control (Jump to)) h = omega arith
+fits_takes d (s.Control (JumpIfZero a to)) h = omega (arith, h)
 fits_takes d _ h = h
 
 -- Steps lead from `d` values to `e`, and there are never more than `m` before one of them.
@@ -72,23 +75,23 @@ pub steps_balanced : (p : Source) (xs : List (List ℕ)) (m d : ℕ) (t : Target
 steps_balanced p xs m d t (num n) h = (omega arith, omega (arith, h), omega arith)
 steps_balanced p xs m d t (var x) h = variable_balanced p m d t x (position x xs) (omega (arith, h))
 steps_balanced p xs m d t (cell x i) h =
-    balanced_append m d (d + taken (operand_of xs i)) (d + put t) (operand_steps p xs i) (s.ReadCell (array_named p x) (operand_of xs i) t ∷ [])
+    balanced_append m d (d + taken (operand_of xs i)) (d + put t) (operand_steps p xs i) (s.Ask (ReadCell (array_named p x) (operand_of xs i) t) ∷ [])
     (unless_balanced m d (operand_of xs i) _ (steps_balanced p xs m d target.Push i (omega (arith, h))))
     (omega arith, omega (arith, h, taken_one (operand_of xs i)), omega arith)
 steps_balanced p xs m d t (neg a) h =
-    balanced_append m d (d + taken (operand_of xs a)) (d + put t) (operand_steps p xs a) (s.Negate (operand_of xs a) t ∷ [])
+    balanced_append m d (d + taken (operand_of xs a)) (d + put t) (operand_steps p xs a) (s.Compute (Negate (operand_of xs a) t) ∷ [])
     (unless_balanced m d (operand_of xs a) _ (steps_balanced p xs m d target.Push a (omega (arith, h))))
     (omega arith, omega (arith, h, taken_one (operand_of xs a)), omega arith)
 steps_balanced p xs m d t (inverse a) h =
-    balanced_append m d (d + taken (operand_of xs a)) (d + put t) (operand_steps p xs a) (s.Invert (operand_of xs a) t ∷ [])
+    balanced_append m d (d + taken (operand_of xs a)) (d + put t) (operand_steps p xs a) (s.Compute (Invert (operand_of xs a) t) ∷ [])
     (unless_balanced m d (operand_of xs a) _ (steps_balanced p xs m d target.Push a (omega (arith, h))))
     (omega arith, omega (arith, h, taken_one (operand_of xs a)), omega arith)
 steps_balanced p xs m d t (bin o a b) h =
     let one : ℕ = d + taken (operand_of xs a) in
     let two : ℕ = one + taken (operand_of xs b) in
-    balanced_append m d one (d + put t) (operand_steps p xs a) (operand_steps p xs b ++ s.Apply o (operand_of xs a) (operand_of xs b) t ∷ [])
+    balanced_append m d one (d + put t) (operand_steps p xs a) (operand_steps p xs b ++ s.Compute (Apply o (operand_of xs a) (operand_of xs b) t) ∷ [])
     (unless_balanced m d (operand_of xs a) _ (steps_balanced p xs m d target.Push a (omega (arith, h))))
-    (balanced_append m one two (d + put t) (operand_steps p xs b) (s.Apply o (operand_of xs a) (operand_of xs b) t ∷ [])
+    (balanced_append m one two (d + put t) (operand_steps p xs b) (s.Compute (Apply o (operand_of xs a) (operand_of xs b) t) ∷ [])
     (unless_balanced m one (operand_of xs b) _ (steps_balanced p xs m one target.Push b (omega (arith, h, taken_one (operand_of xs a)))))
     (omega arith, omega (arith, h, taken_one (operand_of xs a), taken_one (operand_of xs b), some_nodes a, some_nodes b), omega arith))
 
@@ -114,13 +117,13 @@ arguments_balanced p xs m n d e (a ∷ es) small h same =
 
 pub call_balanced : (p : Source) (xs : List (List ℕ)) (m n : ℕ) (f : List ℕ) (es : List Expression) → AreSmall n es → length es + n ≤ m → Balanced m 0 (call_steps p xs f es) 1
 call_balanced p xs m n f es small h =
-    balanced_append m 0 (length es) 1 (argument_steps p xs es) (s.Call (or_zero (function_number p f)) (length es) ∷ [])
+    balanced_append m 0 (length es) 1 (argument_steps p xs es) (s.Control (Call (or_zero (function_number p f)) (length es)) ∷ [])
     (arguments_balanced p xs m n 0 (length es) es small (omega (arith, h)) (omega arith))
     (refl, omega (arith, h), omega arith)
 
 spawn_balanced : (p : Source) (xs : List (List ℕ)) (m n : ℕ) (f : List ℕ) (es : List Expression) → AreSmall n es → length es + n ≤ m → Balanced m 0 (spawn_steps p xs f es) 1
 spawn_balanced p xs m n f es small h =
-    balanced_append m 0 (length es) 1 (argument_steps p xs es) (s.Spawn (or_zero (function_number p f)) (length es) target.Push ∷ [])
+    balanced_append m 0 (length es) 1 (argument_steps p xs es) (s.Ask (Spawn (or_zero (function_number p f)) (length es) target.Push) ∷ [])
     (arguments_balanced p xs m n 0 (length es) es small (omega (arith, h)) (omega arith))
     (omega arith, omega (arith, h), omega arith)
 
@@ -136,7 +139,7 @@ four_arguments p f es l h = few_in p p.funcs f (length es) l.functions h
 -- Statements
 
 value_balanced : (p : Source) (xs : List (List ℕ)) (m : ℕ) (x : List ℕ) (e : Expression) (a : Option ℕ) → nodes e ≤ m → Balanced m 0 (value_steps p xs x e a) 0
-value_balanced p xs m x e None h = taking_balanced p xs m e (s.Write (word_named p x) (operand_of xs e)) h (omega arith) refl refl
+value_balanced p xs m x e None h = taking_balanced p xs m e (s.Ask (Write (word_named p x) (operand_of xs e))) h (omega arith) refl refl
 value_balanced p xs m x e (Some j) h = steps_balanced p xs m 0 (target.Local j) e (omega (arith, h))
 
 set_balanced : (p : Source) (xs : List (List ℕ)) (m n : ℕ) (x : List ℕ) (r : Right Expression) → KeepsRules p → n + 4 ≤ m → takes_right p r ≡ true → IsSmallRight n r → Balanced m 0 (set_steps p xs x r) 0
@@ -151,20 +154,20 @@ set_balanced p xs m n x (Right.spawn f es) l room known small =
     (store_balanced p m x (position x xs) (omega (arith, room)))
 
 -- with a statement's beginning and its completion
-begun : (m : ℕ) (xs : List Step) → Balanced m 0 xs 0 → Balanced m 0 (s.Begin ∷ xs) 0
+begun : (m : ℕ) (xs : List Step) → Balanced m 0 xs 0 → Balanced m 0 (s.Control Begin ∷ xs) 0
 begun m xs h = (omega arith, omega arith, h)
 
-completed : (m : ℕ) (xs : List Step) → Balanced m 0 xs 0 → Balanced m 0 (s.Begin ∷ (xs ++ s.Done ∷ [])) 0
-completed m xs h = begun m (xs ++ s.Done ∷ []) (balanced_append m 0 0 0 xs (s.Done ∷ []) h (omega arith, omega arith, refl))
+completed : (m : ℕ) (xs : List Step) → Balanced m 0 xs 0 → Balanced m 0 (s.Control Begin ∷ (xs ++ s.Control Done ∷ [])) 0
+completed m xs h = begun m (xs ++ s.Control Done ∷ []) (balanced_append m 0 0 0 xs (s.Control Done ∷ []) h (omega arith, omega arith, refl))
 
 taken_completed : (p : Source) (xs : List (List ℕ)) (m : ℕ) (e : Expression) (x : Step) → nodes e ≤ m → Fits (taken (operand_of xs e)) x → takes_off x ≡ taken (operand_of xs e) → puts_on x ≡ 0
-    → Balanced m 0 (s.Begin ∷ (operand_steps p xs e ++ x ∷ s.Done ∷ [])) 0
+    → Balanced m 0 (s.Control Begin ∷ (operand_steps p xs e ++ x ∷ s.Control Done ∷ [])) 0
 taken_completed p xs m e x h fits same none =
-    subst (λ ys. Balanced m 0 (s.Begin ∷ ys) 0) (append_assoc (operand_steps p xs e) (x ∷ []) (s.Done ∷ []))
+    subst (λ ys. Balanced m 0 (s.Control Begin ∷ ys) 0) (append_assoc (operand_steps p xs e) (x ∷ []) (s.Control Done ∷ []))
     (completed m (operand_steps p xs e ++ x ∷ []) (taking_balanced p xs m e x h fits same none))
 
-pub condition_balanced : (p : Source) (xs : List (List ℕ)) (m to : ℕ) (e : Expression) → nodes e ≤ m → Balanced m 0 (s.Begin ∷ (operand_steps p xs e ++ s.JumpIfZero (operand_of xs e) to ∷ [])) 0
-condition_balanced p xs m to e h = begun m _ (taking_balanced p xs m e (s.JumpIfZero (operand_of xs e) to) h refl refl refl)
+pub condition_balanced : (p : Source) (xs : List (List ℕ)) (m to : ℕ) (e : Expression) → nodes e ≤ m → Balanced m 0 (s.Control Begin ∷ (operand_steps p xs e ++ s.Control (JumpIfZero (operand_of xs e) to) ∷ [])) 0
+condition_balanced p xs m to e h = begun m _ (taking_balanced p xs m e (s.Control (JumpIfZero (operand_of xs e) to)) h refl refl refl)
 
 -- From each statement's beginning to its end there are as many values as before.
 pub simple_balanced : (p : Source) (xs : List (List ℕ)) (m n : ℕ) (x : Simple Expression) → KeepsRules p → n + 4 ≤ m → takes_simple p x ≡ true → IsSmallSimple n x → Balanced m 0 (simple_steps p xs x) 0
@@ -174,22 +177,22 @@ simple_balanced p xs m n (set_cell x i e) l room known small =
     let one : ℕ = taken (operand_of xs i) in
     let two : ℕ = one + taken (operand_of xs e) in
     begun m _ (
-    balanced_append m 0 one 0 (operand_steps p xs i) (operand_steps p xs e ++ s.WriteCell (array_named p x) (operand_of xs i) (operand_of xs e) ∷ s.Done ∷ [])
+    balanced_append m 0 one 0 (operand_steps p xs i) (operand_steps p xs e ++ s.Ask (WriteCell (array_named p x) (operand_of xs i) (operand_of xs e)) ∷ s.Control Done ∷ [])
     (subst (λ d. Balanced m 0 (operand_steps p xs i) d) (omega arith) (operand_balanced p xs m 0 i (omega (arith, room, small.0))))
-    (balanced_append m one two 0 (operand_steps p xs e) (s.WriteCell (array_named p x) (operand_of xs i) (operand_of xs e) ∷ s.Done ∷ [])
+    (balanced_append m one two 0 (operand_steps p xs e) (s.Ask (WriteCell (array_named p x) (operand_of xs i) (operand_of xs e)) ∷ s.Control Done ∷ [])
     (operand_balanced p xs m one e (omega (arith, room, small.1, taken_one (operand_of xs i))))
     (omega arith, omega (arith, room, taken_one (operand_of xs i), taken_one (operand_of xs e)), (omega arith, omega (arith, room), omega arith))))
 simple_balanced p xs m n (Simple.call f es) l room known small =
     begun m _ (
-    balanced_append m 0 1 0 (call_steps p xs f es) (s.Discard ∷ s.Done ∷ [])
+    balanced_append m 0 1 0 (call_steps p xs f es) (s.Compute Discard ∷ s.Control Done ∷ [])
     (call_balanced p xs m n f es small (omega (arith, room, four_arguments p f es l known)))
     (omega arith, omega (arith, room), (omega arith, omega arith, refl)))
 simple_balanced p xs m n (return None) l room known small = (omega arith, omega arith, (refl, omega arith, refl))
-simple_balanced p xs m n (return (Some e)) l room known small = begun m _ (taking_balanced p xs m e (s.Return (operand_of xs e)) (omega (arith, room, small)) refl refl refl)
+simple_balanced p xs m n (return (Some e)) l room known small = begun m _ (taking_balanced p xs m e (s.Control (Return (operand_of xs e))) (omega (arith, room, small)) refl refl refl)
 simple_balanced p xs m n (tree.lock x) l room known small = (omega arith, omega arith, (omega arith, omega arith, (omega arith, omega arith, refl)))
 simple_balanced p xs m n (tree.unlock x) l room known small = (omega arith, omega arith, (omega arith, omega arith, (omega arith, omega arith, refl)))
 simple_balanced p xs m n (tree.down x) l room known small = (omega arith, omega arith, (omega arith, omega arith, (omega arith, omega arith, refl)))
 simple_balanced p xs m n (tree.up x) l room known small = (omega arith, omega arith, (omega arith, omega arith, (omega arith, omega arith, refl)))
-simple_balanced p xs m n (tree.join e) l room known small = taken_completed p xs m e (s.Join (operand_of xs e)) (omega (arith, room, small)) (omega arith) refl refl
-simple_balanced p xs m n (tree.print e) l room known small = taken_completed p xs m e (s.Print (operand_of xs e)) (omega (arith, room, small)) (omega arith) refl refl
+simple_balanced p xs m n (tree.join e) l room known small = taken_completed p xs m e (s.Ask (Join (operand_of xs e))) (omega (arith, room, small)) (omega arith) refl refl
+simple_balanced p xs m n (tree.print e) l room known small = taken_completed p xs m e (s.Ask (Print (operand_of xs e))) (omega (arith, room, small)) (omega arith) refl refl
 simple_balanced p xs m n tree.skip l room known small = (omega arith, omega arith, (omega arith, omega arith, refl))

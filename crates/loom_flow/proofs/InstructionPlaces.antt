@@ -5,16 +5,17 @@ use Rattle.loom_lang.specs.Rules.{locals_of}
 use Rattle.loom_lang.specs.Places.{inside, out, body_places, places, place_at, line_of_function, line_of_place}
 use Rattle.loom_flow.specs.declared.code.Step.{Step}
 use Rattle.loom_flow.specs.declared.code.Step.TheVariants as s
+use Rattle.loom_flow.specs.declared.code.Control.TheVariants.{Begin, Done, Edge, JumpIfZero, Out}
 use Rattle.loom_flow.specs.declared.code.Instr.{Instr}
 use Rattle.loom_flow.specs.declared.code.Entrance.{Entrance}
-use Rattle.loom_flow.specs.Lowered.{operand_of, operand_steps, simple_steps, instr, instrs, size, place_count, body_code, entrances, lowered}
+use Rattle.loom_flow.specs.FlatCode.{operand_of, operand_steps, simple_steps, instr, instrs, size, place_count, body_code, entrances, lowered}
 use Rattle.loom_flow.specs.Laws.{IsInFunction, place_of, HasInstructionPlaces}
-use Rattle.loom_flow.proofs.Lying.{Lies, lies_first, lies_second}
+use Rattle.loom_flow.proofs.Sublist.{Lies, lies_first, lies_second}
 use Rattle.loom_flow.proofs.Each.{AllOf, all_append, Each, each_append, each_at}
 use Rattle.loom_flow.proofs.Plain.{is_plain, CallsRight, CallsSimple, operand_all, simple_all}
 use Rattle.loom_flow.proofs.Sizes.{instrs_length, code_length}
-use Rattle.loom_flow.proofs.Meeting.{condition_length}
-use Rattle.loom_flow.proofs.Standing.{function_code, function_length, Stands, stands, covered}
+use Rattle.loom_flow.proofs.BodyTraces.{condition_length}
+use Rattle.loom_flow.proofs.FunctionBounds.{function_code, function_length, Stands, stands, covered}
 
 -- a step of function `n` on line `l`, at place `k`
 abbrev IsAt : Source → ℕ → ℕ → ℕ → Step → Type 0
@@ -24,8 +25,8 @@ abbrev Located : Source → ℕ → ℕ → Instr → Type 0
 Located p n at i = IsAt p n i.line i.place i.step
 
 plain_located : (p : Source) (n l k : ℕ) → place_at p k ≡ Some (inside l) → (x : Step) → is_plain x ≡ true → IsAt p n l k x
-plain_located p n l k h (s.Edge to) e = cc
-plain_located p n l k h s.Out e = cc
+plain_located p n l k h (s.Control (Edge to)) e = cc
+plain_located p n l k h (s.Control Out) e = cc
 plain_located p n l k h _ e = (h, refl)
 
 right_located : (p : Source) (n l k : ℕ) → place_at p k ≡ Some (inside l) → (r : Right Expression) → CallsRight (IsAt p n l k) p r
@@ -45,10 +46,10 @@ steps_located p n at l k (x ∷ xs) h = (h.0, steps_located p n (suc at) l k xs 
 
 -- a statement's beginning and its condition
 condition_located : (p : Source) (n at l k to : ℕ) (xs : List (List ℕ)) (e : Expression) → place_at p k ≡ Some (inside l)
-    → Each (Located p n) at (instrs l k (s.Begin ∷ (operand_steps p xs e ++ s.JumpIfZero (operand_of xs e) to ∷ [])))
+    → Each (Located p n) at (instrs l k (s.Control Begin ∷ (operand_steps p xs e ++ s.Control (JumpIfZero (operand_of xs e) to) ∷ [])))
 condition_located p n at l k to xs e h =
-    steps_located p n at l k (s.Begin ∷ (operand_steps p xs e ++ s.JumpIfZero (operand_of xs e) to ∷ []))
-    ((h, refl), all_append (IsAt p n l k) (operand_steps p xs e) (s.JumpIfZero (operand_of xs e) to ∷ []) (operand_all (IsAt p n l k) (plain_located p n l k h) p xs e) ((h, refl), tt))
+    steps_located p n at l k (s.Control Begin ∷ (operand_steps p xs e ++ s.Control (JumpIfZero (operand_of xs e) to) ∷ []))
+    ((h, refl), all_append (IsAt p n l k) (operand_steps p xs e) (s.Control (JumpIfZero (operand_of xs e) to) ∷ []) (operand_all (IsAt p n l k) (plain_located p n l k h) p xs e) ((h, refl), tt))
 
 body_located : (p : Source) (n : ℕ) (xs : List (List ℕ)) (at k : ℕ) (a : Body) → Lies (places p) k (body_places a) → Each (Located p n) at (body_code p xs at k a)
 body_located p n xs at k end h = tt
@@ -61,17 +62,17 @@ body_located p n xs at k (if_ l e a b rest) h =
     let first : ℕ = at + (2 + length before) in
     let second : ℕ = first + (1 + size p xs a) in
     let last : ℕ = second + size p xs b in
-    let head : List Instr = instrs l k (s.Begin ∷ (before ++ s.JumpIfZero (operand_of xs e) second ∷ [])) in
+    let head : List Instr = instrs l k (s.Control Begin ∷ (before ++ s.Control (JumpIfZero (operand_of xs e) second) ∷ [])) in
     let places_a : Lies (places p) (suc k) (body_places a) = lies_first (places p) (suc k) (body_places a) (body_places b ++ body_places rest) h.1 in
     let places_from_b : Lies (places p) (suc k + place_count a) (body_places b ++ body_places rest) = lies_second (places p) (suc k) (body_places a) (body_places b ++ body_places rest) h.1 in
     let places_b : Lies (places p) (suc k + place_count a) (body_places b) = lies_first (places p) (suc k + place_count a) (body_places b) (body_places rest) places_from_b in
     let places_rest : Lies (places p) (suc k + place_count a + place_count b) (body_places rest) = lies_second (places p) (suc k + place_count a) (body_places b) (body_places rest) places_from_b in
-    each_append (Located p n) at first head _ (ap (λ m. at + m) (condition_length l k before s.Begin (s.JumpIfZero (operand_of xs e) second)))
+    each_append (Located p n) at first head _ (ap (λ m. at + m) (condition_length l k before (s.Control Begin) (s.Control (JumpIfZero (operand_of xs e) second))))
     (condition_located p n at l k second xs e h.0)
     (each_append (Located p n) first (first + size p xs a) (body_code p xs first (suc k) a) _ (ap (λ m. first + m) (code_length p xs a first (suc k)))
     (body_located p n xs first (suc k) a places_a) (
       (h.0, refl),
-      subst (λ m. Each (Located p n) m (body_code p xs second (suc k + place_count a) b ++ instr l k s.Done ∷ body_code p xs (suc last) (suc k + place_count a + place_count b) rest)) (omega arith)
+      subst (λ m. Each (Located p n) m (body_code p xs second (suc k + place_count a) b ++ instr l k (s.Control Done) ∷ body_code p xs (suc last) (suc k + place_count a + place_count b) rest)) (omega arith)
           (each_append (Located p n) second last (body_code p xs second (suc k + place_count a) b) _ (ap (λ m. second + m) (code_length p xs b second (suc k + place_count a)))
           (body_located p n xs second (suc k + place_count a) b places_b)
           ((h.0, refl), body_located p n xs (suc last) (suc k + place_count a + place_count b) rest places_rest)),
@@ -80,10 +81,10 @@ body_located p n xs at k (while_ l e a rest) h =
     let before : List Step = operand_steps p xs e in
     let first : ℕ = at + 1 + (1 + length before) in
     let last : ℕ = first + (1 + size p xs a) in
-    let head : List Instr = instrs l k (s.Begin ∷ (before ++ s.JumpIfZero (operand_of xs e) last ∷ [])) in
+    let head : List Instr = instrs l k (s.Control Begin ∷ (before ++ s.Control (JumpIfZero (operand_of xs e) last) ∷ [])) in
     let places_a : Lies (places p) (suc (suc k)) (body_places a) = lies_first (places p) (suc (suc k)) (body_places a) (body_places rest) h.1.1 in
     let places_rest : Lies (places p) (suc (suc k) + place_count a) (body_places rest) = lies_second (places p) (suc (suc k)) (body_places a) (body_places rest) h.1.1 in
-    each_append (Located p n) at first head _ (ap (λ m. at + m) (condition_length l k before s.Begin (s.JumpIfZero (operand_of xs e) last)) ∙ omega arith)
+    each_append (Located p n) at first head _ (ap (λ m. at + m) (condition_length l k before (s.Control Begin) (s.Control (JumpIfZero (operand_of xs e) last))) ∙ omega arith)
     (condition_located p n at l k last xs e h.0)
     (each_append (Located p n) first (first + size p xs a) (body_code p xs first (suc (suc k)) a) _ (ap (λ m. first + m) (code_length p xs a first (suc (suc k))))
     (body_located p n xs first (suc (suc k)) a places_a) (

@@ -6,7 +6,7 @@ use Rattle.loom_trace.specs.declared.entry.Entry.{Entry}
 use Rattle.loom_trace.specs.declared.entry.Entry.TheVariants as e
 use Rattle.loom_lang.specs.Trace.{Act, begin, end, trap, read, write, lock, unlock, down, up, spawn, join, print, Item}
 use Rattle.loom_event.specs.Event.{Event, entry_by, entry_of, deeds}
-use Rattle.loom_event.specs.Replay.{Spawned, Store, start, thread_at, replay, IsUnborn, IsRunning, AreAllowed}
+use Rattle.loom_event.specs.Replay.{ThreadState, Store, start, thread_at, replay, IsUnborn, IsRunning, AreAllowed}
 use Rattle.loom_event.specs.Run.{IsTraced, IsThreadTraced}
 
 -- Traces
@@ -21,7 +21,7 @@ pub given : {A : Type 0} {P : A → Type 0} (a : A) → P a → (x : A) × P x
 given a h = (a, h)
 
 -- these threads, from this number on, did what their traces have
-abbrev pub AreTraced : Source → List Event → ℕ → List Spawned → Type 0
+abbrev pub AreTraced : Source → List Event → ℕ → List ThreadState → Type 0
 AreTraced p xs t [] = Unit {0}
 AreTraced p xs t (x ∷ ss) = IsTraced p x.func x.args (deeds t xs) × AreTraced p xs (suc t) ss
 
@@ -38,7 +38,7 @@ nothing_done n t (x ∷ xs) h b =
     let other : (x.thread == t) ≡ false = ne_eqb x.thread t (λ e. omega arith) in
     rw other (nothing_done n t xs h parts.1)
 
-one_traced : (p : Source) (xs : List Event) (ss : List Spawned) (b j t : ℕ) → t ≡ b + j → AreTraced p xs b ss → are_below (b + length ss) xs ≡ true
+one_traced : (p : Source) (xs : List Event) (ss : List ThreadState) (b j t : ℕ) → t ≡ b + j → AreTraced p xs b ss → are_below (b + length ss) xs ≡ true
     → IsThreadTraced p xs t (slice_get ss j)
 one_traced p xs [] b j t is h below = nothing_done (b + 0) t xs (omega arith) below
 one_traced p xs (x ∷ ss) b zero t is h below =
@@ -58,7 +58,7 @@ threads_traced p xs h none below (suc t) = one_traced p xs (replay (start p) xs)
 
 -- Events that are allowed
 
-abbrev pub runs : Option Spawned → Bool
+abbrev pub runs : Option ThreadState → Bool
 runs None = false
 runs (Some x) = x.begun && not x.ended
 
@@ -66,14 +66,14 @@ runs (Some x) = x.begun && not x.ended
 pub does : {s : Store} {t : ℕ} {may rest : Type 0} → runs (thread_at s t) ≡ true → may → rest → (IsRunning s t × may) × rest
 does {s = s} {t = t} b m h = ((running (thread_at s t) refl b, m), h)
   where
-    running : (x : Option Spawned) → thread_at s t ≡ x → runs x ≡ true → IsRunning s t
+    running : (x : Option ThreadState) → thread_at s t ≡ x → runs x ≡ true → IsRunning s t
     running None is b = cc
     running (Some x) is b =
         let parts = and_parts x.begun (not x.ended) b in
         record { state = x; is = is; begun = parts.0; not_ended = not-true x.ended parts.1 }
 
 -- the first of a thread, and those behind it
-pub begins : {s : Store} {t : ℕ} {x : Spawned} {rest : Type 0} → thread_at s t ≡ Some x → x.begun ≡ false → rest → IsUnborn s t × rest
+pub begins : {s : Store} {t : ℕ} {x : ThreadState} {rest : Type 0} → thread_at s t ≡ Some x → x.begun ≡ false → rest → IsUnborn s t × rest
 begins {x = x} is b h = (record { state = x; is = is; not_begun = b }, h)
 
 -- what stands behind a front is allowed behind its replay

@@ -43,30 +43,28 @@ abbrev pub thread_entries : List Entry → ℕ
 thread_entries [] = 0
 thread_entries (x ∷ xs) = if is_some_thread (thread_of x) then suc (thread_entries xs) else thread_entries xs
 
--- the last entry that a thread made, and the last one of this thread; `so_far` is the one that stands before the list
-abbrev pub last_thread_entry : Option Entry → List Entry → Option Entry
-last_thread_entry so_far [] = so_far
-last_thread_entry so_far (x ∷ xs) = last_thread_entry (if is_some_thread (thread_of x) then Some x else so_far) xs
-
+-- the last entry of this thread; `so_far` is the one that stands before the list
 abbrev pub last_of_thread : ℕ → Option Entry → List Entry → Option Entry
 last_of_thread t so_far [] = so_far
 last_of_thread t so_far (x ∷ xs) = last_of_thread t (if is_thread t (thread_of x) then Some x else so_far) xs
 
 -- The end of a run
 
--- the stop test answers yes for the last thread entry
-abbrev pub stops_at : (Entry → Bool) → Option Entry → Bool
-stops_at stop None = false
-stops_at stop (Some x) = stop x
+-- What a stop test answers behind the last entry of a thread: it is asked with all entries up to that one. `so_far` stands before the list, and
+-- `answer` is what the test said there.
+abbrev pub stops_behind : (List Entry → Bool) → List Entry → Bool → List Entry → Bool
+stops_behind stop so_far answer [] = answer
+stops_behind stop so_far answer (x ∷ xs) =
+    stops_behind stop (so_far ++ x ∷ []) (if is_some_thread (thread_of x) then stop (so_far ++ x ∷ []) else answer) xs
 
-abbrev pub is_stopped : (Entry → Bool) → List Entry → Bool
-is_stopped stop front = stops_at stop (last_thread_entry None front)
+abbrev pub is_stopped : (List Entry → Bool) → List Entry → Bool
+is_stopped stop front = stops_behind stop [] false front
 
 abbrev pub is_at_limit : ℕ → List Entry → Bool
 is_at_limit limit front = thread_entries front == limit
 
 -- no thread entry follows: the run is stopped, or has as many thread entries as it may
-abbrev pub is_over : ℕ → (Entry → Bool) → List Entry → Bool
+abbrev pub is_over : ℕ → (List Entry → Bool) → List Entry → Bool
 is_over limit stop front = is_stopped stop front || is_at_limit limit front
 
 -- The journal is finished: its last entry is `Finish`.

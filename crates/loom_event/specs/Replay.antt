@@ -10,7 +10,7 @@ use Rattle.loom_lang.specs.Trace.{Cause, division, index, not_held, not_spawned,
 use Rattle.loom_event.specs.Event.{Event}
 
 -- a thread that was spawned
-pub record Spawned : Type 0 where
+pub record ThreadState : Type 0 where
   pub func : ℕ
   pub args : List ℤ
   pub begun : Bool
@@ -22,17 +22,17 @@ pub record Store : Type 0 where
   pub holders : List (Option ℕ)
   pub semas : List ℕ
   -- those that were spawned: thread t is the t-th
-  pub spawned : List Spawned
+  pub spawned : List ThreadState
 
 -- the values of a word's cells before the run
 abbrev pub first_values : Option ℕ → ℤ → List ℤ
 first_values None v = v ∷ []
 first_values (Some n) v = replicate n v
 
-abbrev pub new_thread : ℕ → List ℤ → Spawned
+abbrev pub new_thread : ℕ → List ℤ → ThreadState
 new_thread f vs = record { func = f; args = vs; begun = false; ended = false }
 
-abbrev pub main_thread : Option ℕ → List Spawned
+abbrev pub main_thread : Option ℕ → List ThreadState
 main_thread None = []
 main_thread (Some f) = new_thread f [] ∷ []
 
@@ -49,23 +49,23 @@ start p = record {
 }
 
 -- the thread of a number, from 1
-abbrev pub thread_at : Store → ℕ → Option Spawned
+abbrev pub thread_at : Store → ℕ → Option ThreadState
 thread_at s zero = None
 thread_at s (suc n) = slice_get s.spawned n
 
 pub record IsRunning (s : Store) (t : ℕ) : Type 0 where
-  pub state : Spawned
+  pub state : ThreadState
   pub is : thread_at s t ≡ Some state
   pub begun : state.begun ≡ true
   pub not_ended : state.ended ≡ false
 
 pub record IsUnborn (s : Store) (t : ℕ) : Type 0 where
-  pub state : Spawned
+  pub state : ThreadState
   pub is : thread_at s t ≡ Some state
   pub not_begun : state.begun ≡ false
 
 pub record HasEnded (s : Store) (t : ℕ) : Type 0 where
-  pub state : Spawned
+  pub state : ThreadState
   pub is : thread_at s t ≡ Some state
   pub ended : state.ended ≡ true
 
@@ -111,11 +111,11 @@ IsAllowed s x = IsAllowedAct s x.thread x.act
 
 -- the store behind an event
 
-abbrev pub with_thread : Store → ℕ → (Spawned → Spawned) → Store
+abbrev pub with_thread : Store → ℕ → (ThreadState → ThreadState) → Store
 with_thread s zero f = s
 with_thread s (suc n) f = record s { spawned = changed s.spawned n f }
   where
-    changed : List Spawned → ℕ → (Spawned → Spawned) → List Spawned
+    changed : List ThreadState → ℕ → (ThreadState → ThreadState) → List ThreadState
     changed [] n f = []
     changed (x ∷ xs) zero f = f x ∷ xs
     changed (x ∷ xs) (suc n) f = x ∷ changed xs n f
@@ -160,10 +160,10 @@ AreAllowed s (x ∷ xs) = IsAllowed s x × AreAllowed (after s x) xs
 abbrev pub IsDisabled : Store → What → Type 0
 IsDisabled s (w.Lock m) = (t : ℕ) × (slice_get s.holders m ≡ Some (Some t))
 IsDisabled s (w.Down k) = slice_get s.semas k ≡ Some 0
-IsDisabled s (w.Join c) = (x : Spawned) × (thread_at s c ≡ Some x) × (x.ended ≡ false)
+IsDisabled s (w.Join c) = (x : ThreadState) × (thread_at s c ≡ Some x) × (x.ended ≡ false)
 IsDisabled s (w.Enter k c) = ⊥
 IsDisabled s (w.Wait k e) = ⊥
 
 -- each thread that was spawned has ended
 abbrev pub AllEnded : Store → Type 0
-AllEnded s = (t : ℕ) (x : Spawned) → thread_at s t ≡ Some x → x.ended ≡ true
+AllEnded s = (t : ℕ) (x : ThreadState) → thread_at s t ≡ Some x → x.ended ≡ true

@@ -5,7 +5,7 @@ use Rattle.loom_trace.specs.declared.entry.Entry.{Entry}
 use Rattle.loom_lang.specs.Trace.{Item, Outcome, IsTrace}
 use Rattle.loom_lang.specs.Acts.{Deed, acts}
 use Rattle.loom_event.specs.Event.{Event, entry_of, deeds}
-use Rattle.loom_event.specs.Replay.{Spawned, start, thread_at, replay, AreAllowed}
+use Rattle.loom_event.specs.Replay.{ThreadState, start, thread_at, replay, AreAllowed}
 
 -- these are the acts of a trace of a thread of this function with these arguments
 pub record IsTraced (p : Source) (f : ℕ) (vs : List ℤ) (ds : List Deed) : Type 0 where
@@ -15,7 +15,7 @@ pub record IsTraced (p : Source) (f : ℕ) (vs : List ℤ) (ds : List Deed) : Ty
   pub same : acts items ≡ ds
 
 -- what a thread did is a trace of the function with which it was spawned
-abbrev pub IsThreadTraced : Source → List Event → ℕ → Option Spawned → Type 0
+abbrev pub IsThreadTraced : Source → List Event → ℕ → Option ThreadState → Type 0
 IsThreadTraced p xs t None = deeds t xs ≡ []
 IsThreadTraced p xs t (Some x) = IsTraced p x.func x.args (deeds t xs)
 

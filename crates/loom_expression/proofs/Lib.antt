@@ -3,4 +3,4 @@ pub mod Whole
 pub mod Viable
 pub mod Natural
 pub mod Stacks
-pub mod Read
+pub mod Refusal

@@ -1,7 +1,7 @@
 //! Reads a whole expression.
 ghost use Rattle.std.specs.Prelude.{◌≤◌, length, All};
 ghost use Rattle.loom_tree.specs.Token.{IsSmall};
-ghost use Rattle.loom_expression.specs.Read.{IsRead, tokens_of};
+ghost use Rattle.loom_expression.specs.ExpressionError.{TellsExpression, tokens_of};
 
 use crate::reader::Reader;
 use loom_tree::expression::Expr;
@@ -38,7 +38,7 @@ pub fn read_expression(
     requires small { All (λ t. IsSmall t.kind) tokens.now }
     requires ordered { All (λ t. t.start ≤ t.end) tokens.now }
     requires within { All (λ t. t.end ≤ length bytes.now) tokens.now }
-    ensures { IsRead (tokens_of bytes.now tokens.now) result }
+    ensures { TellsExpression (tokens_of bytes.now tokens.now) result }
 {
     let mut reader = Reader::new(alloc);
     'read: for (i, token) in tokens.iter().enumerate() {

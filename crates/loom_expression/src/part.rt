@@ -1,17 +1,17 @@
 //! What a reader of expressions has read.
 ghost use Rattle.std.specs.Prelude.{◌≡◌, true};
-ghost use Rattle.loom_expression.specs.Written.{prec};
+ghost use Rattle.loom_expression.specs.Text.{prec};
 ghost use Rattle.loom_expression.specs.View.{size_of};
-ghost use Rattle.loom_expression.specs.Machine as m;
+ghost use Rattle.loom_expression.specs.Reader as m;
 
 use loom_tree::expression::{Expr, Op};
 use loom_tree::name::Name;
 
 /// How many nodes an expression has at most.
-const MOST: usize = 128;
+const NODE_LIMIT: usize = 128;
 
 /// How deep parentheses, brackets and operators before an operand nest at most.
-const DEEPEST: usize = 128;
+const NESTING_LIMIT: usize = 128;
 
 /// How tightly an operator between two operands binds, from 1 to 5.
 pub fn prec(op: Op) -> u8
@@ -36,7 +36,7 @@ pub fn prec(op: Op) -> u8
 
 /// What was begun and isn't complete.
 #[derive(Debug, Drop)]
-pub enum Frame {
+pub enum Prefix {
     /// A left operand and its operator.
     Left(Op, Expr),
     Minus,
@@ -60,10 +60,10 @@ pub struct Size {
 
 /// An operand, and what was begun before it, the last on top.
 #[derive(Debug, Drop)]
-pub struct Operand {
+pub struct Phrase {
     pub value: Expr,
     pub size: Size,
-    pub frames: Vec<Frame>,
+    pub prefixes: Vec<Prefix>,
 }
 
 impl Size {
@@ -82,21 +82,21 @@ impl Size {
     pub fn may_join(self) -> bool
         ensures { result ≡ m.has_room 2 (size_of self) }
     {
-        self.nodes <= MOST - 2
+        self.nodes <= NODE_LIMIT - 2
     }
 
     /// Whether something that nests may begin.
     pub fn may_nest(self) -> bool
         ensures { result ≡ m.may_nest (size_of self) }
     {
-        self.brackets < DEEPEST.saturating_sub(self.unary)
+        self.brackets < NESTING_LIMIT.saturating_sub(self.unary)
     }
 
     /// Whether something that nests and is a node may begin.
     pub fn may_sign(self) -> bool
         ensures { result ≡ m.may_sign (size_of self) }
     {
-        self.nodes <= MOST - 1 && self.may_nest()
+        self.nodes <= NODE_LIMIT - 1 && self.may_nest()
     }
 
     /// The size behind an operator between two operands.
@@ -170,15 +170,15 @@ impl Size {
     }
 }
 
-impl Operand {
+impl Phrase {
     /// The operand with these parts.
-    pub fn new(value: Expr, size: Size, frames: Vec<Frame>) -> Operand
-        ensures { result ≡ record { value = value; size = size; frames = frames } }
+    pub fn new(value: Expr, size: Size, prefixes: Vec<Prefix>) -> Phrase
+        ensures { result ≡ record { value = value; size = size; prefixes = prefixes } }
     {
-        Operand {
+        Phrase {
             value,
             size,
-            frames,
+            prefixes,
         }
     }
 }

@@ -2,10 +2,10 @@
 ghost use Rattle.std.specs.Prelude.{◌≡◌, ◌≤◌, [], ◌∷◌, length, IfOk, OnOk, Some};
 ghost use Rattle.loom_tree.specs.Tree.{Expression, expression_of};
 ghost use Rattle.loom_tree.specs.Token.{IsSmall, text_of, token_by};
-ghost use Rattle.loom_expression.specs.View.{expression_if, frame_of, operand_of, reduced, size_of, stack_of, state_if, state_of};
-ghost use Rattle.loom_expression.specs.Machine as m;
+ghost use Rattle.loom_expression.specs.View.{expression_if, prefix_of, phrase_of, reduced, size_of, stack_of, reader_if, reader_of};
+ghost use Rattle.loom_expression.specs.Reader as m;
 
-use crate::part::{Frame, Operand, Size, prec};
+use crate::part::{Phrase, Prefix, Size, prec};
 use loom_tree::expression::{Expr, Op};
 use loom_tree::name::{Name, NoMemory};
 use loom_tree::token::{Sign, Token, TokenKind};
@@ -15,11 +15,11 @@ use std::alloc::Global;
 #[derive(Debug, Drop)]
 pub enum Reader {
     /// An operand must follow.
-    Want(Size, Vec<Frame>),
+    Want(Size, Vec<Prefix>),
     /// A name was read, which may be that of a cell.
-    Named(Name, Size, Vec<Frame>),
+    Named(Name, Size, Vec<Prefix>),
     /// An operand was read.
-    Have(Operand),
+    Have(Phrase),
 }
 
 fn bin(alloc: Global, op: Op, a: Expr, b: Expr) -> Result<Expr, NoMemory>
@@ -47,40 +47,40 @@ fn cell(alloc: Global, name: Name, index: Expr) -> Result<Expr, NoMemory>
 }
 
 #[tactic(auto, using(crate::proofs::Stacks::stack_push))]
-fn push(frames: &mut Vec<Frame>, frame: Frame) -> Result<(), NoMemory>
-    ensures { OnOk result (stack_of frames.new.items ≡ frame_of frame ∷ stack_of frames.old.items) }
+fn push(prefixes: &mut Vec<Prefix>, frame: Prefix) -> Result<(), NoMemory>
+    ensures { OnOk result (stack_of prefixes.new.items ≡ prefix_of frame ∷ stack_of prefixes.old.items) }
 {
-    frames.push(frame)?;
+    prefixes.push(frame)?;
     Ok(())
 }
 
 /// The operand takes the left ones of the operators before it that bind at least by the level.
 #[tactic(auto, using(crate::proofs::Stacks::stack_push))]
-fn reduce(alloc: Global, level: u8, operand: Operand) -> Result<Operand, NoMemory>
-    ensures value { IfOk result (λ r. reduced level (operand_of operand) ≡ operand_of r) }
+fn reduce(alloc: Global, level: u8, operand: Phrase) -> Result<Phrase, NoMemory>
+    ensures value { IfOk result (λ r. reduced level (phrase_of operand) ≡ phrase_of r) }
     ensures size { IfOk result (λ r. r.size ≡ operand.size) }
 {
-    let Operand {
+    let Phrase {
         mut value,
         size,
-        mut frames,
+        mut prefixes,
     } = operand;
     'down: loop {
-        match frames.pop() {
-            Some(Frame::Left(op, a)) => {
+        match prefixes.pop() {
+            Some(Prefix::Left(op, a)) => {
                 if level <= prec(op) {
                     value = bin(alloc, op, a, value)?;
                 } else {
-                    push(&mut frames, Frame::Left(op, a))?;
-                    return Ok(Operand::new(value, size, frames));
+                    push(&mut prefixes, Prefix::Left(op, a))?;
+                    return Ok(Phrase::new(value, size, prefixes));
                 }
             }
             Some(other) => {
-                push(&mut frames, other)?;
-                return Ok(Operand::new(value, size, frames));
+                push(&mut prefixes, other)?;
+                return Ok(Phrase::new(value, size, prefixes));
             }
             None => {
-                return Ok(Operand::new(value, size, frames));
+                return Ok(Phrase::new(value, size, prefixes));
             }
         }
     }
@@ -88,121 +88,129 @@ fn reduce(alloc: Global, level: u8, operand: Operand) -> Result<Operand, NoMemor
 
 /// The operand takes the operators that stand before it.
 #[tactic(auto, using(crate::proofs::Stacks::stack_push))]
-fn have(alloc: Global, operand: Operand) -> Result<Operand, NoMemory>
-    ensures { IfOk result (λ r. m.have m.plain (expression_of operand.value) (size_of operand.size) (stack_of operand.frames.items) ≡ operand_of r) }
+fn have(alloc: Global, operand: Phrase) -> Result<Phrase, NoMemory>
+    ensures { IfOk result (λ r. m.have m.plain (expression_of operand.value) (size_of operand.size) (stack_of operand.prefixes.items) ≡ phrase_of r) }
 {
-    let Operand {
+    let Phrase {
         mut value,
         mut size,
-        mut frames,
+        mut prefixes,
     } = operand;
     'down: loop {
-        match frames.pop() {
-            Some(Frame::Minus) => {
+        match prefixes.pop() {
+            Some(Prefix::Minus) => {
                 value = neg(alloc, value)?;
                 size = size.unsigned();
             }
-            Some(Frame::Bang) => {
+            Some(Prefix::Bang) => {
                 value = inverse(alloc, value)?;
                 size = size.unsigned();
             }
             Some(other) => {
-                push(&mut frames, other)?;
-                return Ok(Operand::new(value, size, frames));
+                push(&mut prefixes, other)?;
+                return Ok(Phrase::new(value, size, prefixes));
             }
             None => {
-                return Ok(Operand::new(value, size, frames));
+                return Ok(Phrase::new(value, size, prefixes));
             }
         }
     }
 }
 
 /// An operator before an operand begins.
-fn begin_unary(frame: Frame, size: Size, mut frames: Vec<Frame>) -> Result<Option<Reader>, NoMemory>
-    ensures { IfOk result (λ r. state_if r ≡ m.begin_unary (frame_of frame) (size_of size) (stack_of frames.items)) }
+fn begin_unary(
+    frame: Prefix,
+    size: Size,
+    mut prefixes: Vec<Prefix>,
+) -> Result<Option<Reader>, NoMemory>
+    ensures { IfOk result (λ r. reader_if r ≡ m.begin_unary (prefix_of frame) (size_of size) (stack_of prefixes.items)) }
 {
     if size.may_sign() {
-        push(&mut frames, frame)?;
-        Ok(Some(Reader::Want(size.signed(), frames)))
+        push(&mut prefixes, frame)?;
+        Ok(Some(Reader::Want(size.signed(), prefixes)))
     } else {
         Ok(None)
     }
 }
 
 /// A parenthesis begins.
-fn begin_paren(size: Size, mut frames: Vec<Frame>) -> Result<Option<Reader>, NoMemory>
-    ensures { IfOk result (λ r. state_if r ≡ m.begin_paren (size_of size) (stack_of frames.items)) }
+fn begin_paren(size: Size, mut prefixes: Vec<Prefix>) -> Result<Option<Reader>, NoMemory>
+    ensures { IfOk result (λ r. reader_if r ≡ m.begin_paren (size_of size) (stack_of prefixes.items)) }
 {
     if size.may_nest() {
-        push(&mut frames, Frame::Open)?;
-        Ok(Some(Reader::Want(size.opened(), frames)))
+        push(&mut prefixes, Prefix::Open)?;
+        Ok(Some(Reader::Want(size.opened(), prefixes)))
     } else {
         Ok(None)
     }
 }
 
 /// The index of a cell begins.
-fn begin_index(name: Name, size: Size, mut frames: Vec<Frame>) -> Result<Option<Reader>, NoMemory>
-    ensures { IfOk result (λ r. state_if r ≡ m.begin_index name (size_of size) (stack_of frames.items)) }
+fn begin_index(
+    name: Name,
+    size: Size,
+    mut prefixes: Vec<Prefix>,
+) -> Result<Option<Reader>, NoMemory>
+    ensures { IfOk result (λ r. reader_if r ≡ m.begin_index name (size_of size) (stack_of prefixes.items)) }
 {
     if size.may_sign() {
-        push(&mut frames, Frame::Index(name))?;
-        Ok(Some(Reader::Want(size.indexed(), frames)))
+        push(&mut prefixes, Prefix::Index(name))?;
+        Ok(Some(Reader::Want(size.indexed(), prefixes)))
     } else {
         Ok(None)
     }
 }
 
 /// An operator where an operand must follow.
-fn want_op(op: Op, size: Size, frames: Vec<Frame>) -> Result<Option<Reader>, NoMemory>
-    ensures { IfOk result (λ r. state_if r ≡ m.want_op op (size_of size) (stack_of frames.items)) }
+fn want_op(op: Op, size: Size, prefixes: Vec<Prefix>) -> Result<Option<Reader>, NoMemory>
+    ensures { IfOk result (λ r. reader_if r ≡ m.want_op op (size_of size) (stack_of prefixes.items)) }
 {
     match op {
-        Op::Sub => begin_unary(Frame::Minus, size, frames),
+        Op::Sub => begin_unary(Prefix::Minus, size, prefixes),
         _ => Ok(None),
     }
 }
 
 /// A sign where an operand must follow.
-fn want_sign(sign: Sign, size: Size, frames: Vec<Frame>) -> Result<Option<Reader>, NoMemory>
-    ensures { IfOk result (λ r. state_if r ≡ m.want_sign sign (size_of size) (stack_of frames.items)) }
+fn want_sign(sign: Sign, size: Size, prefixes: Vec<Prefix>) -> Result<Option<Reader>, NoMemory>
+    ensures { IfOk result (λ r. reader_if r ≡ m.want_sign sign (size_of size) (stack_of prefixes.items)) }
 {
     match sign {
-        Sign::Bang => begin_unary(Frame::Bang, size, frames),
-        Sign::ParenOpen => begin_paren(size, frames),
+        Sign::Bang => begin_unary(Prefix::Bang, size, prefixes),
+        Sign::ParenOpen => begin_paren(size, prefixes),
         _ => Ok(None),
     }
 }
 
 /// An operator behind an operand.
-fn have_op(alloc: Global, op: Op, operand: Operand) -> Result<Option<Reader>, NoMemory>
-    ensures { IfOk result (λ r. state_if r ≡ m.have_op m.plain op (operand_of operand)) }
+fn have_op(alloc: Global, op: Op, operand: Phrase) -> Result<Option<Reader>, NoMemory>
+    ensures { IfOk result (λ r. reader_if r ≡ m.have_op m.plain op (phrase_of operand)) }
 {
     if operand.size.may_join() {
-        let Operand {
+        let Phrase {
             value,
             size,
-            mut frames,
+            mut prefixes,
         } = reduce(alloc, prec(op), operand)?;
-        push(&mut frames, Frame::Left(op, value))?;
-        Ok(Some(Reader::Want(size.joined(), frames)))
+        push(&mut prefixes, Prefix::Left(op, value))?;
+        Ok(Some(Reader::Want(size.joined(), prefixes)))
     } else {
         Ok(None)
     }
 }
 
 #[tactic(auto, using(crate::proofs::Stacks::stack_push))]
-fn close_paren(alloc: Global, operand: Operand) -> Result<Option<Reader>, NoMemory>
-    ensures { IfOk result (λ r. state_if r ≡ m.close_paren m.plain (operand_of operand)) }
+fn close_paren(alloc: Global, operand: Phrase) -> Result<Option<Reader>, NoMemory>
+    ensures { IfOk result (λ r. reader_if r ≡ m.close_paren m.plain (phrase_of operand)) }
 {
-    let Operand {
+    let Phrase {
         value,
         size,
-        mut frames,
+        mut prefixes,
     } = operand;
-    match frames.pop() {
-        Some(Frame::Open) => {
-            let whole = Operand::new(value, size.closed(), frames);
+    match prefixes.pop() {
+        Some(Prefix::Open) => {
+            let whole = Phrase::new(value, size.closed(), prefixes);
             Ok(Some(Reader::Have(have(alloc, whole)?)))
         }
         _ => Ok(None),
@@ -210,17 +218,17 @@ fn close_paren(alloc: Global, operand: Operand) -> Result<Option<Reader>, NoMemo
 }
 
 #[tactic(auto, using(crate::proofs::Stacks::stack_push))]
-fn close_bracket(alloc: Global, operand: Operand) -> Result<Option<Reader>, NoMemory>
-    ensures { IfOk result (λ r. state_if r ≡ m.close_bracket m.plain (operand_of operand)) }
+fn close_bracket(alloc: Global, operand: Phrase) -> Result<Option<Reader>, NoMemory>
+    ensures { IfOk result (λ r. reader_if r ≡ m.close_bracket m.plain (phrase_of operand)) }
 {
-    let Operand {
+    let Phrase {
         value,
         size,
-        mut frames,
+        mut prefixes,
     } = operand;
-    match frames.pop() {
-        Some(Frame::Index(name)) => {
-            let whole = Operand::new(cell(alloc, name, value)?, size.closed(), frames);
+    match prefixes.pop() {
+        Some(Prefix::Index(name)) => {
+            let whole = Phrase::new(cell(alloc, name, value)?, size.closed(), prefixes);
             Ok(Some(Reader::Have(have(alloc, whole)?)))
         }
         _ => Ok(None),
@@ -228,8 +236,8 @@ fn close_bracket(alloc: Global, operand: Operand) -> Result<Option<Reader>, NoMe
 }
 
 /// A sign behind an operand.
-fn have_sign(alloc: Global, sign: Sign, operand: Operand) -> Result<Option<Reader>, NoMemory>
-    ensures { IfOk result (λ r. state_if r ≡ m.have_sign m.plain sign (operand_of operand)) }
+fn have_sign(alloc: Global, sign: Sign, operand: Phrase) -> Result<Option<Reader>, NoMemory>
+    ensures { IfOk result (λ r. reader_if r ≡ m.have_sign m.plain sign (phrase_of operand)) }
 {
     match sign {
         Sign::ParenClose => close_paren(alloc, reduce(alloc, 0, operand)?),
@@ -239,10 +247,10 @@ fn have_sign(alloc: Global, sign: Sign, operand: Operand) -> Result<Option<Reade
 }
 
 /// The name of a local or a word is an operand.
-fn named(alloc: Global, name: Name, size: Size, frames: Vec<Frame>) -> Result<Operand, NoMemory>
-    ensures { IfOk result (λ r. m.have m.plain (Expression.var name) (size_of size) (stack_of frames.items) ≡ operand_of r) }
+fn named(alloc: Global, name: Name, size: Size, prefixes: Vec<Prefix>) -> Result<Phrase, NoMemory>
+    ensures { IfOk result (λ r. m.have m.plain (Expression.var name) (size_of size) (stack_of prefixes.items) ≡ phrase_of r) }
 {
-    have(alloc, Operand::new(Expr::Var(name), size, frames))
+    have(alloc, Phrase::new(Expr::Var(name), size, prefixes))
 }
 
 /// A sign behind a name.
@@ -251,13 +259,13 @@ fn named_sign(
     sign: Sign,
     name: Name,
     size: Size,
-    frames: Vec<Frame>,
+    prefixes: Vec<Prefix>,
 ) -> Result<Option<Reader>, NoMemory>
-    ensures { IfOk result (λ r. state_if r ≡ m.named_sign m.plain sign name (size_of size) (stack_of frames.items)) }
+    ensures { IfOk result (λ r. reader_if r ≡ m.named_sign m.plain sign name (size_of size) (stack_of prefixes.items)) }
 {
     match sign {
-        Sign::BracketOpen => begin_index(name, size, frames),
-        _ => have_sign(alloc, sign, named(alloc, name, size, frames)?),
+        Sign::BracketOpen => begin_index(name, size, prefixes),
+        _ => have_sign(alloc, sign, named(alloc, name, size, prefixes)?),
     }
 }
 
@@ -265,27 +273,27 @@ fn named_sign(
 fn want(
     alloc: Global,
     size: Size,
-    frames: Vec<Frame>,
+    prefixes: Vec<Prefix>,
     bytes: &[u8],
     token: Token,
 ) -> Result<Option<Reader>, NoMemory>
     requires small { IsSmall token.kind }
     requires ordered { token.start ≤ token.end }
     requires within { token.end ≤ length bytes.now }
-    ensures { IfOk result (λ r. state_if r ≡ m.step m.plain (m.Want (size_of size) (stack_of frames.items)) (token_by token.kind (text_of bytes.now token))) }
+    ensures { IfOk result (λ r. reader_if r ≡ m.feed m.plain (m.Want (size_of size) (stack_of prefixes.items)) (token_by token.kind (text_of bytes.now token))) }
 {
     match token.kind {
         TokenKind::Name => {
             let name = Name::copied(alloc, &bytes[token.start..token.end])?;
-            Ok(Some(Reader::Named(name, size, frames)))
+            Ok(Some(Reader::Named(name, size, prefixes)))
         }
         TokenKind::Number(n) => {
-            let whole = Operand::new(Expr::Num(n as i64), size, frames);
+            let whole = Phrase::new(Expr::Num(n as i64), size, prefixes);
             Ok(Some(Reader::Have(have(alloc, whole)?)))
         }
         TokenKind::Keyword(_) => Ok(None),
-        TokenKind::Op(op) => want_op(op, size, frames),
-        TokenKind::Sign(sign) => want_sign(sign, size, frames),
+        TokenKind::Op(op) => want_op(op, size, prefixes),
+        TokenKind::Sign(sign) => want_sign(sign, size, prefixes),
         TokenKind::Bad => Ok(None),
     }
 }
@@ -293,7 +301,7 @@ fn want(
 impl Reader {
     /// A reader that has read nothing.
     pub fn new(alloc: Global) -> Reader
-        ensures { state_of result ≡ m.start }
+        ensures { reader_of result ≡ m.fresh }
     {
         Reader::Want(Size::new(), Vec::new(alloc))
     }
@@ -304,16 +312,16 @@ impl Reader {
         requires small { IsSmall token.kind }
         requires ordered { token.start ≤ token.end }
         requires within { token.end ≤ length bytes.now }
-        ensures { IfOk result (λ r. state_if r ≡ m.step m.plain (state_of self) (token_by token.kind (text_of bytes.now token))) }
+        ensures { IfOk result (λ r. reader_if r ≡ m.feed m.plain (reader_of self) (token_by token.kind (text_of bytes.now token))) }
     {
         match self {
-            Reader::Want(size, frames) => want(alloc, size, frames, bytes, token),
-            Reader::Named(name, size, frames) => match token.kind {
+            Reader::Want(size, prefixes) => want(alloc, size, prefixes, bytes, token),
+            Reader::Named(name, size, prefixes) => match token.kind {
                 TokenKind::Name => Ok(None),
                 TokenKind::Number(_) => Ok(None),
                 TokenKind::Keyword(_) => Ok(None),
-                TokenKind::Op(op) => have_op(alloc, op, named(alloc, name, size, frames)?),
-                TokenKind::Sign(sign) => named_sign(alloc, sign, name, size, frames),
+                TokenKind::Op(op) => have_op(alloc, op, named(alloc, name, size, prefixes)?),
+                TokenKind::Sign(sign) => named_sign(alloc, sign, name, size, prefixes),
                 TokenKind::Bad => Ok(None),
             },
             Reader::Have(operand) => match token.kind {
@@ -329,7 +337,7 @@ impl Reader {
 
     /// Whether an expression may end here: an operand was read, and no parenthesis and no bracket is open.
     pub fn is_whole(&self) -> bool
-        ensures { result ≡ m.is_whole (state_of self.now) }
+        ensures { result ≡ m.is_whole (reader_of self.now) }
     {
         match self {
             Reader::Want(_, _) => false,
@@ -340,12 +348,12 @@ impl Reader {
 
     /// The expression that was read. `None` says that the tokens are no whole expression. An `Err` is want of memory.
     pub fn finish(self, alloc: Global) -> Result<Option<Expr>, NoMemory>
-        ensures { IfOk result (λ e. expression_if e ≡ m.finish m.plain (state_of self)) }
+        ensures { IfOk result (λ e. expression_if e ≡ m.finish m.plain (reader_of self)) }
     {
         match self {
             Reader::Want(_, _) => Ok(None),
-            Reader::Named(name, size, frames) => {
-                finish_operand(alloc, named(alloc, name, size, frames)?)
+            Reader::Named(name, size, prefixes) => {
+                finish_operand(alloc, named(alloc, name, size, prefixes)?)
             }
             Reader::Have(operand) => finish_operand(alloc, operand),
         }
@@ -354,15 +362,15 @@ impl Reader {
 
 /// The expression, where nothing is left that was begun before it.
 #[tactic(auto, using(crate::proofs::Stacks::stack_push))]
-fn finish_operand(alloc: Global, operand: Operand) -> Result<Option<Expr>, NoMemory>
-    ensures { IfOk result (λ e. expression_if e ≡ m.finish_operand m.plain (operand_of operand)) }
+fn finish_operand(alloc: Global, operand: Phrase) -> Result<Option<Expr>, NoMemory>
+    ensures { IfOk result (λ e. expression_if e ≡ m.finish_operand m.plain (phrase_of operand)) }
 {
-    let Operand {
+    let Phrase {
         value,
         size: _,
-        mut frames,
+        mut prefixes,
     } = reduce(alloc, 0, operand)?;
-    match frames.pop() {
+    match prefixes.pop() {
         None => Ok(Some(value)),
         Some(_) => Ok(None),
     }

@@ -1,3 +1,3 @@
-pub mod Counted
+pub mod Counts
 pub mod Pieces
 pub mod Pages

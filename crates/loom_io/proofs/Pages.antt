@@ -3,7 +3,8 @@ use Rattle.std.proofs.Common.{ℕ, ◌+◌, ◌≡◌, List, [], ◌++◌, Optio
 use Rattle.std.proofs.lemmas.List.{take-append-le}
 use Rattle.std.proofs.Math.Seq.{take-append-add}
 use Rattle.std.specs.Io.KnownBytes.{Appends}
-use Rattle.loom_io.specs.Causes.{TookFront, Paged}
+use Rattle.loom_io.specs.Sink.{TookFront}
+use Rattle.loom_io.specs.Page.{PageTook}
 
 pub appends_none : (a : Option (List ℕ)) → Appends a a []
 appends_none None = tt
@@ -16,15 +17,15 @@ appends_then (Some xs) (Some ys) None x y h k = absurd k
 appends_then (Some xs) (Some ys) (Some zs) x y h k = k ∙ ap (λ z. z ++ y) h ∙ append_assoc xs x y
 
 -- nothing was done
-pub paged_none : (a : Option (List ℕ)) (p : List ℕ) → Paged a a p p []
+pub paged_none : (a : Option (List ℕ)) (p : List ℕ) → PageTook a a p p []
 paged_none a p = record { taken = []; appended = appends_none a; whole = append-nil p }
 
 -- the page was put
-pub paged_put : (a b : Option (List ℕ)) (p q : List ℕ) → Appends a b p → q ≡ [] → Paged a b p q []
+pub paged_put : (a b : Option (List ℕ)) (p q : List ℕ) → Appends a b p → q ≡ [] → PageTook a b p q []
 paged_put a b p q h e = record { taken = p; appended = h; whole = ap (λ z. p ++ z) (sym e) }
 
 -- the page took a text
-pub paged_add : (a b : Option (List ℕ)) (p q r x : List ℕ) → Paged a b p q [] → r ≡ q ++ x → Paged a b p r x
+pub paged_add : (a b : Option (List ℕ)) (p q r x : List ℕ) → PageTook a b p q [] → r ≡ q ++ x → PageTook a b p r x
 paged_add a b p q r x h e = record {
   taken = h.taken;
   appended = h.appended;
@@ -32,7 +33,7 @@ paged_add a b p q r x h e = record {
 }
 
 -- a text, and then another
-pub paged_then : (a b c : Option (List ℕ)) (p q r x y : List ℕ) → Paged a b p q x → Paged b c q r y → Paged a c p r (x ++ y)
+pub paged_then : (a b c : Option (List ℕ)) (p q r x y : List ℕ) → PageTook a b p q x → PageTook b c q r y → PageTook a c p r (x ++ y)
 paged_then a b c p q r x y h k = record {
   taken = h.taken ++ k.taken;
   appended = appends_then a b c h.taken k.taken h.appended k.appended;
@@ -45,7 +46,7 @@ paged_then a b c p q r x y h k = record {
 }
 
 -- a text that began on an empty page, and then the page was put
-pub paged_whole : (a b c : Option (List ℕ)) (q x : List ℕ) → Paged a b [] q x → Appends b c q → Appends a c x
+pub paged_whole : (a b c : Option (List ℕ)) (q x : List ℕ) → PageTook a b [] q x → Appends b c q → Appends a c x
 paged_whole a b c q x h k = subst (Appends a c) (sym h.whole) (appends_then a b c h.taken q h.appended k)
 
 -- a front of a text is one of a longer text
@@ -57,7 +58,7 @@ front_longer a b t u h = record {
 }
 
 -- a text, and then a front of what the page holds and of more
-pub front_behind : (a b c : Option (List ℕ)) (p q x y : List ℕ) → Paged a b p q x → TookFront b c (q ++ y) → TookFront a c (p ++ (x ++ y))
+pub front_behind : (a b c : Option (List ℕ)) (p q x y : List ℕ) → PageTook a b p q x → TookFront b c (q ++ y) → TookFront a c (p ++ (x ++ y))
 front_behind a b c p q x y h k =
     let same : h.taken ++ (q ++ y) ≡ p ++ (x ++ y) =
     sym (append_assoc h.taken q y) ∙ ap (λ z. z ++ y) (sym h.whole) ∙ append_assoc p x y in
@@ -70,7 +71,7 @@ front_behind a b c p q x y h k =
     })
 
 -- a text that began on an empty page, and then a front of what the page holds
-pub front_put : (a b c : Option (List ℕ)) (q x : List ℕ) → Paged a b [] q x → TookFront b c q → TookFront a c x
+pub front_put : (a b c : Option (List ℕ)) (q x : List ℕ) → PageTook a b [] q x → TookFront b c q → TookFront a c x
 front_put a b c q x h k =
     subst (TookFront a c) (append-nil x)
     (front_behind a b c [] q x [] h (subst (TookFront b c) (sym (append-nil q)) k))

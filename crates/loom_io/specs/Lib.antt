@@ -1,2 +1,6 @@
-pub mod Causes
-pub mod Memory
+pub mod Fault
+pub mod Files
+pub mod Shelf
+pub mod Buffer
+pub mod Sink
+pub mod Page

@@ -4,6 +4,7 @@
 #![tactic(auto)]
 
 pub mod adapters;
+pub mod buffer;
 pub mod memory;
 pub mod page;
 pub mod shelf;

@@ -1,10 +1,13 @@
 //! Shelves and sinks in memory, with faults at the calls that are to fail.
-ghost use Rattle.std.specs.Prelude.{◌≡◌, ◌≤◌, ◌<◌, ◌+◌, ◌++◌, ◌⊎◌, ◌↔◌, ℕ, List, [], Some, None, IfOk, OnErr, IsTrue, IsErr, IsNone, Contains, length, take};
+ghost use Rattle.std.specs.Prelude.{◌≡◌, ◌≤◌, ◌<◌, ◌+◌, ◌++◌, ◌⊎◌, ◌↔◌, ℕ, List, [], Some, None, IfOk, OnErr, IsTrue, IsErr, IsNone, Contains, length, take, min};
 ghost use Rattle.std.specs.Option.{option_map, option_copied};
-ghost use Rattle.loom_io.specs.Causes.{next};
-ghost use Rattle.loom_io.specs.Memory.{bytes_of, faults_after_read, faults_after_put};
+ghost use Rattle.loom_io.specs.Fault.{next};
+ghost use Rattle.loom_io.specs.Files.{bytes_of};
+ghost use Rattle.loom_io.specs.Shelf.{state_of, faults_after_read};
+ghost use Rattle.loom_io.specs.Sink.{faults_after_put};
 
-use crate::shelf::{Shelf, ShelfError};
+use crate::buffer::Buffer;
+use crate::shelf::{LARGEST_LIMIT, Shelf, ShelfError};
 use crate::sink::{Sink, SinkFailed};
 use loom_tree::name::{Name, NoMemory};
 use std::alloc::Global;
@@ -26,8 +29,8 @@ impl Model for Files {
 }
 
 impl Files {
-    /// The bytes of the first file of that name.
-    pub fn find(&self, name: &str) -> Option<&Name>
+    // The bytes of the first file of that name.
+    fn find(&self, name: &str) -> Option<&Name>
         ensures { option_copied result ≡ bytes_of self.now name.now }
     {
         for file in &self.0 {
@@ -52,8 +55,8 @@ impl Model for Calls {
 }
 
 impl Calls {
-    /// Whether the call of that number is one of them.
-    pub fn has(&self, call: u64) -> bool
+    // Whether the call of that number is one of them.
+    fn has(&self, call: u64) -> bool
         ensures { IsTrue result ↔ Contains self.now call }
     {
         self.0.as_slice().contains(&call)
@@ -76,11 +79,11 @@ pub struct MemShelf {
 impl Shelf for MemShelf {
     ghost faults = { λ s _. s.faults };
 
-    ghost told = { λ s name. bytes_of s.files name };
+    ghost told = { λ s name. state_of (bytes_of s.files name) };
 
     /// Fails exactly where the call is to fail or there is no such file.
     fn read(&mut self, alloc: Global, name: &str, limit: usize) -> Result<Name, ShelfError>
-        requires { limit ≤ 67108864 }
+        requires { limit ≤ LARGEST_LIMIT }
         ensures files { self.new.files ≡ self.old.files }
         ensures failing { self.new.failing ≡ self.old.failing }
         ensures calls { self.new.calls ≡ next self.old.calls }
@@ -105,8 +108,8 @@ impl Shelf for MemShelf {
 /// A sink in memory.
 #[derive(Debug, Drop)]
 pub struct MemSink {
-    /// What was taken.
-    pub taken: Name,
+    /// What was taken, and the room that is left.
+    pub taken: Buffer,
     /// The most bytes that a call takes.
     pub most: usize,
     /// The numbers of the calls that are to fail, from 1.
@@ -119,18 +122,18 @@ pub struct MemSink {
 
 impl MemSink {
     /// A sink that has taken nothing, with room for `room` bytes, that takes at most `most` bytes a
-    /// call, at least 1. No call is to fail. An `Err` is want of memory. The clauses see the bytes
-    /// of `taken` and not its room.
+    /// call, at least 1. No call is to fail. An `Err` is want of memory.
     pub fn make(alloc: Global, room: usize, most: usize) -> Result<MemSink, NoMemory>
         requires { 1 ≤ most }
-        ensures taken { IfOk result (λ s. s.taken ≡ []) }
+        ensures taken { IfOk result (λ s. s.taken.bytes ≡ []) }
+        ensures room { IfOk result (λ s. s.taken.room ≡ room) }
         ensures most { IfOk result (λ s. s.most ≡ most) }
         ensures failing { IfOk result (λ s. s.failing ≡ []) }
         ensures calls { IfOk result (λ s. s.calls ≡ 0) }
         ensures faults { IfOk result (λ s. s.faults ≡ 0) }
     {
         Ok(MemSink {
-            taken: Name(Vec::with_capacity(alloc, room)?),
+            taken: Buffer::make(alloc, room)?,
             most,
             failing: Calls(Vec::new(alloc)),
             calls: 0,
@@ -142,11 +145,10 @@ impl MemSink {
 impl Sink for MemSink {
     ghost faults = { λ s. s.faults };
 
-    ghost taken = { λ s. Some s.taken };
+    ghost taken = { λ s. Some s.taken.bytes };
 
     /// Takes as many bytes as the piece has, as a call may take and as there is room for, and takes
-    /// no memory. Taking none is a fault, and so is a call that is to fail. The clauses see the
-    /// bytes of `taken` and not its room, so that a fault comes only where room lacks is for tests.
+    /// no memory. Fails exactly where the call is to fail or that is no byte.
     fn put(&mut self, piece: &[u8]) -> Result<usize, SinkFailed>
         requires { 0 < length piece.now }
         ensures most { self.new.most ≡ self.old.most }
@@ -155,19 +157,16 @@ impl Sink for MemSink {
         ensures faults { self.new.faults ≡ faults_after_put self.old.faults result }
         ensures later { self.old.faults ≤ self.new.faults }
         ensures some { IfOk result (λ n. 0 < n) }
-        ensures within { IfOk result (λ n. n ≤ length piece.now) }
-        ensures bound { IfOk result (λ n. n ≤ self.old.most) }
-        ensures ok { IfOk result (λ n. self.new.taken ≡ self.old.taken ++ take n piece.now) }
+        ensures count { IfOk result (λ n. n ≡ min (length piece.now) (min self.old.most self.old.taken.room)) }
+        ensures ok { IfOk result (λ n. self.new.taken.bytes ≡ self.old.taken.bytes ++ take n piece.now) }
+        ensures room { IfOk result (λ n. self.new.taken.room + n ≡ self.old.taken.room) }
         ensures err { OnErr result (self.new.taken ≡ self.old.taken) }
-        ensures to_fail { Contains self.old.failing self.new.calls → IsErr result }
+        ensures failed { IsErr result ↔ (Contains self.old.failing self.new.calls ⊎ (min self.old.most self.old.taken.room ≡ 0)) }
     {
         self.calls = self.calls.saturating_add(1);
-        let room = self.taken.0.capacity() - self.taken.0.len();
-        let n = piece.len().min(self.most).min(room);
-        if n > 0
-            && !self.failing.has(self.calls)
-            && self.taken.0.extend_from_slice(&piece[..n]).is_ok()
-        {
+        let n = piece.len().min(self.most).min(self.taken.room());
+        if n > 0 && !self.failing.has(self.calls) {
+            self.taken.add(&piece[..n]);
             return Ok(n);
         }
         self.faults = self.faults.saturating_add(1);
@@ -225,6 +224,48 @@ mod tests {
         );
         assert_eq!(rt; shelf.calls, 5);
         assert_eq!(rt; shelf.faults, 2);
+        Ok(())
+    }
+
+    // A file of so many bytes, read with a limit.
+    fn read_of(alloc: Global, len: usize, limit: usize) -> Result<usize, ShelfError>
+        requires { limit ≤ LARGEST_LIMIT }
+    {
+        let mut files = Vec::new(alloc);
+        let bytes = vec![in alloc; b' '; len].or(Err(NoMemory))?;
+        let name = Name::copied(alloc, b"a.lm")?;
+        if files.push((name, Name(bytes))).is_err() {
+            return Err(ShelfError::NoMemory);
+        }
+        let mut shelf = MemShelf {
+            files: Files(files),
+            failing: Calls(Vec::new(alloc)),
+            calls: 0,
+            faults: 0,
+        };
+        Ok(shelf.read(alloc, "a.lm", limit)?.bytes().len())
+    }
+
+    #[test]
+    fn has_memory_at_each_limit(rt: HostRuntime) -> Result<(), Fail> {
+        let rows = [
+            (0, 0, 0),
+            (1, 0, 1),
+            (65_536, 65_536, 65_536),
+            (65_537, 65_536, 65_537),
+            (67_108_865, 67_108_864, 67_108_865),
+        ];
+        for (len, limit, read) in rows {
+            assert_eq!(rt;
+                read_of(rt.alloc(), len, limit),
+                Ok(read),
+                "a file of {len} bytes"
+            );
+        }
+        for room in [0, 1, 4096, 65_536, 67_108_864] {
+            let sink = MemSink::make(rt.alloc(), room, 1)?;
+            assert_eq!(rt; sink.taken.room(), room);
+        }
         Ok(())
     }
 }

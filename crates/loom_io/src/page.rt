@@ -1,7 +1,9 @@
 //! A page of text that waits to be put, so that many short pieces go to a sink in few puts.
-ghost use Rattle.std.specs.Prelude.{◌≡◌, ◌+◌, ◌-◌, ◌<◌, ◌≤◌, [], ◌∷◌, ◌++◌, length, OnOk, OnErr};
+ghost use Rattle.std.specs.Prelude.{◌≡◌, ◌+◌, ◌-◌, ◌<◌, ◌≤◌, [], ◌∷◌, ◌++◌, length, IsOk, OnOk, OnErr};
 ghost use Rattle.std.specs.Io.KnownBytes.{Appends};
-ghost use Rattle.loom_io.specs.Causes.{Rose, TookFront, Paged};
+ghost use Rattle.loom_io.specs.Fault.{Rose};
+ghost use Rattle.loom_io.specs.Sink.{TookFront};
+ghost use Rattle.loom_io.specs.Page.{PageTook};
 
 use crate::sink::{Sink, SinkFailed};
 use crate::whole::put_all;
@@ -13,7 +15,7 @@ pub const PAGE_SIZE: usize = 4096;
 /// The bytes of a page, 4,096 at most. It takes no memory.
 #[derive(Debug, Drop)]
 pub struct Page {
-    cells: [u8; 4096],
+    cells: [u8; PAGE_SIZE],
     len: usize,
 }
 
@@ -33,22 +35,22 @@ impl Page {
         ensures { result ≡ [] }
     {
         Page {
-            cells: [0; 4096],
+            cells: [0; PAGE_SIZE],
             len: 0,
         }
     }
 
-    /// What the page holds.
-    pub fn bytes(&self) -> &[u8]
+    // What the page holds.
+    fn bytes(&self) -> &[u8]
         ensures bytes { result.now ≡ self.now }
-        ensures most { length result.now ≤ 4096 }
+        ensures most { length result.now ≤ PAGE_SIZE }
     {
         &self.cells[..self.len]
     }
 
     // How many bytes more the page can hold.
     fn room(&self) -> usize
-        ensures { result + length self.now ≡ 4096 }
+        ensures { result + length self.now ≡ PAGE_SIZE }
     {
         PAGE_SIZE - self.len
     }
@@ -60,7 +62,7 @@ impl Page {
     }
 
     fn add(&mut self, piece: &[u8])
-        requires { length self.old + length piece.now ≤ 4096 }
+        requires { length self.old + length piece.now ≤ PAGE_SIZE }
         ensures { self.new ≡ self.old ++ piece.now }
     {
         let end = self.len + piece.len();
@@ -74,6 +76,7 @@ impl Page {
 pub fn put_page<K: Sink>(sink: &mut K, page: &mut Page) -> Result<(), SinkFailed>
     ensures later { K.faults sink.old ≤ K.faults sink.new }
     ensures ok { OnOk result (Appends (K.taken sink.old) (K.taken sink.new) page.old) }
+    ensures calm { OnOk result (K.faults sink.new ≡ K.faults sink.old) }
     ensures emptied { OnOk result (page.new ≡ []) }
     ensures part { OnErr result (TookFront (K.taken sink.old) (K.taken sink.new) page.old) }
     ensures failed { OnErr result (Rose (K.faults sink.old) (K.faults sink.new)) }
@@ -84,12 +87,16 @@ pub fn put_page<K: Sink>(sink: &mut K, page: &mut Page) -> Result<(), SinkFailed
     Ok(())
 }
 
-// Puts the page where it has no room for so many bytes.
+// Puts the page exactly where it has no room for so many bytes.
 fn make_room<K: Sink>(sink: &mut K, page: &mut Page, count: usize) -> Result<(), SinkFailed>
-    requires { count ≤ 4096 }
+    requires { count ≤ PAGE_SIZE }
     ensures later { K.faults sink.old ≤ K.faults sink.new }
-    ensures room { OnOk result (length page.new + count ≤ 4096) }
-    ensures ok { OnOk result (Paged (K.taken sink.old) (K.taken sink.new) page.old page.new []) }
+    ensures calm { OnOk result (K.faults sink.new ≡ K.faults sink.old) }
+    ensures succeeds { length page.old + count ≤ PAGE_SIZE → IsOk result }
+    ensures alone { length page.old + count ≤ PAGE_SIZE → sink.new ≡ sink.old }
+    ensures room { length page.old + count ≤ PAGE_SIZE → page.new ≡ page.old }
+    ensures full { PAGE_SIZE < length page.old + count → OnOk result (page.new ≡ []) }
+    ensures ok { OnOk result (PageTook (K.taken sink.old) (K.taken sink.new) page.old page.new []) }
     ensures part { OnErr result (TookFront (K.taken sink.old) (K.taken sink.new) page.old) }
     ensures failed { OnErr result (Rose (K.faults sink.old) (K.faults sink.new)) }
     ensures kept { OnErr result (page.new ≡ page.old) }
@@ -100,13 +107,19 @@ fn make_room<K: Sink>(sink: &mut K, page: &mut Page, count: usize) -> Result<(),
     Ok(())
 }
 
-/// Writes a piece of 4,096 bytes at most to the page, which is put first where it has no room for
-/// the piece. Where the sink fails, it has taken a front of what the page holds, its count of
-/// faults rose in this call, and the page stays as it was.
+/// Writes a piece of 4,096 bytes at most to the page. Where the page has room for the piece, the
+/// sink isn't asked; where it has none, the page is put first, and then holds the piece alone.
+/// Where the sink fails, it has taken a front of what the page holds, its count of faults rose in
+/// this call, and the page stays as it was.
 pub fn put_paged<K: Sink>(sink: &mut K, page: &mut Page, piece: &[u8]) -> Result<(), SinkFailed>
-    requires { length piece.now ≤ 4096 }
+    requires { length piece.now ≤ PAGE_SIZE }
     ensures later { K.faults sink.old ≤ K.faults sink.new }
-    ensures ok { OnOk result (Paged (K.taken sink.old) (K.taken sink.new) page.old page.new piece.now) }
+    ensures calm { OnOk result (K.faults sink.new ≡ K.faults sink.old) }
+    ensures succeeds { length page.old + length piece.now ≤ PAGE_SIZE → IsOk result }
+    ensures alone { length page.old + length piece.now ≤ PAGE_SIZE → sink.new ≡ sink.old }
+    ensures room { length page.old + length piece.now ≤ PAGE_SIZE → page.new ≡ page.old ++ piece.now }
+    ensures full { PAGE_SIZE < length page.old + length piece.now → OnOk result (page.new ≡ piece.now) }
+    ensures ok { OnOk result (PageTook (K.taken sink.old) (K.taken sink.new) page.old page.new piece.now) }
     ensures part { OnErr result (TookFront (K.taken sink.old) (K.taken sink.new) (page.old ++ piece.now)) }
     ensures failed { OnErr result (Rose (K.faults sink.old) (K.faults sink.new)) }
     ensures kept { OnErr result (page.new ≡ page.old) }

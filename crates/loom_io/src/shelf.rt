@@ -1,6 +1,7 @@
 //! Where files come from.
-ghost use Rattle.std.specs.Prelude.{◌≡◌, ◌≤◌, ◌+◌, ℕ, List, Option, length, take, IfOk, IfErr, IfSome};
-ghost use Rattle.loom_io.specs.Causes.{Rose};
+ghost use Rattle.std.specs.Prelude.{◌≡◌, ◌≤◌, ◌+◌, ℕ, List, length, IfOk, IfErr};
+ghost use Rattle.loom_io.specs.Fault.{Rose};
+ghost use Rattle.loom_io.specs.Shelf.{FileState, Missing, IsRead};
 
 use loom_tree::name::{Name, NoMemory};
 use std::alloc::Global;
@@ -33,17 +34,19 @@ pub trait Shelf {
     /// How many faults there were at a name, up to 18446744073709551615.
     ghost faults: { Self → List ℕ → ℕ };
 
-    /// What the file of a name holds, where the shelf tells it.
-    ghost told: { Self → List ℕ → Option (List ℕ) };
+    /// What the shelf tells of the file of a name: nothing, that there is none, or its bytes.
+    ghost told: { Self → List ℕ → FileState };
 
     /// The bytes of the file of that name: the whole file, or its first `limit + 1` bytes where it
-    /// has more than `limit`, which is at most 67,108,864. `Failed` comes only where the count of
-    /// the name's faults rose in this call. `NoMemory` may come at any call.
+    /// has more than `limit`, which is at most 67,108,864. `Failed` comes at a missing file, and
+    /// only where the count of the name's faults rose in this call. `NoMemory` may come at any call
+    /// but at a name that the shelf tells to be missing.
     fn read(&mut self, alloc: Global, name: &str, limit: usize) -> Result<Name, ShelfError>
-        requires { limit ≤ 67108864 }
+        requires { limit ≤ LARGEST_LIMIT }
         ensures kept { (n : List ℕ) → told self.new n ≡ told self.old n }
         ensures later { (n : List ℕ) → faults self.old n ≤ faults self.new n }
         ensures short { IfOk result (λ bytes. length bytes ≤ limit + 1) }
-        ensures whole { IfOk result (λ bytes. IfSome (told self.old name.now) (λ file. bytes ≡ take (limit + 1) file)) }
+        ensures whole { IfOk result (λ bytes. IsRead (told self.old name.now) limit bytes) }
+        ensures missing { told self.old name.now ≡ Missing → result ≡ Err ShelfError.Failed }
         ensures failed { IfErr result (λ e. e ≡ ShelfError.Failed → Rose (faults self.old name.now) (faults self.new name.now)) };
 }

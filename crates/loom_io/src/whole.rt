@@ -1,15 +1,17 @@
 //! Writes a whole text.
-ghost use Rattle.std.specs.Prelude.{◌≤◌, OnOk, OnErr};
+ghost use Rattle.std.specs.Prelude.{◌≡◌, ◌≤◌, OnOk, OnErr};
 ghost use Rattle.std.specs.Io.KnownBytes.{Appends};
-ghost use Rattle.loom_io.specs.Causes.{Rose, TookFront};
+ghost use Rattle.loom_io.specs.Fault.{Rose};
+ghost use Rattle.loom_io.specs.Sink.{TookFront};
 
 use crate::sink::{Sink, SinkFailed};
 
-/// Puts the whole text, in as many pieces as the sink takes. Where the sink fails, it has taken a
-/// front of the text, and its count of faults rose in this call.
+/// Puts the whole text, in as many pieces as the sink takes, and stops at the first fault: then the
+/// sink has taken a front of the text, and its count of faults rose in this call.
 pub fn put_all<K: Sink>(sink: &mut K, text: &[u8]) -> Result<(), SinkFailed>
     ensures later { K.faults sink.old ≤ K.faults sink.new }
     ensures ok { OnOk result (Appends (K.taken sink.old) (K.taken sink.new) text.now) }
+    ensures calm { OnOk result (K.faults sink.new ≡ K.faults sink.old) }
     ensures part { OnErr result (TookFront (K.taken sink.old) (K.taken sink.new) text.now) }
     ensures failed { OnErr result (Rose (K.faults sink.old) (K.faults sink.new)) }
 {
@@ -48,16 +50,6 @@ mod tests {
             assert_eq!(rt; sink.calls, call);
             assert_eq!(rt; sink.faults, 1);
         }
-        Ok(())
-    }
-
-    #[test]
-    fn fails_where_the_room_ends(rt: HostRuntime) -> Result<(), Fail> {
-        let mut sink = MemSink::make(rt.alloc(), 8, 5)?;
-        assert_eq!(rt; put_all(&mut sink, TEXT), Err(SinkFailed));
-        assert_eq!(rt; sink.taken.bytes(), "finish d".as_bytes());
-        assert_eq!(rt; sink.calls, 3);
-        assert_eq!(rt; sink.faults, 1);
         Ok(())
     }
 }

@@ -8,8 +8,8 @@ use Rattle.loom_lang.specs.declared.refusal.Reason.{Reason}
 use Rattle.loom_lang.specs.declared.refusal.LangRefusal.{LangRefusal}
 use Rattle.loom_lang.specs.Rules.{lines}
 use Rattle.loom_lang.specs.Refusal.{lets_at, unknown_lines, miscounted_lines}
-use Rattle.loom_lang.specs.Noted.{noted}
-use Rattle.loom_lang.proofs.Noted.{noted_on}
+use Rattle.loom_lang.specs.Fault.{noted}
+use Rattle.loom_lang.proofs.Faults.{noted_on}
 
 pub lines_behind : (l : ℕ) (s : Kind) (rest : Body) → lines (behind l s rest) ≡ lines (behind l s end) ++ lines rest
 lines_behind l (k.If e a b) rest = simp (append-nil, append_assoc)

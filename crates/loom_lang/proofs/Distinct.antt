@@ -1,5 +1,5 @@
 -- Lists of names.
-use Rattle.std.proofs.Common.{ℕ, ◌≡◌, true, not, ◌&&◌, ◌||◌, List, [], ◌∷◌, ◌++◌, refl, ap, sym, ◌∙◌, arith}
+use Rattle.std.proofs.Common.{ℕ, ◌≡◌, Bool, true, false, not, ◌&&◌, ◌||◌, List, [], ◌∷◌, ◌++◌, refl, ap, sym, ◌∙◌, arith}
 use Rattle.std.specs.Prelude.{◌==◌}
 use Rattle.std.specs.Cmp.Lexicographic.{pointwise}
 use Rattle.std.proofs.lemmas.Cmp.{nat_list_eq_equiv}
@@ -59,3 +59,11 @@ distinct_inserted (x ∷ xs) ys y =
     let i : is_in x (xs ++ y ∷ ys) ≡ (pointwise ◌==◌ y x || is_in x (xs ++ ys)) = same_inserted xs ys y x in
     let s : pointwise ◌==◌ x y ≡ pointwise ◌==◌ y x = nat_list_eq_equiv.symm x y in
     grind arith
+
+pub distinct_behind : (xs ys : List (List ℕ)) → is_distinct (xs ++ ys) ≡ true → is_distinct ys ≡ true
+distinct_behind [] ys h = h
+distinct_behind (x ∷ xs) ys h = distinct_behind xs ys (go (not (is_in x (xs ++ ys))) (is_distinct (xs ++ ys)) h)
+  where
+    go : (a b : Bool) → (a && b) ≡ true → b ≡ true
+    go true b k = k
+    go false b k = cc

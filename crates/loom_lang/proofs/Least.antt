@@ -2,13 +2,13 @@
 use Rattle.std.proofs.Common.{ℕ, suc, ◌<◌, ◌≤◌, ◌≡◌, Bool, true, false, ◌&&◌, ◌||◌, cond, nat_lt, ◌⊎◌, inl, inr, List, [], ◌∷◌, Option, Some, None, MatchOption, refl, ap, sym, subst, arith}
 use Rattle.std.specs.Prelude.{nat_eq}
 use Rattle.std.proofs.lemmas.Bool.Decides.{leb_tells, nat_tests}
-use Rattle.loom_tree.specs.Tree.{Item}
+use Rattle.loom_tree.specs.Tree.{FileItem}
 use Rattle.loom_lang.specs.declared.refusal.Which.TheVariants as which
 use Rattle.loom_lang.specs.declared.refusal.Reason.{Reason}
 use Rattle.loom_lang.specs.declared.refusal.Reason.TheVariants as reason
 use Rattle.loom_lang.specs.declared.refusal.LangRefusal.{LangRefusal}
 use Rattle.loom_lang.specs.Refusal.{rank, lines_of_reason, IsAmong, IsFaultless, IsFirstFault}
-use Rattle.loom_lang.specs.Noted.{is_before, sooner, noted, noted_all, reasons}
+use Rattle.loom_lang.specs.Fault.{is_before, sooner, noted, noted_all, reasons}
 
 -- the line and the reason of a fault stand at this one or behind it
 abbrev IsAtOrBehind : LangRefusal → ℕ → Reason → Type 0
@@ -118,10 +118,10 @@ IsOne r [] = ⊥
 IsOne r (why ∷ whys) = (r ≡ why) ⊎ IsOne r whys
 
 -- of these faults, or for one of these reasons in the items of a file
-abbrev OrFound : (ℕ → Reason → Type 0) → List Item → ℕ → List Reason → ℕ → Reason → Type 0
+abbrev OrFound : (ℕ → Reason → Type 0) → List FileItem → ℕ → List Reason → ℕ → Reason → Type 0
 OrFound Is items last whys l r = Is l r ⊎ (IsOne r whys × IsAmong l (lines_of_reason items last r))
 
-all_least : (Is : ℕ → Reason → Type 0) (items : List Item) (last : ℕ) (first : Option LangRefusal) (whys : List Reason) → AreLeast Is first → AreLeast (OrFound Is items last whys) (noted_all items last first whys)
+all_least : (Is : ℕ → Reason → Type 0) (items : List FileItem) (last : ℕ) (first : Option LangRefusal) (whys : List Reason) → AreLeast Is first → AreLeast (OrFound Is items last whys) (noted_all items last first whys)
 all_least Is items last first [] h = least_of_same Is (OrFound Is items last []) first (λ l r x. inl x) back h
   where
     back : (l : ℕ) (r : Reason) → OrFound Is items last [] l r → Is l r
@@ -143,7 +143,7 @@ all_least Is items last first (why ∷ whys) h =
     back l r (inr (inr o, x)) = inr (o, x)
 
 -- each reason is looked for but the grammar's, which the tokens tell
-looked_for : (items : List Item) (last l : ℕ) (r : Reason) → IsAmong l (lines_of_reason items last r) → IsOne r reasons
+looked_for : (items : List FileItem) (last l : ℕ) (r : Reason) → IsAmong l (lines_of_reason items last r) → IsOne r reasons
 looked_for items last l reason.Syntax h = absurd h
 looked_for items last l reason.SecondOnLine h = inl refl
 looked_for items last l (reason.TooMany which.Statements) h = inr (inl refl)
@@ -157,11 +157,11 @@ looked_for items last l (reason.TooMany which.Locals) h = inr (inr (inr (inr (in
 looked_for items last l (reason.TooMany which.Names) h = inr (inr (inr (inr (inr (inr (inr (inr (inr (inl refl)))))))))
 looked_for items last l (reason.TooMany which.Cells) h = inr (inr (inr (inr (inr (inr (inr (inr (inr (inr (inl refl))))))))))
 
-fault_told : (items : List Item) (last : ℕ) (first : Option LangRefusal) → AreLeast (λ l r. IsAmong l (lines_of_reason items last r)) first → MatchOption first (IsFaultless items last) (λ (f : LangRefusal). IsFirstFault items last f.line f.reason)
+fault_told : (items : List FileItem) (last : ℕ) (first : Option LangRefusal) → AreLeast (λ l r. IsAmong l (lines_of_reason items last r)) first → MatchOption first (IsFaultless items last) (λ (f : LangRefusal). IsFirstFault items last f.line f.reason)
 fault_told items last None h = h
 fault_told items last (Some f) h = record { stands = h.stands; first = h.first }
 
-pub first_told : (items : List Item) (last : ℕ) (first : Option LangRefusal) → first ≡ noted_all items last None reasons → MatchOption first (IsFaultless items last) (λ (f : LangRefusal). IsFirstFault items last f.line f.reason)
+pub first_told : (items : List FileItem) (last : ℕ) (first : Option LangRefusal) → first ≡ noted_all items last None reasons → MatchOption first (IsFaultless items last) (λ (f : LangRefusal). IsFirstFault items last f.line f.reason)
 first_told items last first e =
     let Found : ℕ → Reason → Type 0 = λ l r. IsAmong l (lines_of_reason items last r) in
     let least : AreLeast Found (noted_all items last None reasons) = least_of_same (OrFound (λ l r. ⊥) items last reasons) Found (noted_all items last None reasons) there (λ l r x. inr (looked_for items last l r x, x)) (all_least (λ l r. ⊥) items last None reasons (λ l r x. x)) in

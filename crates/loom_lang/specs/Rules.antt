@@ -1,9 +1,13 @@
 -- The rules on names, and the limits of a program.
 use Rattle.std.specs.Prelude.{ℕ, ◌+◌, ◌≤◌, ◌≡◌, ◌==◌, nat_lt, Bool, true, false, not, ◌&&◌, ◌||◌, List, [], ◌∷◌, ◌++◌, length, map, flat_map, Option, Some, None, is_none, is_some, codes}
 use Rattle.std.specs.Cmp.Lexicographic.{pointwise}
+use Rattle.std.specs.List.{AllByRecursion}
 use Rattle.loom_tree.specs.declared.item.Word.{Word}
 use Rattle.loom_tree.specs.declared.item.Sema.{Sema}
 use Rattle.loom_tree.specs.Tree.{Expression, num, var, cell, neg, inverse, bin, Right, Simple, let_, set, set_cell, return, lock, unlock, down, up, join, print, skip, Body, end, simple, if_, while_, Function, Source}
+use Rattle.loom_lexer.specs.Name.{IsName}
+use Rattle.loom_lang.specs.Limits.{function_limit, param_limit, local_limit, name_limit, cell_limit, statement_limit}
+use Rattle.loom_lang.specs.WellFormed.{IsWellFormedBlock, IsWellFormedWord, IsWellFormedSema}
 
 -- names
 
@@ -173,14 +177,18 @@ pub record FunctionKeepsRules (p : Source) (f : Function) : Type 0 where
   pub known : knows_body p (locals_of f) f.body ≡ true
   -- calls and spawns have the right number of arguments
   pub counted : counts_body p f.body ≡ true
-  pub params : length f.params ≤ 4
-  pub locals : length (locals_of f) ≤ 32
+  pub params : length f.params ≤ param_limit
+  pub locals : length (locals_of f) ≤ local_limit
+  -- Locals are names. The names in its statements are known, and so are names too.
+  pub names : AllByRecursion IsName (locals_of f)
+  -- the body is the first of the blocks
+  pub form : IsWellFormedBlock 1 f.body
 
 abbrev pub FunctionsKeepRules : Source → List Function → Type 0
 FunctionsKeepRules p [] = Unit {0}
 FunctionsKeepRules p (f ∷ fs) = FunctionKeepsRules p f × FunctionsKeepRules p fs
 
--- A program keeps the rules on names and the limits.
+-- A program keeps the rules on names and the limits, and has the form that the grammar asks for.
 pub record KeepsRules (p : Source) : Type 0 where
   -- a name of the file is declared once
   pub once : is_distinct (file_names p) ≡ true
@@ -189,7 +197,10 @@ pub record KeepsRules (p : Source) : Type 0 where
   pub main : takes p.funcs (codes "main") 0 ≡ true
   -- At most one statement begins on a line: in the order of the text each begins behind the line of the one before it.
   pub lines : is_ascending 0 (lines_of p) ≡ true
-  pub function_count : length p.funcs ≤ 64
-  pub name_count : length (shared_names p) ≤ 64
-  pub cells : cell_count p.words ≤ 1024
-  pub statements : length (lines_of p) ≤ 4096
+  pub function_count : length p.funcs ≤ function_limit
+  pub name_count : length (shared_names p) ≤ name_limit
+  pub cells : cell_count p.words ≤ cell_limit
+  pub statements : length (lines_of p) ≤ statement_limit
+  pub names : AllByRecursion IsName (file_names p)
+  pub words : AllByRecursion IsWellFormedWord p.words
+  pub semas : AllByRecursion IsWellFormedSema p.semas

@@ -1,22 +1,22 @@
 //! The language: programs, and their parser.
 #![tactic(auto)]
 
-mod counts;
+mod arity;
 mod declarations;
-mod faults;
+mod diagnostics;
+mod duplicates;
+mod excess;
+mod fault;
 mod gather;
 pub mod laws;
-mod limits;
+pub mod limits;
 mod local;
 pub mod locals;
 mod names;
-mod note;
 pub mod parse;
 pub mod program;
-mod read;
 pub mod refusal;
+mod resolve;
 #[cfg(test)]
 mod tests;
-mod twice;
-mod unknown;
 mod walk;

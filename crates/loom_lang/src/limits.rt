@@ -1,174 +1,22 @@
-//! The limits of a program.
-ghost use Rattle.std.specs.Prelude.{◌≡◌, ◌++◌, ◌∷◌, [], nat_lt, OnOk, IfOk, flat_map, map, length};
-ghost use Rattle.loom_tree.specs.Tree.{Function, function_of, item_of, items_of};
-ghost use Rattle.loom_lang.specs.declared.local.Local as local;
-ghost use Rattle.loom_lang.specs.declared.refusal.Reason.TheVariants as reason;
-ghost use Rattle.loom_lang.specs.declared.refusal.Which.TheVariants as which;
-ghost use Rattle.loom_lang.specs.Rules.{cell_count};
-ghost use Rattle.loom_lang.specs.Gathered.{funcs_in, words_in, source_of_items};
-ghost use Rattle.loom_lang.specs.Refusal.{line_if, locals_at, over, shared_lines, lines_of_reason};
-ghost use Rattle.loom_lang.specs.Noted.{noted, noted_all};
+//! How much a program may have of what it declares.
 
-use crate::local::Local;
-use crate::names::line_of;
-use crate::note::{note, note_if};
-use crate::refusal::{LangRefusal, Reason, Which};
-use crate::walk::put_locals;
-use loom_tree::item::Item;
-use loom_tree::name::NoMemory;
-use std::alloc::Global;
+/// The most functions.
+pub const FUNCTION_LIMIT: usize = 64;
 
-/// Notes the first line beyond the limit.
-pub fn note_over(first: &mut Option<LangRefusal>, most: usize, lines: &[u32], reason: Reason)
-    ensures { first.new ≡ noted first.old reason (over most lines.now) }
-{
-    if most < lines.len() {
-        note(first, lines[most], reason);
-    }
-}
+/// The most parameters of a function.
+pub const PARAM_LIMIT: usize = 4;
 
-fn put_function_line(lines: &mut Vec<u32>, item: &Item) -> Result<(), NoMemory>
-    ensures { OnOk result (lines.new.items ≡ lines.old.items ++ map (λ (f : Function). f.line) (funcs_in (item_of item.now))) }
-{
-    if let Item::Func(f) = item {
-        lines.push(f.line)?;
-    }
-    Ok(())
-}
+/// The most locals of a function, its parameters among them.
+pub const LOCAL_LIMIT: usize = 32;
 
-fn function_lines(alloc: Global, items: &[Item]) -> Result<Vec<u32>, NoMemory>
-    ensures { IfOk result (λ ls. ls.items ≡ map (λ (f : Function). f.line) (source_of_items (items_of items.now)).funcs) }
-{
-    let mut lines = Vec::new(alloc);
-    'gather: for item in items {
-        put_function_line(&mut lines, item)?;
-    }
-    Ok(lines)
-}
+/// The most words, arrays, mutexes and semaphores.
+pub const NAME_LIMIT: usize = 64;
 
-fn put_shared_line(lines: &mut Vec<u32>, item: &Item) -> Result<(), NoMemory>
-    ensures { OnOk result (lines.new.items ≡ lines.old.items ++ shared_lines (item_of item.now ∷ [])) }
-{
-    match item {
-        Item::Word { line, .. } => lines.push(*line)?,
-        Item::Mutex { line, .. } => lines.push(*line)?,
-        Item::Sema { line, .. } => lines.push(*line)?,
-        Item::Func(_) => {}
-    }
-    Ok(())
-}
+/// The most cells, a plain word counting one.
+pub const CELL_LIMIT: u32 = 1024;
 
-fn shared_lines(alloc: Global, items: &[Item]) -> Result<Vec<u32>, NoMemory>
-    ensures { IfOk result (λ ls. ls.items ≡ shared_lines (items_of items.now)) }
-{
-    let mut lines = Vec::new(alloc);
-    'gather: for item in items {
-        put_shared_line(&mut lines, item)?;
-    }
-    Ok(lines)
-}
+/// The most statements.
+pub const STATEMENT_LIMIT: usize = 4096;
 
-fn note_params_in(item: &Item, first: &mut Option<LangRefusal>)
-    ensures { first.new ≡ noted first.old (reason.TooMany which.Params) (flat_map (λ (f : Function). line_if (nat_lt 4 (length f.params)) f.line) (funcs_in (item_of item.now))) }
-{
-    if let Item::Func(f) = item {
-        note_if(
-            first,
-            4 < f.params.0.len(),
-            f.line,
-            Reason::TooMany(Which::Params),
-        );
-    }
-}
-
-fn note_params(items: &[Item], first: &mut Option<LangRefusal>)
-    ensures { first.new ≡ noted first.old (reason.TooMany which.Params) (lines_of_reason (items_of items.now) 0 (reason.TooMany which.Params)) }
-{
-    'scan: for item in items {
-        note_params_in(item, first);
-    }
-}
-
-fn note_locals_of(locals: &[Local], first: &mut Option<LangRefusal>)
-    ensures { first.new ≡ noted first.old (reason.TooMany which.Locals) (over 32 (map (λ (d : local.Local). d.line) locals.now)) }
-{
-    if 32 < locals.len() {
-        note(first, locals[32].line, Reason::TooMany(Which::Locals));
-    }
-}
-
-fn note_locals_in(
-    alloc: Global,
-    item: &Item,
-    first: &mut Option<LangRefusal>,
-) -> Result<(), NoMemory>
-    ensures { OnOk result (first.new ≡ noted first.old (reason.TooMany which.Locals) (flat_map (λ (f : Function). over 32 (map (λ (d : local.Local). d.line) (locals_at f))) (funcs_in (item_of item.now)))) }
-{
-    if let Item::Func(f) = item {
-        let mut locals = Vec::new(alloc);
-        put_locals(alloc, &mut locals, f)?;
-        note_locals_of(&locals, first);
-    }
-    Ok(())
-}
-
-fn note_locals(
-    alloc: Global,
-    items: &[Item],
-    first: &mut Option<LangRefusal>,
-) -> Result<(), NoMemory>
-    ensures { OnOk result (first.new ≡ noted first.old (reason.TooMany which.Locals) (lines_of_reason (items_of items.now) 0 (reason.TooMany which.Locals))) }
-{
-    'scan: for item in items {
-        note_locals_in(alloc, item, first)?;
-    }
-    Ok(())
-}
-
-/// How many cells an item has, a plain word one.
-fn cells_in(item: &Item) -> u64
-    ensures { result ≡ cell_count (words_in (item_of item.now)) }
-{
-    match item {
-        Item::Word { cells: None, .. } => 1,
-        Item::Word {
-            cells: Some(cells),
-            ..
-        } => *cells,
-        Item::Mutex { .. } => 0,
-        Item::Sema { .. } => 0,
-        Item::Func(_) => 0,
-    }
-}
-
-fn note_cells(items: &[Item], first: &mut Option<LangRefusal>)
-    ensures { first.new ≡ noted first.old (reason.TooMany which.Cells) (lines_of_reason (items_of items.now) 0 (reason.TooMany which.Cells)) }
-{
-    let mut left: u64 = 1024;
-    'scan: for item in items {
-        let cells = cells_in(item);
-        if left < cells {
-            note(first, line_of(item), Reason::TooMany(Which::Cells));
-            return;
-        }
-        left -= cells;
-    }
-}
-
-/// Notes more functions, parameters, locals, names and cells than there may be. An `Err` is want of memory.
-pub fn note_limits(
-    alloc: Global,
-    items: &[Item],
-    first: &mut Option<LangRefusal>,
-) -> Result<(), NoMemory>
-    ensures { OnOk result (first.new ≡ noted_all (items_of items.now) 0 first.old (reason.TooMany which.Functions ∷ reason.TooMany which.Params ∷ reason.TooMany which.Locals ∷ reason.TooMany which.Names ∷ reason.TooMany which.Cells ∷ [])) }
-{
-    let functions = function_lines(alloc, items)?;
-    note_over(first, 64, &functions, Reason::TooMany(Which::Functions));
-    note_params(items, first);
-    note_locals(alloc, items, first)?;
-    let names = shared_lines(alloc, items)?;
-    note_over(first, 64, &names, Reason::TooMany(Which::Names));
-    note_cells(items, first);
-    Ok(())
-}
+/// The most bytes of the text of a program.
+pub const SOURCE_LIMIT: usize = 65536;

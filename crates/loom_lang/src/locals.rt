@@ -2,7 +2,7 @@
 ghost use Rattle.std.specs.Prelude.{◌≡◌, ◌∷◌, [], ◌++◌, OnOk, IfOk};
 ghost use Rattle.loom_tree.specs.Tree.{function_of};
 ghost use Rattle.loom_lang.specs.Rules.{locals_of};
-ghost use Rattle.loom_lang.specs.Noted.{names_of};
+ghost use Rattle.loom_lang.specs.Fault.{names_of};
 
 use crate::local::Local;
 use crate::walk::put_locals;

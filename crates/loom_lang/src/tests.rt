@@ -1,14 +1,14 @@
 //! Programs that are accepted, and texts that are refused, each at its line and for its reason.
 
-use crate::parse::{LangError, parse_program};
-use crate::read::{ReadError, read};
+use crate::limits::SOURCE_LIMIT;
+use crate::parse::{LangError, ReadError, parse_program, read};
 use crate::refusal::{LangRefusal, Reason, Which};
 use std::alloc::{AllocError, Global};
 use std::test::Fail;
 
 /// The refusal of a text, or `None` where it is a program. No text here is too long.
 fn refusal_of(alloc: Global, bytes: &[u8]) -> Result<Option<LangRefusal>, ReadError> {
-    if bytes.len() > 65536 {
+    if bytes.len() > SOURCE_LIMIT {
         return Err(ReadError::NoMemory);
     }
     match read(alloc, bytes) {
@@ -20,7 +20,7 @@ fn refusal_of(alloc: Global, bytes: &[u8]) -> Result<Option<LangRefusal>, ReadEr
 
 /// The error of a text, or `None` where it is a program. No text here is too long.
 fn error_of(alloc: Global, bytes: &[u8]) -> Option<LangError> {
-    if bytes.len() > 65536 {
+    if bytes.len() > SOURCE_LIMIT {
         return Some(LangError::NoMemory);
     }
     match parse_program(alloc, bytes) {
@@ -46,9 +46,9 @@ fn accepts(rt: HostRuntime) {
         b"// \xc3\xa9\xff\nfn main() {}",
         b"fn main() {} // \x80",
     ];
-    for text in texts {
-        assert_eq!(rt; error_of(rt.alloc(), text), None);
-        assert_eq!(rt; refusal_of(rt.alloc(), text), Ok(None));
+    for (row, text) in texts.iter().enumerate() {
+        assert_eq!(rt; error_of(rt.alloc(), text), None, "row {row}");
+        assert_eq!(rt; refusal_of(rt.alloc(), text), Ok(None), "row {row}");
     }
 }
 
@@ -112,18 +112,27 @@ fn refuses(rt: HostRuntime) {
             Reason::TooMany(Which::Params),
         ),
     ];
-    for (text, line, reason) in texts {
-        assert_eq!(rt; error_of(rt.alloc(), text), Some(LangError::Refused));
+    for (row, (text, line, reason)) in texts.iter().enumerate() {
+        let refusal = LangRefusal {
+            line: *line,
+            reason: *reason,
+        };
+        assert_eq!(rt;
+            error_of(rt.alloc(), text),
+            Some(LangError::Refused),
+            "row {row}"
+        );
         assert_eq!(rt;
             refusal_of(rt.alloc(), text),
-            Ok(Some(LangRefusal { line, reason }))
+            Ok(Some(refusal)),
+            "row {row}"
         );
     }
 }
 
 #[test]
 fn refuses_names(rt: HostRuntime) {
-    let texts: [(&[u8], u32, Reason); 25] = [
+    let texts: [(&[u8], u32, Reason); 26] = [
         (b"fn main() {\nprint x;\n}", 2, Reason::UnknownName),
         (
             b"fn f(p) {}\nfn main() {\nprint p;\n}",
@@ -186,6 +195,7 @@ fn refuses_names(rt: HostRuntime) {
             Reason::NameTwice,
         ),
         (b"fn main() {}\nfn main(p) {}", 2, Reason::NameTwice),
+        (b"fn main(p) {}\nfn main() {}", 1, Reason::WrongCount),
         // the lower line counts, and at one line the lesser reason
         (
             b"fn f() {}\nfn main() {\nf(1);\nskip; skip;\n}",
@@ -199,11 +209,20 @@ fn refuses_names(rt: HostRuntime) {
             Reason::SecondOnLine,
         ),
     ];
-    for (text, line, reason) in texts {
-        assert_eq!(rt; error_of(rt.alloc(), text), Some(LangError::Refused));
+    for (row, (text, line, reason)) in texts.iter().enumerate() {
+        let refusal = LangRefusal {
+            line: *line,
+            reason: *reason,
+        };
+        assert_eq!(rt;
+            error_of(rt.alloc(), text),
+            Some(LangError::Refused),
+            "row {row}"
+        );
         assert_eq!(rt;
             refusal_of(rt.alloc(), text),
-            Ok(Some(LangRefusal { line, reason }))
+            Ok(Some(refusal)),
+            "row {row}"
         );
     }
 }

@@ -2,11 +2,11 @@
 ghost use Rattle.std.specs.Prelude.{◌≡◌, ◌++◌, ◌∷◌, [], OnOk, IfOk, flat_map};
 ghost use Rattle.loom_tree.specs.Tree.{Function, body_of, behind, end, function_of, item_of, items_of};
 ghost use Rattle.loom_lang.specs.Rules.{lines, lines_of};
-ghost use Rattle.loom_lang.specs.Gathered.{funcs_in, source_of_items};
+ghost use Rattle.loom_lang.specs.FileItems.{funcs_in, source_of_items};
 ghost use Rattle.loom_lang.specs.Refusal.{at_line, lets_at, locals_at};
 
 use crate::local::Local;
-use loom_tree::item::Item;
+use loom_tree::item::FileItem;
 use loom_tree::name::{Name, NoMemory};
 use loom_tree::statement::{Func, Kind, Stmts};
 use std::alloc::Global;
@@ -38,17 +38,17 @@ fn put_lines_in(found: &mut Vec<u32>, line: u32, kind: &Kind) -> Result<(), NoMe
     }
 }
 
-fn put_item_lines(found: &mut Vec<u32>, item: &Item) -> Result<(), NoMemory>
+fn put_item_lines(found: &mut Vec<u32>, item: &FileItem) -> Result<(), NoMemory>
     ensures { OnOk result (found.new.items ≡ found.old.items ++ flat_map (λ (f : Function). lines f.body) (funcs_in (item_of item.now))) }
 {
     match item {
-        Item::Func(f) => put_lines(found, &f.body),
+        FileItem::Func(f) => put_lines(found, &f.body),
         _ => Ok(()),
     }
 }
 
 /// The lines on which statements begin. An `Err` is want of memory.
-pub fn statement_lines(alloc: Global, items: &[Item]) -> Result<Vec<u32>, NoMemory>
+pub fn statement_lines(alloc: Global, items: &[FileItem]) -> Result<Vec<u32>, NoMemory>
     ensures { IfOk result (λ ls. ls.items ≡ lines_of (source_of_items (items_of items.now))) }
 {
     let mut found = Vec::new(alloc);

@@ -10,7 +10,7 @@ use Rattle.loom_law.specs.Filter.{has}
 use Rattle.loom_law.specs.Walk.{Version, holds, without_clause}
 use Rattle.loom_law.specs.Control.{Command, have_one_name, Holder, Control, first_control, without_holder, left_by, after_entry, controlled}
 use Rattle.loom_law.specs.Lawful.{is_held_by, is_installed}
-use Rattle.loom_law.proofs.Held.{or_cases, or_left, or_right, either_of, pick, same_number}
+use Rattle.loom_law.proofs.Holdings.{or_cases, or_left, or_right, either_of, pick, same_number}
 
 -- Tests
 
@@ -140,13 +140,13 @@ pub first_sound : IsSound first_control
 first_sound = record { one = λ k n u v h g. cc; installed = λ k n u h. cc; spent = λ k h. cc; asked = λ k h. cc }
 
 -- answered
-spent_answered : (c : Control) (k next : ℕ) → next ≡ c.next → IsSpent c k → (k < next) × (None ≡ Some k → ⊥)
+pub spent_answered : (c : Control) (k next : ℕ) → next ≡ c.next → IsSpent c k → (k < next) × (None ≡ Some k → ⊥)
 spent_answered c k next is h = (subst (λ z. k < z) (sym is) h.0, λ g. cc)
 
-spent_asked : (c : Control) (k j : ℕ) → k ≡ c.next → IsSpent c j → (j < suc k) × (Some k ≡ Some j → ⊥)
+pub spent_asked : (c : Control) (k j : ℕ) → k ≡ c.next → IsSpent c j → (j < suc k) × (Some k ≡ Some j → ⊥)
 spent_asked c k j is h = (let less : j < c.next = h.0 in omega arith, λ g. let same : k ≡ j = cc in let less : j < c.next = h.0 in omega arith)
 
-spent_passed : (c : Control) (k j : ℕ) → k ≡ c.next → IsSpent c j → (j < suc k) × (c.asked ≡ Some j → ⊥)
+pub spent_passed : (c : Control) (k j : ℕ) → k ≡ c.next → IsSpent c j → (j < suc k) × (c.asked ≡ Some j → ⊥)
 spent_passed c k j is h = (let less : j < c.next = h.0 in omega arith, h.1)
 
 enter_one : (c : Control) (u k n j m v w : ℕ) → IsSound c → is_held c.holders k n ≡ false

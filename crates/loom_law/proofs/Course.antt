@@ -25,8 +25,8 @@ pub record Course : Type 0 where
   pub levels : List Level
   pub gone : List Level
 
-abbrev pub over : Course
-over = record { levels = []; gone = [] }
+abbrev pub no_frames : Course
+no_frames = record { levels = []; gone = [] }
 
 abbrev pub AreNone : {A : Type 0} → List A → Type 0
 AreNone [] = Unit {0}
@@ -81,33 +81,20 @@ moved x n os = record x { node = Some n; opened = os }
 abbrev pub at_level : Level → List Level → Course
 at_level x xs = record { levels = x ∷ xs; gone = [] }
 
--- The value of a call goes to a local, as the rules on names ask: there is no word of that name.
-abbrev pub IsToLocal : Source → Body → Type 0
-IsToLocal p (simple l (let_ x (Right.call g es)) rest) = cells_named p x ≡ None
-IsToLocal p (simple l (set x (Right.call g es)) rest) = cells_named p x ≡ None
-IsToLocal p b = Unit {0}
-
-abbrev pub CallsToLocals : Source → Type 0
-CallsToLocals p = (h : ℕ) (f : Function) → slice_get p.funcs h ≡ Some f → (b : Body) → Contains (statements f.body) b → IsToLocal p b
-
--- then no frame was left directly before
-abbrev pub MayGoOn : Source → List Level → Type 0
-MayGoOn p gone = CallsToLocals p → AreNone gone
-
 -- an item, and what holds of where it leads
 abbrev pub Runs : Source → Course → Item → (Course → Type 0) → Type 0
-Runs p s (made l begin) P = AreNone s.levels × (AreNone s.gone × P over)
-Runs p s (made l trace.end) P = AreNone s.levels × P over
-Runs p s (made l (trap c)) P = MayGoOn p s.gone × (Acts s.levels l × P over)
-Runs p s (made l a) P = MayGoOn p s.gone × (Acts s.levels l × P (record s { gone = [] }))
+Runs p s (made l begin) P = AreNone s.levels × (AreNone s.gone × P no_frames)
+Runs p s (made l trace.end) P = AreNone s.levels × P no_frames
+Runs p s (made l (trap c)) P = Acts s.levels l × P no_frames
+Runs p s (made l a) P = Acts s.levels l × P (record s { gone = [] })
 Runs p s (begins l env) P = OnFirst s.levels (λ x xs. (b : Body) × (Begins b l × ((Contains (statements (Function.body x.function)) b × IsNested x.opened b)
     × (Follows x.function x.node (path.begins l) × P (at_level (moved x (path.begins l) (b ∷ x.opened)) xs)))))
 Runs p s (done l) P = OnFirst s.levels (λ x xs. OnFirst x.opened (λ b bs. Begins b l
     × (Follows x.function x.node (path.complete l) × P (at_level (moved x (path.complete l) bs) xs))))
-Runs p s (edge l) P = MayGoOn p s.gone × OnFirst s.levels (λ x xs. OnFirst x.opened (λ b bs. IsLoop b l
+Runs p s (edge l) P = OnFirst s.levels (λ x xs. OnFirst x.opened (λ b bs. IsLoop b l
     × (Follows x.function x.node (path.turns l) × P (at_level (moved x (path.turns l) (b ∷ bs)) xs))))
-Runs p s (enter h env) P = MayGoOn p s.gone × (IsCalledFrom p s.levels h × ((g : Function) × ((slice_get p.funcs h ≡ Some g)
-    × P (at_level (record { func = h; function = g; node = None; opened = [] }) s.levels))))
+Runs p s (enter h env) P = IsCalledFrom p s.levels h × ((g : Function) × ((slice_get p.funcs h ≡ Some g)
+    × P (at_level (record { func = h; function = g; node = None; opened = [] }) s.levels)))
 Runs p s (out h) P = OnFirst s.levels (λ x xs. (h ≡ x.func) × (Follows x.function x.node path.leaves × (AllReturn x.opened × P (record { levels = xs; gone = x ∷ [] }))))
 
 abbrev pub IsCourse : Source → Course → List Item → Type 0
@@ -118,18 +105,9 @@ IsCourse p s (i ∷ is) = Runs p s i (λ s'. IsCourse p s' is)
 abbrev pub Within : Source → Course → Lists → Type 0
 Within p s M = (is : List Item) (r : Outcome) → M is r → IsCourse p s is
 
--- where a frame may have been left before, and where none was, in a program whose calls give their values to locals
-abbrev pub Behind : Source → List Level → Lists → Type 0
-Behind p ls M = (g : List Level) → Within p (record { levels = ls; gone = g }) M
-
-abbrev pub Inside : Source → List Level → Lists → Type 0
-Inside p ls M = (g : List Level) → MayGoOn p g → Within p (record { levels = ls; gone = g }) M
-
-pub none_gone : (p : Source) → MayGoOn p []
-none_gone p c = tt
-
-pub behind_inside : (p : Source) (ls : List Level) (M : Lists) → Behind p ls M → Inside p ls M
-behind_inside p ls M m g k = m g
+-- where a frame may have been left before
+abbrev pub WithinFrames : Source → List Level → Lists → Type 0
+WithinFrames p ls M = (g : List Level) → Within p (record { levels = ls; gone = g }) M
 
 -- Lists
 
@@ -145,55 +123,55 @@ emit_within p s i M m is r (inr h) =
     subst P (sym h.1) (m h.0 r h.2)
 
 abbrev Stops : Thread → Type 0
-Stops t = Within t.program over t.stopped
+Stops t = Within t.program no_frames t.stopped
 
-trapped_inside : (t : Thread) (ls : List Level) (l : ℕ) (c : Cause) → Acts ls l → Stops t → Inside t.program ls (trapped t l c)
-trapped_inside t ls l c a st g k = emit_within t.program _ (made l (trap c)) t.stopped (λ is r h. (k, (a, st is r h)))
+trapped_inside : (t : Thread) (ls : List Level) (l : ℕ) (c : Cause) → Acts ls l → Stops t → WithinFrames t.program ls (trapped t l c)
+trapped_inside t ls l c a st g = emit_within t.program _ (made l (trap c)) t.stopped (λ is r h. (a, st is r h))
 
-choice_inside : (p : Source) (ls : List Level) (b : Bool) (M N : Lists) → Inside p ls M → Inside p ls N → Inside p ls (choice b M N)
+choice_inside : (p : Source) (ls : List Level) (b : Bool) (M N : Lists) → WithinFrames p ls M → WithinFrames p ls N → WithinFrames p ls (choice b M N)
 choice_inside p ls true M N m n = m
 choice_inside p ls false M N m n = n
 
-numbered_inside : (p : Source) (ls : List Level) (n : Option ℕ) (more : ℕ → Lists) → ((k : ℕ) → (n ≡ Some k) → Inside p ls (more k)) → Inside p ls (numbered n more)
-numbered_inside p ls None more m = λ g k. broken_within p _
+numbered_inside : (p : Source) (ls : List Level) (n : Option ℕ) (more : ℕ → Lists) → ((k : ℕ) → (n ≡ Some k) → WithinFrames p ls (more k)) → WithinFrames p ls (numbered n more)
+numbered_inside p ls None more m = λ g. broken_within p _
 numbered_inside p ls (Some k) more m = m k refl
 
-either_inside : (p : Source) (ls : List Level) (M N : Lists) → Inside p ls M → Inside p ls N → Inside p ls (either M N)
-either_inside p ls M N m n g k is r (inl h) = m g k is r h
-either_inside p ls M N m n g k is r (inr h) = n g k is r h
+either_inside : (p : Source) (ls : List Level) (M N : Lists) → WithinFrames p ls M → WithinFrames p ls N → WithinFrames p ls (either M N)
+either_inside p ls M N m n g is r (inl h) = m g is r h
+either_inside p ls M N m n g is r (inr h) = n g is r h
 
 -- Expressions
 
-reading_inside : (p : Source) (ls : List Level) (l w : ℕ) (more : ℤ → Lists) → Acts ls l → ((v : ℤ) → Inside p ls (more v)) → Inside p ls (reading l w more)
-reading_inside p ls l w more a m g k is r h = emit_within p _ (made l (read w h.0)) (more h.0) (λ js q u. (k, (a, m h.0 [] (none_gone p) js q u))) is r h.1
+reading_inside : (p : Source) (ls : List Level) (l w : ℕ) (more : ℤ → Lists) → Acts ls l → ((v : ℤ) → WithinFrames p ls (more v)) → WithinFrames p ls (reading l w more)
+reading_inside p ls l w more a m g is r h = emit_within p _ (made l (read w h.0)) (more h.0) (λ js q u. (a, m h.0 [] js q u)) is r h.1
 
-reading_word_inside : (p : Source) (ls : List Level) (l : ℕ) (c : Option Cells) (more : ℤ → Lists) → Acts ls l → ((v : ℤ) → Inside p ls (more v))
-    → Inside p ls (reading_word l c more)
-reading_word_inside p ls l None more a m = λ g k. broken_within p _
+reading_word_inside : (p : Source) (ls : List Level) (l : ℕ) (c : Option Cells) (more : ℤ → Lists) → Acts ls l → ((v : ℤ) → WithinFrames p ls (more v))
+    → WithinFrames p ls (reading_word l c more)
+reading_word_inside p ls l None more a m = λ g. broken_within p _
 reading_word_inside p ls l (Some c) more a m = reading_inside p ls l c.first more a m
 
-variable_inside : (t : Thread) (ls : List Level) (l : ℕ) (o : Option ℤ) (x : List ℕ) (more : ℤ → Lists) → Acts ls l → ((v : ℤ) → Inside t.program ls (more v))
-    → Inside t.program ls (variable t l o x more)
+variable_inside : (t : Thread) (ls : List Level) (l : ℕ) (o : Option ℤ) (x : List ℕ) (more : ℤ → Lists) → Acts ls l → ((v : ℤ) → WithinFrames t.program ls (more v))
+    → WithinFrames t.program ls (variable t l o x more)
 variable_inside t ls l (Some v) x more a m = m v
 variable_inside t ls l None x more a m = reading_word_inside t.program ls l (cells_named t.program x) more a m
 
 within_inside : (t : Thread) (ls : List Level) (l from : ℕ) (n : Option ℕ) (v : ℤ) (more : ℕ → Lists) → Acts ls l → Stops t
-    → ((w : ℕ) → Inside t.program ls (more w)) → Inside t.program ls (within t l from n v more)
-within_inside t ls l from None v more a st m = λ g k. broken_within t.program _
+    → ((w : ℕ) → WithinFrames t.program ls (more w)) → WithinFrames t.program ls (within t l from n v more)
+within_inside t ls l from None v more a st m = λ g. broken_within t.program _
 within_inside t ls l from (Some n) (pos i) more a st m = choice_inside t.program ls (nat_lt i n) _ _ (m (from + i)) (trapped_inside t ls l index a st)
 within_inside t ls l from (Some n) (negsuc i) more a st m = trapped_inside t ls l index a st
 
 indexed_inside : (t : Thread) (ls : List Level) (l : ℕ) (c : Option Cells) (v : ℤ) (more : ℕ → Lists) → Acts ls l → Stops t
-    → ((w : ℕ) → Inside t.program ls (more w)) → Inside t.program ls (indexed t l c v more)
-indexed_inside t ls l None v more a st m = λ g k. broken_within t.program _
+    → ((w : ℕ) → WithinFrames t.program ls (more w)) → WithinFrames t.program ls (indexed t l c v more)
+indexed_inside t ls l None v more a st m = λ g. broken_within t.program _
 indexed_inside t ls l (Some c) v more a st m = within_inside t ls l c.first c.count v more a st m
 
 operated_inside : (t : Thread) (ls : List Level) (l : ℕ) (o : Op) (x y : ℤ) (more : ℤ → Lists) → Acts ls l → Stops t
-    → ((v : ℤ) → Inside t.program ls (more v)) → Inside t.program ls (operated t l o x y more)
+    → ((v : ℤ) → WithinFrames t.program ls (more v)) → WithinFrames t.program ls (operated t l o x y more)
 operated_inside t ls l o x y more a st m = choice_inside t.program ls (divides o && is_zero y) _ _ (trapped_inside t ls l division a st) (m (applied o x y))
 
 expression_inside : (t : Thread) (ls : List Level) (l : ℕ) (env : Locals) (e : Expression) (more : ℤ → Lists) → Acts ls l → Stops t
-    → ((v : ℤ) → Inside t.program ls (more v)) → Inside t.program ls (expression t l env e more)
+    → ((v : ℤ) → WithinFrames t.program ls (more v)) → WithinFrames t.program ls (expression t l env e more)
 expression_inside t ls l env (num n) more a st m = m n
 expression_inside t ls l env (var x) more a st m = variable_inside t ls l (value_in env x) x more a m
 expression_inside t ls l env (cell x i) more a st m =
@@ -204,7 +182,7 @@ expression_inside t ls l env (bin o e f) more a st m =
     expression_inside t ls l env e _ a st (λ v. expression_inside t ls l env f _ a st (λ w. operated_inside t ls l o v w more a st m))
 
 arguments_inside : (t : Thread) (ls : List Level) (l : ℕ) (env : Locals) (es : List Expression) (more : List ℤ → Lists) → Acts ls l → Stops t
-    → ((vs : List ℤ) → Inside t.program ls (more vs)) → Inside t.program ls (arguments t l env es more)
+    → ((vs : List ℤ) → WithinFrames t.program ls (more vs)) → WithinFrames t.program ls (arguments t l env es more)
 arguments_inside t ls l env [] more a st m = m []
 arguments_inside t ls l env (e ∷ es) more a st m =
     expression_inside t ls l env e _ a st (λ v. arguments_inside t ls l env es _ a st (λ vs. m (v ∷ vs)))
@@ -299,55 +277,32 @@ all_return (o ∷ os) xs x c h n = (any_contains is_return (others (statements o
 -- calls from there
 abbrev CallsInside : Thread → Calls → Type 1
 CallsInside t calls = (l h : ℕ) (vs : List ℤ) (x : Level) (xs : List Level) (more : ℤ → Lists) → IsCaller t.program x h → Acts (x ∷ xs) l
-    → ((v : ℤ) → Behind t.program (x ∷ xs) (more v)) → Inside t.program (x ∷ xs) (calls l h vs more)
+    → ((v : ℤ) → WithinFrames t.program (x ∷ xs) (more v)) → WithinFrames t.program (x ∷ xs) (calls l h vs more)
 
 right_inside : (t : Thread) (calls : Calls) (l : ℕ) (env : Locals) (e : Right Expression) (x : Level) (xs : List Level) (more : ℤ → Lists) → Stops t → CallsInside t calls
     → Acts (x ∷ xs) l → ((name : List ℕ) (h : ℕ) → called_right e ≡ Some name → function_number t.program name ≡ Some h → IsCaller t.program x h)
-    → ((name : List ℕ) → called_right e ≡ Some name → (v : ℤ) → Behind t.program (x ∷ xs) (more v)) → ((v : ℤ) → Inside t.program (x ∷ xs) (more v))
-    → Inside t.program (x ∷ xs) (right t calls l env e more)
+    → ((name : List ℕ) → called_right e ≡ Some name → (v : ℤ) → WithinFrames t.program (x ∷ xs) (more v)) → ((v : ℤ) → WithinFrames t.program (x ∷ xs) (more v))
+    → WithinFrames t.program (x ∷ xs) (right t calls l env e more)
 right_inside t calls l env (Right.value e) x xs more st c a k b m = expression_inside t (x ∷ xs) l env e more a st m
 right_inside t calls l env (Right.call f es) x xs more st c a k b m =
     arguments_inside t (x ∷ xs) l env es _ a st (λ vs. numbered_inside t.program (x ∷ xs) (function_number t.program f) _ (λ n is. c l n vs x xs more (k f n refl is) a (b f refl)))
 right_inside t calls l env (Right.spawn f es) x xs more st c a k b m =
     arguments_inside t (x ∷ xs) l env es _ a st (λ vs. numbered_inside t.program (x ∷ xs) (function_number t.program f) _ (λ n is.
     either_inside t.program (x ∷ xs) _ _ (trapped_inside t (x ∷ xs) l threads a st)
-    (λ g u js r h. emit_within t.program _ (made l (spawn h.0 n vs)) (more (pos h.0)) (λ ks q w. (u, (a, m (pos h.0) [] (none_gone t.program) ks q w))) js r h.1)))
+    (λ g js r h. emit_within t.program _ (made l (spawn h.0 n vs)) (more (pos h.0)) (λ ks q w. (a, m (pos h.0) [] ks q w)) js r h.1)))
 
 stored_inside : (t : Thread) (ls : List Level) (l : ℕ) (env : Locals) (o : Option ℤ) (x : List ℕ) (v : ℤ) (more : Locals → Lists) → Acts ls l
-    → ((env' : Locals) → Inside t.program ls (more env')) → Inside t.program ls (stored t l env o x v more)
+    → ((env' : Locals) → WithinFrames t.program ls (more env')) → WithinFrames t.program ls (stored t l env o x v more)
 stored_inside t ls l env (Some old) x v more a m = m (updated env x v)
 stored_inside t ls l env None x v more a m = in_word (cells_named t.program x)
   where
-    in_word : (c : Option Cells) → Inside t.program ls (writing_word l c v (more env))
-    in_word None = λ g k. broken_within t.program _
-    in_word (Some c) = λ g k. emit_within t.program _ (made l (write c.first v)) (more env) (λ is r h. (k, (a, m env [] (none_gone t.program) is r h)))
+    in_word : (c : Option Cells) → WithinFrames t.program ls (writing_word l c v (more env))
+    in_word None = λ g. broken_within t.program _
+    in_word (Some c) = λ g. emit_within t.program _ (made l (write c.first v)) (more env) (λ is r h. (a, m env [] is r h))
 
--- what a call gives is stored in a local
-stored_behind : (t : Thread) (ls : List Level) (l : ℕ) (env : Locals) (o : Option ℤ) (x : List ℕ) (v : ℤ) (more : Locals → Lists) → Acts ls l
-    → (CallsToLocals t.program → cells_named t.program x ≡ None) → ((env' : Locals) → Behind t.program ls (more env')) → Behind t.program ls (stored t l env o x v more)
-stored_behind t ls l env (Some old) x v more a local m = m (updated env x v)
-stored_behind t ls l env None x v more a local m = in_word (cells_named t.program x) refl
-  where
-    never : (c : Cells) → cells_named t.program x ≡ Some c → cells_named t.program x ≡ None → ⊥
-    never c e e' = cc
-
-    in_word : (c : Option Cells) → cells_named t.program x ≡ c → Behind t.program ls (writing_word l c v (more env))
-    in_word None e = λ g. broken_within t.program _
-    in_word (Some c) e = λ g. emit_within t.program _ (made l (write c.first v)) (more env) (λ is r h. ((λ k. absurd (never c e (local k))), (a, m env [] is r h)))
-
-let_local : (p : Source) (l : ℕ) (x : List ℕ) (e : Right Expression) (name : List ℕ) → called_right e ≡ Some name → IsToLocal p (simple l (let_ x e) tree.end) → cells_named p x ≡ None
-let_local p l x (Right.value e) name is h = cc
-let_local p l x (Right.call f es) name is h = h
-let_local p l x (Right.spawn f es) name is h = cc
-
-set_local : (p : Source) (l : ℕ) (x : List ℕ) (e : Right Expression) (name : List ℕ) → called_right e ≡ Some name → IsToLocal p (simple l (set x e) tree.end) → cells_named p x ≡ None
-set_local p l x (Right.value e) name is h = cc
-set_local p l x (Right.call f es) name is h = h
-set_local p l x (Right.spawn f es) name is h = cc
-
-joined_inside : (t : Thread) (ls : List Level) (l : ℕ) (v : ℤ) (M : Lists) → Acts ls l → Stops t → Inside t.program ls M → Inside t.program ls (joined t l v M)
+joined_inside : (t : Thread) (ls : List Level) (l : ℕ) (v : ℤ) (M : Lists) → Acts ls l → Stops t → WithinFrames t.program ls M → WithinFrames t.program ls (joined t l v M)
 joined_inside t ls l (pos c) M a st m =
-    either_inside t.program ls _ _ (trapped_inside t ls l (not_spawned (pos c)) a st) (λ g k. emit_within t.program _ (made l (join c)) M (λ is r h. (k, (a, m [] (none_gone t.program) is r h))))
+    either_inside t.program ls _ _ (trapped_inside t ls l (not_spawned (pos c)) a st) (λ g. emit_within t.program _ (made l (join c)) M (λ is r h. (a, m [] is r h)))
 joined_inside t ls l (negsuc c) M a st m = trapped_inside t ls l (not_spawned (negsuc c)) a st
 
 abbrev level : ℕ → Function → Option Node → List Body → Level
@@ -358,53 +313,53 @@ caller : (p : Source) (h : ℕ) (f : Function) (l : ℕ) (s : Simple Expression)
 caller p h f l s os name n is number = record { line = l; node = refl; statement = (refl, (name, (is, number))) }
 
 effect_inside : (t : Thread) (calls : Calls) (h : ℕ) (f : Function) (l : ℕ) (env : Locals) (s : Simple Expression) (os : List Body) (xs : List Level)
-    (ret : ℤ → Lists) (more : Locals → Lists) → Stops t → CallsInside t calls → (CallsToLocals t.program → IsToLocal t.program (simple l s tree.end))
-    → (path.is_simple_return s ≡ true → (v : ℤ) → Inside t.program (level h f (Some (path.begins l)) (simple l s tree.end ∷ os) ∷ xs) (emit (done l) (ret v)))
-    → (path.is_simple_return s ≡ false → (env' : Locals) → Behind t.program (level h f (Some (path.begins l)) (simple l s tree.end ∷ os) ∷ xs) (more env'))
-    → Inside t.program (level h f (Some (path.begins l)) (simple l s tree.end ∷ os) ∷ xs) (effect t calls l env s ret more)
-effect_inside t calls h f l env (let_ x e) os xs ret more st c local b m =
+    (ret : ℤ → Lists) (more : Locals → Lists) → Stops t → CallsInside t calls
+    → (path.is_simple_return s ≡ true → (v : ℤ) → WithinFrames t.program (level h f (Some (path.begins l)) (simple l s tree.end ∷ os) ∷ xs) (emit (done l) (ret v)))
+    → (path.is_simple_return s ≡ false → (env' : Locals) → WithinFrames t.program (level h f (Some (path.begins l)) (simple l s tree.end ∷ os) ∷ xs) (more env'))
+    → WithinFrames t.program (level h f (Some (path.begins l)) (simple l s tree.end ∷ os) ∷ xs) (effect t calls l env s ret more)
+effect_inside t calls h f l env (let_ x e) os xs ret more st c b m =
     right_inside t calls l env e _ xs _ st c (refl, refl) (λ name n is number. caller t.program h f l (let_ x e) os name n is number)
-    (λ name is v. stored_behind t _ l env (value_in env x) x v more (refl, refl) (λ k. let_local t.program l x e name is (local k)) (m refl))
-    (λ v. stored_inside t _ l env (value_in env x) x v more (refl, refl) (λ env'. behind_inside t.program _ _ (m refl env')))
-effect_inside t calls h f l env (set x e) os xs ret more st c local b m =
+    (λ name is v. stored_inside t _ l env (value_in env x) x v more (refl, refl) (m refl))
+    (λ v. stored_inside t _ l env (value_in env x) x v more (refl, refl) (m refl))
+effect_inside t calls h f l env (set x e) os xs ret more st c b m =
     right_inside t calls l env e _ xs _ st c (refl, refl) (λ name n is number. caller t.program h f l (set x e) os name n is number)
-    (λ name is v. stored_behind t _ l env (value_in env x) x v more (refl, refl) (λ k. set_local t.program l x e name is (local k)) (m refl))
-    (λ v. stored_inside t _ l env (value_in env x) x v more (refl, refl) (λ env'. behind_inside t.program _ _ (m refl env')))
-effect_inside t calls h f l env (set_cell x i e) os xs ret more st c local b m =
+    (λ name is v. stored_inside t _ l env (value_in env x) x v more (refl, refl) (m refl))
+    (λ v. stored_inside t _ l env (value_in env x) x v more (refl, refl) (m refl))
+effect_inside t calls h f l env (set_cell x i e) os xs ret more st c b m =
     expression_inside t _ l env i _ (refl, refl) st (λ a. expression_inside t _ l env e _ (refl, refl) st (λ v.
-    indexed_inside t _ l (cells_named t.program x) a _ (refl, refl) st (λ w g u. emit_within t.program _ (made l (write w v)) (more env) (λ is r k. (u, ((refl, refl), m refl env [] is r k))))))
-effect_inside t calls h f l env (Simple.call g es) os xs ret more st c local b m =
+    indexed_inside t _ l (cells_named t.program x) a _ (refl, refl) st (λ w g. emit_within t.program _ (made l (write w v)) (more env) (λ is r k. ((refl, refl), m refl env [] is r k)))))
+effect_inside t calls h f l env (Simple.call g es) os xs ret more st c b m =
     arguments_inside t _ l env es _ (refl, refl) st (λ vs. numbered_inside t.program _ (function_number t.program g) _ (λ n is.
     c l n vs _ xs _ (caller t.program h f l (Simple.call g es) os g n refl is) (refl, refl) (λ v. m refl env)))
-effect_inside t calls h f l env (return None) os xs ret more st c local b m = b refl (pos 0)
-effect_inside t calls h f l env (return (Some e)) os xs ret more st c local b m = expression_inside t _ l env e _ (refl, refl) st (b refl)
-effect_inside t calls h f l env (tree.lock x) os xs ret more st c local b m =
-    numbered_inside t.program _ (mutex_number t.program x) _ (λ k is g u. emit_within t.program _ (made l (lock k)) (more env) (λ js r w. (u, ((refl, refl), m refl env [] js r w))))
-effect_inside t calls h f l env (tree.unlock x) os xs ret more st c local b m =
+effect_inside t calls h f l env (return None) os xs ret more st c b m = b refl (pos 0)
+effect_inside t calls h f l env (return (Some e)) os xs ret more st c b m = expression_inside t _ l env e _ (refl, refl) st (b refl)
+effect_inside t calls h f l env (tree.lock x) os xs ret more st c b m =
+    numbered_inside t.program _ (mutex_number t.program x) _ (λ k is g. emit_within t.program _ (made l (lock k)) (more env) (λ js r w. ((refl, refl), m refl env [] js r w)))
+effect_inside t calls h f l env (tree.unlock x) os xs ret more st c b m =
     numbered_inside t.program _ (mutex_number t.program x) _ (λ k is.
     either_inside t.program _ _ _ (trapped_inside t _ l (not_held k) (refl, refl) st)
-    (λ g u. emit_within t.program _ (made l (unlock k)) (more env) (λ js r w. (u, ((refl, refl), m refl env [] js r w)))))
-effect_inside t calls h f l env (tree.down x) os xs ret more st c local b m =
-    numbered_inside t.program _ (sema_number t.program x) _ (λ k is g u. emit_within t.program _ (made l (down k)) (more env) (λ js r w. (u, ((refl, refl), m refl env [] js r w))))
-effect_inside t calls h f l env (tree.up x) os xs ret more st c local b m =
+    (λ g. emit_within t.program _ (made l (unlock k)) (more env) (λ js r w. ((refl, refl), m refl env [] js r w))))
+effect_inside t calls h f l env (tree.down x) os xs ret more st c b m =
+    numbered_inside t.program _ (sema_number t.program x) _ (λ k is g. emit_within t.program _ (made l (down k)) (more env) (λ js r w. ((refl, refl), m refl env [] js r w)))
+effect_inside t calls h f l env (tree.up x) os xs ret more st c b m =
     numbered_inside t.program _ (sema_number t.program x) _ (λ k is.
     either_inside t.program _ _ _ (trapped_inside t _ l (overflow k) (refl, refl) st)
-    (λ g u. emit_within t.program _ (made l (up k)) (more env) (λ js r w. (u, ((refl, refl), m refl env [] js r w)))))
-effect_inside t calls h f l env (tree.join e) os xs ret more st c local b m =
-    expression_inside t _ l env e _ (refl, refl) st (λ v. joined_inside t _ l v (more env) (refl, refl) st (behind_inside t.program _ _ (m refl env)))
-effect_inside t calls h f l env (tree.print e) os xs ret more st c local b m =
-    expression_inside t _ l env e _ (refl, refl) st (λ v g u. emit_within t.program _ (made l (print v)) (more env) (λ js r w. (u, ((refl, refl), m refl env [] js r w))))
-effect_inside t calls h f l env tree.skip os xs ret more st c local b m = behind_inside t.program _ _ (m refl env)
+    (λ g. emit_within t.program _ (made l (up k)) (more env) (λ js r w. ((refl, refl), m refl env [] js r w))))
+effect_inside t calls h f l env (tree.join e) os xs ret more st c b m =
+    expression_inside t _ l env e _ (refl, refl) st (λ v. joined_inside t _ l v (more env) (refl, refl) st (m refl env))
+effect_inside t calls h f l env (tree.print e) os xs ret more st c b m =
+    expression_inside t _ l env e _ (refl, refl) st (λ v g. emit_within t.program _ (made l (print v)) (more env) (λ js r w. ((refl, refl), m refl env [] js r w)))
+effect_inside t calls h f l env tree.skip os xs ret more st c b m = m refl env
 
 abbrev Turn : Type 1
 Turn = Locals → (Locals → Lists) → (Locals → Lists) → Lists
 
 turns_inside : (p : Source) (H : Option Node → Type 0) (at : Option Node → List Level) (turn : Turn)
-    → ((env : Locals) (m : Option Node) (again leave : Locals → Lists) → H m → ((env' : Locals) (m' : Option Node) → H m' → Inside p (at m') (again env'))
-    → ((env' : Locals) (m' : Option Node) → H m' → Inside p (at m') (leave env')) → Inside p (at m) (turn env again leave))
-    → (leave : Locals → Lists) → ((env' : Locals) (m' : Option Node) → H m' → Inside p (at m') (leave env'))
-    → (k : ℕ) (env : Locals) (m : Option Node) → H m → Inside p (at m) (turns k turn leave env)
-turns_inside p H at turn one leave last zero env m h = λ g k. broken_within p _
+    → ((env : Locals) (m : Option Node) (again leave : Locals → Lists) → H m → ((env' : Locals) (m' : Option Node) → H m' → WithinFrames p (at m') (again env'))
+    → ((env' : Locals) (m' : Option Node) → H m' → WithinFrames p (at m') (leave env')) → WithinFrames p (at m) (turn env again leave))
+    → (leave : Locals → Lists) → ((env' : Locals) (m' : Option Node) → H m' → WithinFrames p (at m') (leave env'))
+    → (k : ℕ) (env : Locals) (m : Option Node) → H m → WithinFrames p (at m) (turns k turn leave env)
+turns_inside p H at turn one leave last zero env m h = λ g. broken_within p _
 turns_inside p H at turn one leave last (suc k) env m h = one env m _ _ h (λ env' m' h'. turns_inside p H at turn one leave last k env' m' h') last
 
 -- what a body's statements come to where it stands in its function
@@ -415,21 +370,17 @@ record Stands (f : Function) (b : Body) (k : Node) (os : List Body) : Type 0 whe
 
 abbrev Returns : Source → ℕ → Function → List Level → (ℤ → Lists) → Type 0
 Returns p h f xs ret = (m : ℕ) (os : List Body) → AllReturn os → Follows f (Some (path.complete m)) path.leaves → (v : ℤ)
-    → Inside p (level h f (Some (path.complete m)) os ∷ xs) (ret v)
+    → WithinFrames p (level h f (Some (path.complete m)) os ∷ xs) (ret v)
 
 -- the statement itself is complete
-done_behind : (p : Source) (h : ℕ) (f : Function) (m : Option Node) (b : Body) (os : List Body) (xs : List Level) (l : ℕ) (M : Lists) → Begins b l
-    → Follows f m (path.complete l) → Inside p (level h f (Some (path.complete l)) os ∷ xs) M → Behind p (level h f m (b ∷ os) ∷ xs) (emit (done l) M)
-done_behind p h f m b os xs l M begun fol n g = emit_within p _ (done l) M (λ is r w. (begun, (fol, n [] (none_gone p) is r w)))
-
 done_inside : (p : Source) (h : ℕ) (f : Function) (m : Option Node) (b : Body) (os : List Body) (xs : List Level) (l : ℕ) (M : Lists) → Begins b l
-    → Follows f m (path.complete l) → Inside p (level h f (Some (path.complete l)) os ∷ xs) M → Inside p (level h f m (b ∷ os) ∷ xs) (emit (done l) M)
-done_inside p h f m b os xs l M begun fol n = behind_inside p _ _ (done_behind p h f m b os xs l M begun fol n)
+    → Follows f m (path.complete l) → WithinFrames p (level h f (Some (path.complete l)) os ∷ xs) M → WithinFrames p (level h f m (b ∷ os) ∷ xs) (emit (done l) M)
+done_inside p h f m b os xs l M begun fol n g = emit_within p _ (done l) M (λ is r w. (begun, (fol, n [] is r w)))
 
 begins_inside : (p : Source) (h : ℕ) (f : Function) (m : Option Node) (b : Body) (os : List Body) (xs : List Level) (l : ℕ) (env : Locals) (M : Lists) → Begins b l
-    → Contains (statements f.body) b → IsNested os b → Follows f m (path.begins l) → Inside p (level h f (Some (path.begins l)) (b ∷ os) ∷ xs) M
-    → Inside p (level h f m os ∷ xs) (emit (begins l env) M)
-begins_inside p h f m b os xs l env M begun there nested fol n g k = emit_within p _ (begins l env) M (λ is r w. (b, (begun, ((there, nested), (fol, n [] (none_gone p) is r w)))))
+    → Contains (statements f.body) b → IsNested os b → Follows f m (path.begins l) → WithinFrames p (level h f (Some (path.begins l)) (b ∷ os) ∷ xs) M
+    → WithinFrames p (level h f m os ∷ xs) (emit (begins l env) M)
+begins_inside p h f m b os xs l env M begun there nested fol n g = emit_within p _ (begins l env) M (λ is r w. (b, (begun, ((there, nested), (fol, n [] is r w)))))
 
 abbrev behind : {A : Type 0} → ℕ → List A → List A
 behind zero xs = xs
@@ -456,12 +407,11 @@ sub_two {A} n all xs ys zs is s =
     sub_right xs ys zs (subst P is (sub_behind n all zs s))
 
 body_inside : (t : Thread) (calls : Calls) (n h : ℕ) (f : Function) (xs : List Level) (ret : ℤ → Lists) → Stops t → CallsInside t calls → Returns t.program h f xs ret
-    → slice_get t.program.funcs h ≡ Some f
     → (env : Locals) (b : Body) (k : Node) (os : List Body) (m : Option Node) (more : Locals → Lists) → Stands f b k os → Follows f m (first b k)
-    → ((m' : Option Node) → Follows f m' k → (env' : Locals) → Inside t.program (level h f m' os ∷ xs) (more env'))
-    → Inside t.program (level h f m os ∷ xs) (body t calls n env b ret more)
-body_inside t calls n h f xs ret st c r number env tree.end k os m more a fol go = go m fol env
-body_inside t calls n h f xs ret st c r number env (simple l s rest) k os m more a fol go =
+    → ((m' : Option Node) → Follows f m' k → (env' : Locals) → WithinFrames t.program (level h f m' os ∷ xs) (more env'))
+    → WithinFrames t.program (level h f m os ∷ xs) (body t calls n env b ret more)
+body_inside t calls n h f xs ret st c r env tree.end k os m more a fol go = go m fol env
+body_inside t calls n h f xs ret st c r env (simple l s rest) k os m more a fol go =
     let x : Body = simple l s tree.end in
     let all : List Body = statements (simple l s rest) in
     let begun : Follows f (Some (path.begins l)) (path.complete l) = a.links _ (0, omega arith, refl) in
@@ -474,12 +424,12 @@ body_inside t calls n h f xs ret st c r number env (simple l s rest) k os m more
     } in
     let P : Node → Type 0 = λ z. Follows f (Some (path.complete l)) z in
     begins_inside t.program h f m x os xs l env _ refl (a.statements x (contains_first x _)) (nested_one os x all (contains_first x _) a.nested) fol
-    (effect_inside t calls h f l env s os xs ret _ st c (λ k. k h f number x (a.statements x (contains_first x _)))
+    (effect_inside t calls h f l env s os xs ret _ st c
     (λ is v. done_inside t.program h f (Some (path.begins l)) x os xs l _ refl begun
     (r l os (all_return os all x (contains_first x _) is a.nested) (subst P (is_returning s _ is) goes_on) v))
-    (λ is env'. done_behind t.program h f (Some (path.begins l)) x os xs l _ refl begun
-    (body_inside t calls n h f xs ret st c r number env' rest k os (Some (path.complete l)) more others_stand (subst P (not_return s _ is) goes_on) go)))
-body_inside t calls n h f xs ret st c r number env (if_ l e y z rest) k os m more a fol go =
+    (λ is env'. done_inside t.program h f (Some (path.begins l)) x os xs l _ refl begun
+    (body_inside t calls n h f xs ret st c r env' rest k os (Some (path.complete l)) more others_stand (subst P (not_return s _ is) goes_on) go)))
+body_inside t calls n h f xs ret st c r env (if_ l e y z rest) k os m more a fol go =
     let x : Body = if_ l e y z tree.end in
     let all : List Body = statements (if_ l e y z rest) in
     let cs : List (Node × Node) = links (if_ l e y z rest) k in
@@ -513,13 +463,13 @@ body_inside t calls n h f xs ret st c r number env (if_ l e y z rest) k os m mor
       nested = nested_less os sr all r_all a.nested;
     } in
     let close : (m' : Option Node) → Follows f m' (path.complete l) → (env' : Locals)
-    → Inside t.program (level h f m' (x ∷ os) ∷ xs) (emit (done l) (body t calls n env' rest ret more)) = λ m' w env'.
-    done_inside t.program h f m' x os xs l _ refl w (body_inside t calls n h f xs ret st c r number env' rest k os (Some (path.complete l)) more r_stands goes_on go) in
+    → WithinFrames t.program (level h f m' (x ∷ os) ∷ xs) (emit (done l) (body t calls n env' rest ret more)) = λ m' w env'.
+    done_inside t.program h f m' x os xs l _ refl w (body_inside t calls n h f xs ret st c r env' rest k os (Some (path.complete l)) more r_stands goes_on go) in
     begins_inside t.program h f m x os xs l env _ refl (a.statements x (contains_first x _)) (nested_one os x all (contains_first x _) a.nested) fol
     (expression_inside t _ l env e _ (refl, refl) st (λ v. choice_inside t.program _ (is_zero v) _ _
-    (body_inside t calls n h f xs ret st c r number env z (path.complete l) (x ∷ os) (Some (path.begins l)) _ z_stands to_z close)
-    (body_inside t calls n h f xs ret st c r number env y (path.complete l) (x ∷ os) (Some (path.begins l)) _ y_stands to_y close)))
-body_inside t calls n h f xs ret st c r number env (while_ l e y rest) k os m more a fol go =
+    (body_inside t calls n h f xs ret st c r env z (path.complete l) (x ∷ os) (Some (path.begins l)) _ z_stands to_z close)
+    (body_inside t calls n h f xs ret st c r env y (path.complete l) (x ∷ os) (Some (path.begins l)) _ y_stands to_y close)))
+body_inside t calls n h f xs ret st c r env (while_ l e y rest) k os m more a fol go =
     let x : Body = while_ l e y tree.end in
     let all : List Body = statements (while_ l e y rest) in
     let ly : List (Node × Node) = links y (path.turns l) in
@@ -547,25 +497,25 @@ body_inside t calls n h f xs ret st c r number env (while_ l e y rest) k os m mo
     (turns_inside t.program H (λ z. level h f z (x ∷ os) ∷ xs) _
     (λ env' m' again leave w on off. expression_inside t _ l env' e _ (w.0, refl) st (λ v. choice_inside t.program _ (is_zero v) _ _
     (off env' m' w)
-    (body_inside t calls n h f xs ret st c r number env' y (path.turns l) (x ∷ os) m' _ y_stands w.1.0
-    (λ m'' w' env'' g k'. emit_within t.program _ (edge l) _ (λ is q u. (k', (refl, (w', on env'' (Some (path.turns l)) turned [] (none_gone t.program) is q u))))))))
+    (body_inside t calls n h f xs ret st c r env' y (path.turns l) (x ∷ os) m' _ y_stands w.1.0
+    (λ m'' w' env'' g. emit_within t.program _ (edge l) _ (λ is q u. (refl, (w', on env'' (Some (path.turns l)) turned [] is q u)))))))
     _ (λ env' m' w. done_inside t.program h f m' x os xs l _ refl w.1.1
-    (body_inside t calls n h f xs ret st c r number env' rest k os (Some (path.complete l)) more r_stands goes_on go))
+    (body_inside t calls n h f xs ret st c r env' rest k os (Some (path.complete l)) more r_stands goes_on go))
     n env (Some (path.begins l)) begun)
 
 -- Frames and threads
 
 framed_inside : (t : Thread) (deeper : Calls) (n h : ℕ) (vs : List ℤ) (more : ℤ → Lists) (g : Option Function) (xs : List Level) → slice_get t.program.funcs h ≡ g
-    → IsCalledFrom t.program xs h → Stops t → CallsInside t deeper → ((v : ℤ) → Behind t.program xs (more v)) → Inside t.program xs (framed t deeper n h vs more g)
-framed_inside t deeper n h vs more None xs is called_from st c m = λ g k. broken_within t.program _
+    → IsCalledFrom t.program xs h → Stops t → CallsInside t deeper → ((v : ℤ) → WithinFrames t.program xs (more v)) → WithinFrames t.program xs (framed t deeper n h vs more g)
+framed_inside t deeper n h vs more None xs is called_from st c m = λ g. broken_within t.program _
 framed_inside t deeper n h vs more (Some f) xs is called_from st c m =
-    let outside : (m' : Option Node) (os : List Body) → AllReturn os → Follows f m' path.leaves → (v : ℤ) → Inside t.program (level h f m' os ∷ xs) (emit (out h) (more v)) =
-    λ m' os a fol v g k. emit_within t.program _ (out h) (more v) (λ is r w. (refl, (fol, (a, m v (level h f m' os ∷ []) is r w)))) in
-    let there : Inside t.program (level h f None [] ∷ xs)
+    let outside : (m' : Option Node) (os : List Body) → AllReturn os → Follows f m' path.leaves → (v : ℤ) → WithinFrames t.program (level h f m' os ∷ xs) (emit (out h) (more v)) =
+    λ m' os a fol v g. emit_within t.program _ (out h) (more v) (λ is r w. (refl, (fol, (a, m v (level h f m' os ∷ []) is r w)))) in
+    let there : WithinFrames t.program (level h f None [] ∷ xs)
     (body t deeper n (frame_locals f vs) f.body (λ v. emit (out h) (more v)) (λ env. emit (out h) (more (pos 0)))) =
-    body_inside t deeper n h f xs _ st c (λ m' os a fol v. outside (Some (path.complete m')) os a fol v) is (frame_locals f vs) f.body path.leaves [] None _
+    body_inside t deeper n h f xs _ st c (λ m' os a fol v. outside (Some (path.complete m')) os a fol v) (frame_locals f vs) f.body path.leaves [] None _
     (record { links = (λ e w. w); statements = (λ e w. w); nested = tt }) tt (λ m' fol env'. outside m' [] tt fol (pos 0)) in
-    λ g k. emit_within t.program _ (enter h (frame_locals f vs)) _ (λ js r w. (k, (called_from, (f, (is, there [] (none_gone t.program) js r w)))))
+    λ g. emit_within t.program _ (enter h (frame_locals f vs)) _ (λ js r w. (called_from, (f, (is, there [] js r w))))
 
 calls_inside : (t : Thread) (n d : ℕ) → Stops t → CallsInside t (calls_to t n d)
 calls_inside t n zero st l h vs x xs more k a m = trapped_inside t (x ∷ xs) l frames a st
@@ -577,22 +527,22 @@ finished_within p s is r h =
     let P : List Item → Type 0 = λ z. IsCourse p s z in
     subst P (sym h.0) tt
 
-ended_behind : (p : Source) (l : ℕ) → Behind p [] (ended l)
-ended_behind p l g = emit_within p _ (made l trace.end) finished (λ is r h. (tt, finished_within p over is r h))
+ended_behind : (p : Source) (l : ℕ) → WithinFrames p [] (ended l)
+ended_behind p l g = emit_within p _ (made l trace.end) finished (λ is r h. (tt, finished_within p no_frames is r h))
 
-thread_within : (p : Source) (f : Option Function) (h : ℕ) (vs : List ℤ) (n : ℕ) → slice_get p.funcs h ≡ f → Within p over (thread p f h vs n)
-thread_within p None h vs n is = broken_within p over
+thread_within : (p : Source) (f : Option Function) (h : ℕ) (vs : List ℤ) (n : ℕ) → slice_get p.funcs h ≡ f → Within p no_frames (thread p f h vs n)
+thread_within p None h vs n is = broken_within p no_frames
 thread_within p (Some g) h vs n is =
     let t : Thread = record { program = p; stopped = ended g.line } in
     let st : Stops t = ended_behind p g.line [] in
-    emit_within p over (made g.line begin) _ (λ js r w. (
+    emit_within p no_frames (made g.line begin) _ (λ js r w. (
       tt,
       (
         tt,
-        framed_inside t (calls_to t n 255) n h vs _ (slice_get p.funcs h) [] refl tt st (calls_inside t n 255 st) (λ v. ended_behind p g.line) [] (none_gone p) js r w,
+        framed_inside t (calls_to t n 255) n h vs _ (slice_get p.funcs h) [] refl tt st (calls_inside t n 255 st) (λ v. ended_behind p g.line) [] js r w,
       ),
     ))
 
 -- each trace of a thread is a course of its program
-pub trace_is_course : (p : Source) (h : ℕ) (vs : List ℤ) (is : List Item) (r : Outcome) → IsTrace p h vs is r → IsCourse p over is
+pub trace_is_course : (p : Source) (h : ℕ) (vs : List ℤ) (is : List Item) (r : Outcome) → IsTrace p h vs is r → IsCourse p no_frames is
 trace_is_course p h vs is r t = thread_within p (slice_get p.funcs h) h vs t.most_turns refl is r t.gives

@@ -12,14 +12,14 @@ use Rattle.loom_lang.specs.Acts.{Deed, acts}
 use Rattle.loom_lang.proofs.Broken.{broken_trace, trace_begins}
 use Rattle.loom_event.specs.Event.{Event, entry_by, entry_of, is_target, targets, deeds}
 use Rattle.loom_event.specs.Entries.{thread_of, is_thread}
-use Rattle.loom_event.specs.Replay.{Spawned, Store, start, thread_at, IsUnborn, IsRunning, IsAllowedAct, with_thread, after_act, replay, AreAllowed}
+use Rattle.loom_event.specs.Replay.{ThreadState, Store, start, thread_at, IsUnborn, IsRunning, IsAllowedAct, with_thread, after_act, replay, AreAllowed}
 use Rattle.loom_event.specs.Replay as law
 use Rattle.loom_event.specs.Run.{IsTraced, IsThreadTraced, AreRun}
-use Rattle.loom_law.specs.Walk.{Version, Plans, Op, wait, enters, at, past, post, leave, back, tick, cross, blocked, Step, goes, makes, items, told, entry_of_op, Owed, Walk, unborn, entered_journal, crossing, after, walked, place_of_item, place_of_next, Acts, AsksFor, MayCross, MayBlock, MayStand, AreWoven}
+use Rattle.loom_law.specs.Walk.{Version, Plans, Operation, wait, enters, at, past, post, leave, back, tick, cross, blocked, Step, goes, makes, items, told, entry_of_operation, Queue, Walk, unborn, behind_entry, crossing, after, walked, place_of_item, place_of_next, Acts, AsksFor, MayCross, MayBlock, MayStand, AreWoven}
 use Rattle.loom_law.specs.Part.{Own, IsPart}
 use Rattle.loom_law.specs.Control.{Command, Control, first_control, after_entry, controlled, takes, taken_from, taken, entries_of}
-use Rattle.loom_law.specs.Lawful.{Setting, Front, front_of, plans, own, HasPart, Stands}
-use Rattle.loom_law.specs.Laws.{HasFronts}
+use Rattle.loom_law.specs.Lawful.{Setting, Front, front_of, plans, own, HasPart}
+use Rattle.loom_law.proofs.Strict.{Stands, IsStrict}
 
 -- Lists
 
@@ -81,27 +81,27 @@ deeds_append t (x ∷ xs) ys =
 -- Threads stay
 
 -- the same thread, if it is there
-abbrev pub IsOf : Option Spawned → Option Spawned → Type 0
+abbrev pub IsOf : Option ThreadState → Option ThreadState → Type 0
 IsOf None o = Unit {0}
 IsOf (Some x) None = ⊥
 IsOf (Some x) (Some y) = (x.func ≡ y.func) × (x.args ≡ y.args)
 
-pub of_same : (o : Option Spawned) → IsOf o o
+pub of_same : (o : Option ThreadState) → IsOf o o
 of_same None = tt
 of_same (Some x) = (refl, refl)
 
-of_both : (o o' o'' : Option Spawned) → IsOf o o' → IsOf o' o'' → IsOf o o''
+of_both : (o o' o'' : Option ThreadState) → IsOf o o' → IsOf o' o'' → IsOf o o''
 of_both None o' o'' h g = tt
 of_both (Some x) None o'' h g = absurd h
 of_both (Some x) (Some y) None h g = g
 of_both (Some x) (Some y) (Some z) h g = (h.0 ∙ g.0, h.1 ∙ g.1)
 
-of_append : (xs ys : List Spawned) (i : ℕ) → IsOf (slice_get xs i) (slice_get (xs ++ ys) i)
+of_append : (xs ys : List ThreadState) (i : ℕ) → IsOf (slice_get xs i) (slice_get (xs ++ ys) i)
 of_append [] ys i = tt
 of_append (x ∷ xs) ys zero = (refl, refl)
 of_append (x ∷ xs) ys (suc i) = of_append xs ys i
 
-of_changed : (s : Store) (f : Spawned → Spawned) → ((x : Spawned) → IsOf (Some x) (Some (f x))) → (xs : List Spawned) (n i : ℕ)
+of_changed : (s : Store) (f : ThreadState → ThreadState) → ((x : ThreadState) → IsOf (Some x) (Some (f x))) → (xs : List ThreadState) (n i : ℕ)
     → IsOf (slice_get xs i) (slice_get (Store.spawned (with_thread (record s { spawned = xs }) (suc n) f)) i)
 of_changed s f k [] n i = tt
 of_changed s f k (x ∷ xs) zero zero = k x
@@ -109,7 +109,7 @@ of_changed s f k (x ∷ xs) zero (suc i) = of_same (slice_get xs i)
 of_changed s f k (x ∷ xs) (suc n) zero = (refl, refl)
 of_changed s f k (x ∷ xs) (suc n) (suc i) = of_changed s f k xs n i
 
-with_thread_keeps : (s : Store) (u : ℕ) (f : Spawned → Spawned) → ((x : Spawned) → IsOf (Some x) (Some (f x))) → (t : ℕ)
+with_thread_keeps : (s : Store) (u : ℕ) (f : ThreadState → ThreadState) → ((x : ThreadState) → IsOf (Some x) (Some (f x))) → (t : ℕ)
     → IsOf (thread_at s t) (thread_at (with_thread s u f) t)
 with_thread_keeps s u f k zero = tt
 with_thread_keeps s zero f k (suc i) = of_same (slice_get s.spawned i)
@@ -140,13 +140,13 @@ replay_append s (x ∷ xs) ys = replay_append (law.after s x) xs ys
 
 -- A thread that isn't there has done nothing
 
-running_there : (s : Store) (t : ℕ) → IsRunning s t → (y : Spawned) × (thread_at s t ≡ Some y)
+running_there : (s : Store) (t : ℕ) → IsRunning s t → (y : ThreadState) × (thread_at s t ≡ Some y)
 running_there s t r = (r.state, r.is)
 
-unborn_there : (s : Store) (t : ℕ) → IsUnborn s t → (y : Spawned) × (thread_at s t ≡ Some y)
+unborn_there : (s : Store) (t : ℕ) → IsUnborn s t → (y : ThreadState) × (thread_at s t ≡ Some y)
 unborn_there s t r = (r.state, r.is)
 
-pub allowed_there : (s : Store) (t : ℕ) (a : Act) → IsAllowedAct s t a → (y : Spawned) × (thread_at s t ≡ Some y)
+pub allowed_there : (s : Store) (t : ℕ) (a : Act) → IsAllowedAct s t a → (y : ThreadState) × (thread_at s t ≡ Some y)
 allowed_there s t begin h = unborn_there s t h
 allowed_there s t end h = running_there s t h.0
 allowed_there s t (trap c) h = running_there s t h.0
@@ -160,10 +160,10 @@ allowed_there s t (spawn c f vs) h = running_there s t h.0
 allowed_there s t (join c) h = running_there s t h.0
 allowed_there s t (print v) h = running_there s t h.0
 
-not_lost : (o o' : Option Spawned) (y : Spawned) → IsOf o o' → o ≡ Some y → o' ≡ None → ⊥
+not_lost : (o o' : Option ThreadState) (y : ThreadState) → IsOf o o' → o ≡ Some y → o' ≡ None → ⊥
 not_lost o o' y h is none =
-    let P : Option Spawned → Type 0 = λ z. IsOf z o' in
-    let Q : Option Spawned → Type 0 = λ z. IsOf (Some y) z in
+    let P : Option ThreadState → Type 0 = λ z. IsOf z o' in
+    let Q : Option ThreadState → Type 0 = λ z. IsOf (Some y) z in
     subst Q none (subst P is h)
 
 pub same_number : (t u : ℕ) → (t == u) ≡ true → t ≡ u
@@ -227,7 +227,7 @@ traced_front p f vs ds fs h =
     record { items = c.before; outcome = Open; trace = broken_trace p f vs c.before c.behind h.outcome (subst (λ z. IsTrace p f vs z h.outcome) c.whole h.trace); same = c.same }
 
 -- of the thread as it was, from what it is in the end
-thread_front : (p : Source) (xs ys : List Event) (t : ℕ) (o o' : Option Spawned) → IsOf o o' → (o ≡ None → deeds t xs ≡ []) → IsThreadTraced p (xs ++ ys) t o'
+thread_front : (p : Source) (xs ys : List Event) (t : ℕ) (o o' : Option ThreadState) → IsOf o o' → (o ≡ None → deeds t xs ≡ []) → IsThreadTraced p (xs ++ ys) t o'
     → IsThreadTraced p xs t o
 thread_front p xs ys t None o' is none h = none refl
 thread_front p xs ys t (Some x) None is none h = absurd is
@@ -284,7 +284,7 @@ takings_taken cs t c (x ∷ es) =
 abbrev pub to_take : Walk → List Version → Walk
 to_take z vs = record z { coming = vs }
 
-place_same : (z : Walk) (vs us : List Version) (os : Owed) (is : List Item) (y : Place) → place_of_next (to_take z vs) os is ≡ Some y → place_of_next (to_take z us) os is ≡ Some y
+place_same : (z : Walk) (vs us : List Version) (os : Queue) (is : List Item) (y : Place) → place_of_next (to_take z vs) os is ≡ Some y → place_of_next (to_take z us) os is ≡ Some y
 place_same z vs us (o ∷ os) is y h = h
 place_same z vs us [] [] y h = h
 place_same z vs us [] (made l begin ∷ is) y h = h
@@ -325,7 +325,7 @@ pub fewer : (p : Source) (plans : Plans) (t : ℕ) (z : Walk) (vs us : List Vers
 fewer p plans t z vs us [] ahead h n = (tt, none_left vs n)
 fewer p plans t z [] us (goes (made l begin) ∷ ss) ahead h n = let no : ⊥ = omega arith in absurd no
 fewer p plans t z (v ∷ vs) us (goes (made l begin) ∷ ss) ahead h n =
-    let ih = fewer p plans t (record (entered_journal z) { active = v.active }) vs us ss ahead h.1 (omega arith) in
+    let ih = fewer p plans t (record (behind_entry z) { active = v.active }) vs us ss ahead h.1 (omega arith) in
     (((h.0.0, tt), ih.0), ih.1)
 fewer p plans t z vs us (goes (made l end) ∷ ss) ahead h n =
     let ih = fewer p plans t (after p plans z (goes (made l end))) vs us ss ahead h.1 n in ((h.0, ih.0), ih.1)
@@ -416,7 +416,7 @@ cut_steps : (t : ℕ) (ss : List Step) (es fs : List Entry) → told t ss ≡ es
 cut_steps t ss [] fs h = record { before = []; behind = ss; whole = refl; same = refl }
 cut_steps t [] (x ∷ es) fs h = cc
 cut_steps t (goes (made l a) ∷ ss) (x ∷ es) fs h = with_told t (goes (made l a)) ss (entry_by t l a) x es fs (λ us. refl) h (λ g. cut_steps t ss es fs g)
-cut_steps t (makes l o ∷ ss) (x ∷ es) fs h = with_told t (makes l o) ss (entry_of_op t l o) x es fs (λ us. refl) h (λ g. cut_steps t ss es fs g)
+cut_steps t (makes l o ∷ ss) (x ∷ es) fs h = with_told t (makes l o) ss (entry_of_operation t l o) x es fs (λ us. refl) h (λ g. cut_steps t ss es fs g)
 cut_steps t (goes (begins l env) ∷ ss) (x ∷ es) fs h = with_step t (goes (begins l env)) ss (x ∷ es) (λ us. refl) (cut_steps t ss (x ∷ es) fs h)
 cut_steps t (goes (done l) ∷ ss) (x ∷ es) fs h = with_step t (goes (done l)) ss (x ∷ es) (λ us. refl) (cut_steps t ss (x ∷ es) fs h)
 cut_steps t (goes (edge l) ∷ ss) (x ∷ es) fs h = with_step t (goes (edge l)) ss (x ∷ es) (λ us. refl) (cut_steps t ss (x ∷ es) fs h)
@@ -492,7 +492,7 @@ not_asked vs is l (w.Join c) b h = no_act_yet is l (join c) b (λ g. cc) h
 not_asked vs is l (w.Enter k c) b h = h
 not_asked vs is l (w.Wait k n) b h = h
 
-pub no_operation : (p : Source) (vs : List Version) (is : List Item) (l : ℕ) (o : Op) → BeginsSo is → MayStand p (unborn vs) (makes l o) is → ⊥
+pub no_operation : (p : Source) (vs : List Version) (is : List Item) (l : ℕ) (o : Operation) → BeginsSo is → MayStand p (unborn vs) (makes l o) is → ⊥
 no_operation p vs is l (wait k n) b h = h
 no_operation p vs is l (enters k c) b h = h
 no_operation p vs is l (at k ns) b h = h
@@ -571,7 +571,7 @@ cut_first : (p : Source) (plans : Plans) (t f : ℕ) (args : List ℤ) (vs : Lis
 cut_first p plans t f args vs es fs h y ys is =
     first_begins p plans t f args vs h.steps h.ahead h.outcome y (ys ++ fs) h.trace h.woven (h.tells ∙ ap (λ z. z ++ fs) is)
 
-part_of_front : (s : Setting) (front rest : List Entry) (t : ℕ) (x y : Spawned) → x.func ≡ y.func → x.args ≡ y.args
+part_of_front : (s : Setting) (front rest : List Entry) (t : ℕ) (x y : ThreadState) → x.func ≡ y.func → x.args ≡ y.args
     → IsPart s.program (plans s) (own s (front ++ rest) t y) → IsPart s.program (plans s) (own s front t x)
 part_of_front s front rest t x y f a h =
     let cs : List Command = s.commands in
@@ -584,7 +584,7 @@ part_of_front s front rest t x y f a h =
     subst (λ g. IsPart s.program (plans s) (an_own t g x.args (taken cs t front) (entries_of t front))) (sym f)
     (subst (λ vs. IsPart s.program (plans s) (an_own t y.func vs (taken cs t front) (entries_of t front))) (sym a) cut)
 
-pub has_part_front : (s : Setting) (front rest : List Entry) (t : ℕ) (o o' : Option Spawned) → IsOf o o' → (o ≡ None → entries_of t (targets front) ≡ [])
+pub has_part_front : (s : Setting) (front rest : List Entry) (t : ℕ) (o o' : Option ThreadState) → IsOf o o' → (o ≡ None → entries_of t (targets front) ≡ [])
     → HasPart s (front ++ rest) t o' → HasPart s front t o
 has_part_front s front rest t None None is idle h = front_empty (entries_of t front) (entries_of t rest) (sym (entries_append t front rest) ∙ h)
 has_part_front s front rest t None (Some y) is idle h =
@@ -598,7 +598,7 @@ pub less_behind : (s : Setting) (f : Front) (x : Entry) (more rest : List Entry)
 less_behind s f (e.Finish k) more rest h = (front_empty more rest h.0, h.1)
 less_behind s f _ more rest h = h
 
-pub fronts : HasFronts
+pub fronts : (s : Setting) (front rest : List Entry) → IsStrict s (front ++ rest) → IsStrict s front
 fronts s front rest h =
     let n : ℕ = length (targets front) in
     let xs : List Event = take n h.events in

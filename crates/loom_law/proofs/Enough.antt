@@ -1,5 +1,5 @@
--- What is left of `Keeps` is enough for a journal to be lawful.
-use Rattle.std.proofs.Common.{ℕ, ◌≤◌, ◌≡◌, ◌==◌, true, false, List, [], ◌∷◌, ◌++◌, length, map, take, drop, Option, Some, None, refl, sym, ap, subst, ◌∙◌}
+-- A lawful journal is one of whose entries more is known.
+use Rattle.std.proofs.Common.{ℕ, ◌≤◌, ◌≡◌, ◌==◌, true, false, List, [], ◌∷◌, ◌++◌, length, map, take, drop, Option, Some, None, refl, sym, ap, subst, ◌∙◌, zero, suc, arith}
 use Rattle.std.specs.List.{list_any}
 use Rattle.std.proofs.lemmas.List.{take-append-drop}
 use Rattle.loom_tree.specs.Tree.{Source}
@@ -8,22 +8,24 @@ use Rattle.loom_trace.specs.declared.entry.Entry.TheVariants as e
 use Rattle.loom_lang.specs.Trace.{end, made, begins, done, edge, enter, out, IsTrace}
 use Rattle.loom_event.specs.Event.{Event, entry_by, entry_of, is_target, targets}
 use Rattle.loom_event.specs.Entries.{thread_of, is_thread}
-use Rattle.loom_event.specs.Replay.{Spawned, start, thread_at, replay}
+use Rattle.loom_event.specs.Replay.{ThreadState, start, thread_at, replay}
 use Rattle.loom_event.specs.Run.{AreRun}
-use Rattle.loom_law.specs.Walk.{Version, Step, goes, makes, items, told, entry_of_op, unborn, AreWoven}
+use Rattle.loom_law.specs.Walk.{Version, Step, goes, makes, items, told, entry_of_operation, unborn, AreWoven}
 use Rattle.loom_law.specs.Part.{Own, IsPart}
 use Rattle.loom_law.specs.Control.{Holder, Control, control, first_control, taken, entries_of}
-use Rattle.loom_law.specs.Lawful.{Setting, Front, front_of, plans, own, HasPart, MayMove, Stands, IsLawful}
-use Rattle.loom_law.specs.Laws.{IsUnfinished, own_with, Needs, StandsFor, IsNearlyLawful, HasEnough}
+use Rattle.loom_law.specs.Lawful.{Setting, Front, front_of, plans, own, HasPart, MayMove, Permits, MayFollow, MayFollowBy, IsLawful}
+use Rattle.loom_law.proofs.Strict.{Stands, IsStrict, StandsBy}
+use Rattle.loom_law.specs.Laws.{IsUnfinished, own_with}
 use Rattle.loom_law.proofs.OnePart.{told_append, append_none, never_empty}
 use Rattle.loom_law.proofs.Earlier.{append_assoc, map_front, take_again, length_append, targets_append, run_front, has_part_front, stays, idle_entries, allowed_front, nothing_done, less_behind, if_false, items_ahead, woven_front, takings, takings_taken}
-use Rattle.loom_law.proofs.Turns.{longer, beginning, own_same, op_no_target, some_thread, event_stands, act_free, walked_coming, drop_all, mine, eq_same}
+use Rattle.loom_law.proofs.Turns.{own_same, op_no_target, some_thread, event_stands, act_free, walked_coming, drop_all, eq_same}
+use Rattle.loom_law.proofs.Longer.{longer, beginning, mine, map_length}
 
 -- The last step that tells an entry
 
 -- this step tells the entry
 abbrev Tells : ℕ → Entry → Step → Type 0
-Tells t x (makes l o) = x ≡ entry_of_op t l o
+Tells t x (makes l o) = x ≡ entry_of_operation t l o
 Tells t x (goes (made l a)) = x ≡ entry_by t l a
 Tells t x (goes _) = ⊥
 
@@ -58,7 +60,7 @@ last_told : (t : ℕ) (ss : List Step) (es : List Entry) (x : Entry) → told t 
 last_told t [] es x h = absurd (never_empty es x h)
 last_told t (makes m q ∷ ss) [] x h = record { before = []; step = makes m q; behind = ss; whole = refl; same = refl; tells = cc }
 last_told t (goes (made m a) ∷ ss) [] x h = record { before = []; step = goes (made m a); behind = ss; whole = refl; same = refl; tells = cc }
-last_told t (makes m q ∷ ss) (y ∷ es) x h = with_told t (makes m q) ss (entry_of_op t m q) y es x (λ us. refl) h (λ g. last_told t ss es x g)
+last_told t (makes m q ∷ ss) (y ∷ es) x h = with_told t (makes m q) ss (entry_of_operation t m q) y es x (λ us. refl) h (λ g. last_told t ss es x g)
 last_told t (goes (made m a) ∷ ss) (y ∷ es) x h = with_told t (goes (made m a)) ss (entry_by t m a) y es x (λ us. refl) h (λ g. last_told t ss es x g)
 last_told t (goes (begins m env) ∷ ss) es x h = with_mark t (goes (begins m env)) ss es x (λ us. refl) (last_told t ss es x h)
 last_told t (goes (done m) ∷ ss) es x h = with_mark t (goes (done m)) ss es x (λ us. refl) (last_told t ss es x h)
@@ -72,7 +74,7 @@ none_there : (t : ℕ) (x : Entry) (es : List Entry) → is_thread t (thread_of 
 none_there t x es self h = never_empty (entries_of t es) x (sym h ∙ mine t x es self)
 
 -- the part that ends with the step that tells the entry
-cut_part : (s : Setting) (es : List Entry) (x : Entry) (t : ℕ) (z : Spawned) (part : IsPart s.program (plans s) (own s (es ++ x ∷ []) t z)) (before : List Step) (step : Step)
+cut_part : (s : Setting) (es : List Entry) (x : Entry) (t : ℕ) (z : ThreadState) (part : IsPart s.program (plans s) (own s (es ++ x ∷ []) t z)) (before : List Step) (step : Step)
     (behind : List Step) → part.steps ≡ before ++ step ∷ behind → told t (before ++ step ∷ []) ≡ entries_of t (es ++ x ∷ [])
     → (h : IsPart s.program (plans s) (own s (es ++ x ∷ []) t z)) × (h.steps ≡ before ++ step ∷ [])
 cut_part s es x t z part before step behind is tells =
@@ -95,18 +97,18 @@ cut_part s es x t z part before step behind is tells =
       refl,
     )
 
-stands_by : (s : Setting) (es : List Entry) (h : IsLawful s es) (x : Entry) (t : ℕ) (z : Spawned) → is_thread t (thread_of x) ≡ true
+stands_by : (s : Setting) (es : List Entry) (h : IsStrict s es) (x : Entry) (t : ℕ) (z : ThreadState) → is_thread t (thread_of x) ≡ true
     → (is_target x ≡ false → thread_at (replay (start s.program) h.events) t ≡ Some z)
     → (part : IsPart s.program (plans s) (own s (es ++ x ∷ []) t z)) (before : List Step) (step : Step) (behind : List Step) → part.steps ≡ before ++ step ∷ behind
-    → told t before ≡ entries_of t es → Tells t x step → MayMove s (front_of s es h.events) t x → Needs s (front_of s es h.events) x
+    → told t before ≡ entries_of t es → Tells t x step → MayMove s (front_of s es h.events) t x → Permits s (front_of s es h.events) x
     → Stands s (front_of s es h.events) x []
 stands_by s es h x t z self there part before (makes l o) behind is same e m n =
-    let q : entry_of_op t l o ≡ x = sym e in
+    let q : entry_of_operation t l o ≡ x = sym e in
     let f : Front = front_of s es h.events in
     let made_part : IsPart s.program (plans s) (own_with s es t z x) = subst (IsPart s.program (plans s)) (sym (own_same s es x t z self)) part in
     subst (λ y. Stands s f y []) q
     (some_thread s es h t l o z (there (ap is_target e ∙ op_no_target t l o)) (subst (λ y. IsPart s.program (plans s) (own_with s es t z y)) e made_part)
-    (subst (MayMove s f t) e m) (subst (Needs s f) e n))
+    (subst (MayMove s f t) e m) (subst (Permits s f) e n))
 stands_by s es h x t z self there part before (goes (made l a)) behind is same e m n =
     let f : Front = front_of s es h.events in
     let step : Step = goes (made l a) in
@@ -132,9 +134,9 @@ stands_by s es h x t z self there part before (goes (edge l)) behind is same e m
 stands_by s es h x t z self there part before (goes (enter f env)) behind is same e m n = absurd e
 stands_by s es h x t z self there part before (goes (out f)) behind is same e m n = absurd e
 
-stands_if : (s : Setting) (es : List Entry) (h : IsLawful s es) (x : Entry) (t : ℕ) (o : Option Spawned) → is_thread t (thread_of x) ≡ true
+stands_if : (s : Setting) (es : List Entry) (h : IsStrict s es) (x : Entry) (t : ℕ) (o : Option ThreadState) → is_thread t (thread_of x) ≡ true
     → (is_target x ≡ false → thread_at (replay (start s.program) h.events) t ≡ o) → HasPart s (es ++ x ∷ []) t o
-    → MayMove s (front_of s es h.events) t x → Needs s (front_of s es h.events) x → Stands s (front_of s es h.events) x []
+    → MayMove s (front_of s es h.events) t x → Permits s (front_of s es h.events) x → Stands s (front_of s es h.events) x []
 stands_if s es h x t None self there part m n = absurd (none_there t x es self part)
 stands_if s es h x t (Some z) self there part m n =
     let c : LastTold t part.steps (entries_of t es) x = last_told t part.steps (entries_of t es) x (part.tells ∙ mine t x es self) in
@@ -149,16 +151,17 @@ map_empty : {A B : Type 0} (f : A → B) (xs : List A) → map f xs ≡ [] → x
 map_empty f [] h = refl
 map_empty f (x ∷ xs) h = cc
 
-stood : (s : Setting) (es : List Entry) (h : IsLawful s es) (x : Entry) (rest : List Entry) (xs : List Event) → (is_target x ≡ false → h.events ≡ xs)
+stood : (s : Setting) (es : List Entry) (h : IsStrict s es) (x : Entry) (rest : List Entry) (xs : List Event) → (is_target x ≡ false → h.events ≡ xs)
     → ((t : ℕ) → HasPart s (es ++ x ∷ []) t (thread_at (replay (start s.program) xs) t)) → (o : Option ℕ) → thread_of x ≡ o
-    → StandsFor s (front_of s es h.events) x rest o → Stands s (front_of s es h.events) x []
-stood s es h x rest xs same parts None of n = less_behind s (front_of s es h.events) x [] rest n
+    → MayFollowBy s (front_of s es h.events) x rest o → Stands s (front_of s es h.events) x []
+stood s es h x rest xs same parts None of n =
+    less_behind s (front_of s es h.events) x [] rest (subst (StandsBy s (front_of s es h.events) x rest) (sym of) n)
 stood s es h x rest xs same parts (Some t) of n =
     stands_if s es h x t (thread_at (replay (start s.program) xs) t) (ap (is_thread t) of ∙ eq_same t)
     (λ no. ap (λ zs. thread_at (replay (start s.program) zs) t) (same no)) (parts t) n.0 n.1
 
-grown : (s : Setting) (es : List Entry) (n : IsNearlyLawful s es) (before : List Entry) (x : Entry) (rest : List Entry) → es ≡ before ++ x ∷ rest → (h : IsLawful s before)
-    → h.events ≡ take (length (targets before)) n.events → (h' : IsLawful s (before ++ x ∷ [])) × (h'.events ≡ take (length (targets (before ++ x ∷ []))) n.events)
+grown : (s : Setting) (es : List Entry) (n : IsLawful s es) (before : List Entry) (x : Entry) (rest : List Entry) → es ≡ before ++ x ∷ rest → (h : IsStrict s before)
+    → h.events ≡ take (length (targets before)) n.events → (h' : IsStrict s (before ++ x ∷ [])) × (h'.events ≡ take (length (targets (before ++ x ∷ []))) n.events)
 grown s es n before x rest is h ev =
     let p : Source = s.program in
     let front : List Entry = before ++ x ∷ [] in
@@ -181,21 +184,31 @@ grown s es n before x rest is h ev =
     (subst (λ us. HasPart s us t (thread_at (replay (start p) (xs ++ more)) t)) there
     (subst (λ zs. HasPart s es t (thread_at (replay (start p) zs) t)) (sym whole) (n.parts t))) in
     let unfinished : IsUnfinished before = λ kind f.
-    let bad : x ∷ rest ≡ [] = (n.stands f.front (e.Finish kind) (x ∷ rest)
+    let bad : x ∷ rest ≡ [] = (n.follows f.front (e.Finish kind) (x ∷ rest)
     (is ∙ (ap (λ us. us ++ x ∷ rest) f.is ∙ append_assoc f.front (e.Finish kind ∷ []) (x ∷ rest)))).0 in
     cc in
-    let here : StandsFor s (front_of s before h.events) x rest (thread_of x) =
-    subst (λ zs. StandsFor s (front_of s before zs) x rest (thread_of x)) (sym ev) (n.stands before x rest is) in
+    let here : MayFollow s (front_of s before h.events) x rest = subst (λ zs. MayFollow s (front_of s before zs) x rest) (sym ev) (n.follows before x rest is) in
     let same : is_target x ≡ false → h.events ≡ xs = λ no.
     sym (split ∙ (ap (λ zs. h.events ++ zs) (map_empty entry_of ys (last ∙ if_false (is_target x) (x ∷ []) [] no)) ∙ append_none h.events)) in
     longer s before h x xs ys split unfinished last (run_front p xs more run) parts (stood s before h x rest xs same parts (thread_of x) refl here)
 
-grow : (s : Setting) (es : List Entry) (n : IsNearlyLawful s es) (before todo : List Entry) → es ≡ before ++ todo → (h : IsLawful s before)
-    → h.events ≡ take (length (targets before)) n.events → IsLawful s es
-grow s es n before [] is h ev = subst (IsLawful s) (sym (is ∙ append_none before)) h
+take_all : {A : Type 0} (n : ℕ) (xs : List A) → n ≡ length xs → take n xs ≡ xs
+take_all zero [] h = refl
+take_all zero (x ∷ xs) h = let no : ⊥ = omega arith in absurd no
+take_all (suc n) [] h = refl
+take_all (suc n) (x ∷ xs) h = ap (◌∷◌ x) (take_all n xs (omega arith))
+
+grow : (s : Setting) (es : List Entry) (n : IsLawful s es) (before todo : List Entry) → es ≡ before ++ todo → (h : IsStrict s before)
+    → h.events ≡ take (length (targets before)) n.events → (h' : IsStrict s es) × (h'.events ≡ n.events)
+grow s es n before [] is h ev =
+    let same : es ≡ before = is ∙ append_none before in
+    let many : length (targets before) ≡ length n.events =
+    ap (λ us. length (targets us)) (sym same) ∙ (sym (ap length n.tells) ∙ map_length entry_of n.events) in
+    subst (λ us. (h' : IsStrict s us) × (h'.events ≡ n.events)) (sym same) (h, ev ∙ take_all (length (targets before)) n.events many)
 grow s es n before (x ∷ todo) is h ev =
     let g = grown s es n before x todo is h ev in
     grow s es n (before ++ x ∷ []) todo (is ∙ sym (append_assoc before (x ∷ []) todo)) g.0 g.1
 
-pub enough : HasEnough
-enough s es n = let b = beginning s in grow s es n [] es refl b.0 b.1
+-- Of the entries of a lawful journal more is known.
+pub strict : (s : Setting) (es : List Entry) (h : IsLawful s es) → (h' : IsStrict s es) × (h'.events ≡ h.events)
+strict s es h = let b = beginning s in grow s es h [] es refl b.0 b.1

@@ -1,19 +1,20 @@
 -- Facts on journals whose entries are written out.
-use Rattle.std.proofs.Common.{ℕ, ◌≤◌, ◌<◌, ◌≡◌, Bool, true, false, ◌&&◌, nat_lt, List, [], ◌∷◌, ◌++◌, length, take, Option, Some, None, refl, sym, ap, subst, arith}
+use Rattle.std.proofs.Common.{ℕ, ◌≤◌, ◌<◌, ◌≡◌, Bool, true, false, ◌&&◌, nat_lt, List, [], ◌∷◌, ◌++◌, Option, Some, None, refl, sym, ap, subst, arith}
 use Rattle.std.proofs.lemmas.Bool.{and_parts, ltb-true, ne_eqb}
 use Rattle.loom_trace.specs.declared.entry.Entry.{Entry}
-use Rattle.loom_event.specs.Event.{Event, targets}
+use Rattle.loom_event.specs.Event.{Event}
 use Rattle.loom_event.specs.Entries.{thread_of, is_thread}
 use Rattle.loom_law.specs.Control.{entries_of}
-use Rattle.loom_law.specs.Lawful.{Setting, Front, front_of, Stands}
-
-abbrev pub front_at : Setting → List Event → List Entry → Front
-front_at s xs front = front_of s front (take (length (targets front)) xs)
+use Rattle.loom_law.specs.Lawful.{Setting, front_at, MayFollow}
 
 -- what is asked of each entry of the second list, behind the first list and those before it
 abbrev pub Each : (List Entry → Entry → List Entry → Type 0) → List Entry → List Entry → Type 0
 Each Q done [] = Unit {0}
 Each Q done (x ∷ rest) = Q done x rest × Each Q (done ++ x ∷ []) rest
+
+-- what is asked of one, and of those behind it
+pub behind : {A B : Type 0} → A → B → A × B
+behind a b = (a, b)
 
 append_none : (xs : List Entry) → xs ++ [] ≡ xs
 append_none [] = refl
@@ -45,8 +46,8 @@ pub each_one : (Q : List Entry → Entry → List Entry → Type 0) (es : List E
     → es ≡ front ++ x ∷ rest → Q front x rest
 each_one Q es h front x rest is = one_of_each Q [] es front x rest h is
 
-abbrev pub StandsBehind : Setting → List Event → List Entry → Entry → List Entry → Type 0
-StandsBehind s xs front x rest = Stands s (front_at s xs front) x rest
+abbrev pub FollowsBehind : Setting → List Event → List Entry → Entry → List Entry → Type 0
+FollowsBehind s xs front x rest = MayFollow s (front_at s xs front) x rest
 
 -- these entries are of threads below this one, or of none
 abbrev pub is_below : ℕ → Option ℕ → Bool

@@ -12,13 +12,13 @@ use Rattle.loom_lang.specs.Trace.{Act, begin, end, trap, read, write, lock, unlo
 use Rattle.loom_event.specs.Event.{entry_by}
 use Rattle.loom_law.specs.Walk.{tick_after}
 use Rattle.loom_law.specs.Filter.{statement, function, clauses}
-use Rattle.loom_law.specs.Walk.{Version, Plans, Op, wait, enters, at, past, post, leave, back, tick, cross, blocked, Step, goes, makes, told, entry_of_op, Inside, Frame, Spot, elsewhere, beginning, entered, complete, left, trapped, Owed, Walk, unborn, holds, all_inside, is_left_with, completed, in_frame, opened, closed, without_first, inside_first, function_line, with_tick, taking, entered_journal, after_item, noted_at, begun_at, entered_regions, without_clause, left_behind, after_op, walked, all_leaves, with_back, without_filters, frames_without, spot_without, fresh, owed_fresh, crossed, crossing, begun_with, MayStand, AreWoven}
+use Rattle.loom_law.specs.Walk.{Version, Plans, Operation, wait, enters, at, past, post, leave, back, tick, cross, blocked, Step, goes, makes, told, entry_of_operation, Inside, OpenFrame, Spot, elsewhere, beginning, entered, complete, left, trapped, Queue, Walk, unborn, holds, all_inside, is_left_with, completed, in_frame, opened, closed, without_first, inside_first, function_line, with_tick, taking, behind_entry, after_item, noted_at, begun_at, entered_regions, without_clause, left_behind, after_operation, walked, all_leaves, with_back, without_filters, frames_without, spot_without, new_filters, owed_fresh, owed_behind_cross, crossing, begun_with, MayStand, AreWoven}
 use Rattle.loom_law.specs.Part.{leaving, is_inside}
 use Rattle.loom_law.specs.Laws.{HasHeldRegions}
-use Rattle.loom_law.proofs.Crossed.{held_in, each_in, all_held_in, kept_safe}
-use Rattle.loom_law.proofs.Held.{pick, held_append, HeldAll, HeldEach, AllHeld, UnderEach, Safe, in_first, safe_now, safe_op, safe_needs, Covers, beginning_safe, behind_safe, all_leaves_safe, back_safe, within_frames}
+use Rattle.loom_law.proofs.Cross.{held_in, each_in, all_held_in, kept_safe}
+use Rattle.loom_law.proofs.Holdings.{pick, held_append, HeldAll, HeldEach, AllHeld, UnderEach, Safe, in_first, safe_now, safe_op, safe_needs, Covers, beginning_safe, behind_safe, all_leaves_safe, back_safe, within_frames}
 
-abbrev pub insides : List Frame → List (List Inside)
+abbrev pub insides : List OpenFrame → List (List Inside)
 insides [] = []
 insides (x ∷ xs) = x.inside ∷ insides xs
 
@@ -29,20 +29,20 @@ Good plans z = Safe plans z.held (insides z.frames) (leaving z.spot) z.owed
 none_held : (hs : List (ℕ × ℕ)) → HeldAll hs []
 none_held hs k c m = cc
 
-under_itself : (fs : List Frame) → UnderEach (insides fs) fs
+under_itself : (fs : List OpenFrame) → UnderEach (insides fs) fs
 under_itself [] = tt
 under_itself (x ∷ xs) = ((λ q m. m), under_itself xs)
 
-insides_first : (g : Frame → Frame) (h : List Inside → List Inside) → ((x : Frame) → Frame.inside (g x) ≡ h x.inside) → (fs : List Frame)
+insides_first : (g : OpenFrame → OpenFrame) (h : List Inside → List Inside) → ((x : OpenFrame) → OpenFrame.inside (g x) ≡ h x.inside) → (fs : List OpenFrame)
     → insides (in_frame g fs) ≡ in_first h (insides fs)
 insides_first g h e [] = refl
 insides_first g h e (x ∷ xs) = ap (λ is. is ∷ insides xs) (e x)
 
-insides_same : (g : Frame → Frame) → ((x : Frame) → Frame.inside (g x) ≡ x.inside) → (fs : List Frame) → insides (in_frame g fs) ≡ insides fs
+insides_same : (g : OpenFrame → OpenFrame) → ((x : OpenFrame) → OpenFrame.inside (g x) ≡ x.inside) → (fs : List OpenFrame) → insides (in_frame g fs) ≡ insides fs
 insides_same g e [] = refl
 insides_same g e (x ∷ xs) = ap (λ is. is ∷ insides xs) (e x)
 
-tick_safe : (p : Source) (plans : Plans) (hs : List (ℕ × ℕ)) (iss : List (List Inside)) (lv : List Inside) (x : Place) (n : ℕ) (os : Owed)
+tick_safe : (p : Source) (plans : Plans) (hs : List (ℕ × ℕ)) (iss : List (List Inside)) (lv : List Inside) (x : Place) (n : ℕ) (os : Queue)
     → Safe plans hs iss lv os → Safe plans hs iss lv (with_tick p x n os)
 tick_safe p plans hs iss lv x n os h = pick (Safe plans hs iss lv) (n == tick_after) _ _ (λ b. (safe_now plans hs iss lv os h, tt, h)) (λ b. h)
 
@@ -51,16 +51,16 @@ tick_safe p plans hs iss lv x n os h = pick (Safe plans hs iss lv) (n == tick_af
 abbrev pub Rests : Walk → Type 0
 Rests z = AllHeld z.held (insides z.frames) []
 
-resting_good : (plans : Plans) (z : Walk) → z.owed ≡ [] → Rests z → Good plans (entered_journal z)
+resting_good : (plans : Plans) (z : Walk) → z.owed ≡ [] → Rests z → Good plans (behind_entry z)
 resting_good plans z is h =
-    let P : Owed → Type 0 = λ os. Safe plans z.held (insides z.frames) [] os in
+    let P : Queue → Type 0 = λ os. Safe plans z.held (insides z.frames) [] os in
     subst P (sym is) h
 
-taking_good : (plans : Plans) (z : Walk) (vs : List Version) → z.owed ≡ [] → Rests z → Good plans (taking (entered_journal z) vs)
+taking_good : (plans : Plans) (z : Walk) (vs : List Version) → z.owed ≡ [] → Rests z → Good plans (taking (behind_entry z) vs)
 taking_good plans z [] is h = resting_good plans z is h
 taking_good plans z (v ∷ vs) is h = resting_good plans z is h
 
-out_good : (plans : Plans) (hs : List (ℕ × ℕ)) (fs : List Frame) (l : ℕ) (ks : List ℕ) → AllHeld hs (insides fs) []
+out_good : (plans : Plans) (hs : List (ℕ × ℕ)) (fs : List OpenFrame) (l : ℕ) (ks : List ℕ) → AllHeld hs (insides fs) []
     → Safe plans hs (insides (without_first fs)) (inside_first fs) (with_back l (all_leaves plans hs (all_inside (without_first fs)) l ks))
 out_good plans hs [] l ks h = back_safe plans hs [] [] l _ h (all_leaves_safe plans hs [] hs [] [] l ks h tt (λ k c m. m))
 out_good plans hs (x ∷ xs) l ks h =
@@ -116,11 +116,11 @@ owed_none p z (edge l) rest h = h
 owed_none p z (enter f env) rest h = h
 owed_none p z (out f) rest h = h
 
-abbrev pub is_crossing : Op → Bool
+abbrev pub is_crossing : Operation → Bool
 is_crossing (cross x v n) = true
 is_crossing _ = false
 
-noted_inside : (s : Spot) (k : ℕ) (ns : List ℕ) (x : Frame) → Frame.inside (noted_at s k ns x) ≡ x.inside
+noted_inside : (s : Spot) (k : ℕ) (ns : List ℕ) (x : OpenFrame) → OpenFrame.inside (noted_at s k ns x) ≡ x.inside
 noted_inside elsewhere k ns x = refl
 noted_inside (beginning l env) k ns x = refl
 noted_inside (entered f env) k ns x = refl
@@ -136,7 +136,7 @@ none_leaving (complete l) = refl
 none_leaving (left f is) = refl
 none_leaving (trapped l) = refl
 
-frames_in : (ks : List ℕ) (fs : List Frame) → insides (frames_without ks fs) ≡ each_in ks (insides fs)
+frames_in : (ks : List ℕ) (fs : List OpenFrame) → insides (frames_without ks fs) ≡ each_in ks (insides fs)
 frames_in ks [] = refl
 frames_in ks (x ∷ xs) = ap (λ iss. without_filters ks x.inside ∷ iss) (frames_in ks xs)
 
@@ -157,24 +157,24 @@ fresh_safe p plans (complete l) ks hs iss lv h = h
 fresh_safe p plans (left f is) ks hs iss lv h = h
 fresh_safe p plans (trapped l) ks hs iss lv h = h
 
-crossed_safe : (p : Source) (plans : Plans) (s : Spot) (old ks : List ℕ) (hs : List (ℕ × ℕ)) (iss : List (List Inside)) (lv : List Inside) (os : Owed)
-    → Safe plans hs iss lv os → Safe plans (held_in ks hs) (each_in ks iss) (without_filters ks lv) (crossed p plans s old ks os)
+crossed_safe : (p : Source) (plans : Plans) (s : Spot) (old ks : List ℕ) (hs : List (ℕ × ℕ)) (iss : List (List Inside)) (lv : List Inside) (os : Queue)
+    → Safe plans hs iss lv os → Safe plans (held_in ks hs) (each_in ks iss) (without_filters ks lv) (owed_behind_cross p plans s old ks os)
 crossed_safe p plans s old ks hs iss lv [] h = all_held_in ks hs iss lv h
 crossed_safe p plans s old ks hs iss lv (o ∷ os) h =
-    kept_safe plans ks (owed_fresh p plans s (fresh old ks)) (λ gs jss mv all. fresh_safe p plans s (fresh old ks) gs jss mv all) hs iss lv (o ∷ os) h
+    kept_safe plans ks (owed_fresh p plans s (new_filters old ks)) (λ gs jss mv all. fresh_safe p plans s (new_filters old ks) gs jss mv all) hs iss lv (o ∷ os) h
 
 pub crossing_good : (p : Source) (plans : Plans) (z : Walk) (vs : List Version) → Good plans z → Good plans (crossing p plans z vs)
 crossing_good p plans z [] h = h
 crossing_good p plans z (v ∷ vs) h =
     let ks : List ℕ = v.active in
-    let os : Owed = crossed p plans z.spot z.active ks z.owed in
+    let os : Queue = owed_behind_cross p plans z.spot z.active ks z.owed in
     let P : List (List Inside) → Type 0 = λ iss. Safe plans (held_in ks z.held) iss (leaving (spot_without ks z.spot)) os in
     let Q : List Inside → Type 0 = λ lv. Safe plans (held_in ks z.held) (each_in ks (insides z.frames)) lv os in
     subst P (sym (frames_in ks z.frames)) (subst Q (sym (leaving_in ks z.spot))
     (crossed_safe p plans z.spot z.active ks z.held (insides z.frames) (leaving z.spot) z.owed h))
 
-pub op_good : (p : Source) (plans : Plans) (z : Walk) (l : ℕ) (o : Op) (rest : List Item) → MayStand p z (makes l o) rest → Good plans z
-    → Good plans (after_op p plans z o)
+pub op_good : (p : Source) (plans : Plans) (z : Walk) (l : ℕ) (o : Operation) (rest : List Item) → MayStand p z (makes l o) rest → Good plans z
+    → Good plans (after_operation p plans z o)
 op_good p plans z l (wait k n) rest m h = safe_op plans z.held (insides z.frames) (leaving z.spot) z.owed l (wait k n) m h
 op_good p plans z l (enters k n) rest m h = safe_op plans z.held (insides z.frames) (leaving z.spot) z.owed l (enters k n) m h
 op_good p plans z l (at k ns) rest m h =
@@ -211,13 +211,13 @@ pub walk_good : (p : Source) (plans : Plans) (z : Walk) (ss : List Step) (ahead 
 walk_good p plans z [] ahead w h = h
 walk_good p plans z (goes i ∷ ss) ahead w h =
     walk_good p plans (after_item p plans z i) ss ahead w.1 (item_good p plans z i (owed_none p z i _ w.0) (rests plans z h))
-walk_good p plans z (makes l o ∷ ss) ahead w h = walk_good p plans (after_op p plans z o) ss ahead w.1 (op_good p plans z l o _ w.0 h)
+walk_good p plans z (makes l o ∷ ss) ahead w h = walk_good p plans (after_operation p plans z o) ss ahead w.1 (op_good p plans z l o _ w.0 h)
 
 -- a thread has nothing before its begin
 pub good_start : (plans : Plans) (vs : List Version) → Good plans (unborn vs)
 good_start plans vs = (tt, λ k c m. cc)
 
-frames_held : (hs : List (ℕ × ℕ)) (fs : List Frame) → HeldEach hs (insides fs) → HeldAll hs (all_inside fs)
+frames_held : (hs : List (ℕ × ℕ)) (fs : List OpenFrame) → HeldEach hs (insides fs) → HeldAll hs (all_inside fs)
 frames_held hs [] h = none_held hs
 frames_held hs (x ∷ xs) h = held_append hs x.inside (all_inside xs) h.0 (frames_held hs xs h.1)
 
@@ -263,7 +263,7 @@ taking_held z [] = refl
 taking_held z (v ∷ vs) = refl
 
 made_held : (p : Source) (plans : Plans) (z : Walk) (l : ℕ) (a : Act) → Walk.held (after_item p plans z (made l a)) ≡ z.held
-made_held p plans z l begin = taking_held (entered_journal z) z.coming
+made_held p plans z l begin = taking_held (behind_entry z) z.coming
 made_held p plans z l end = refl
 made_held p plans z l (trap c) = refl
 made_held p plans z l (read x v) = refl
@@ -276,7 +276,7 @@ made_held p plans z l (spawn c f vs) = refl
 made_held p plans z l (join c) = refl
 made_held p plans z l (print v) = refl
 
-op_told : (p : Source) (plans : Plans) (z : Walk) (t l : ℕ) (o : Op) → is_crossing o ≡ false → Walk.held (after_op p plans z o) ≡ held_after z.held (entry_of_op t l o)
+op_told : (p : Source) (plans : Plans) (z : Walk) (t l : ℕ) (o : Operation) → is_crossing o ≡ false → Walk.held (after_operation p plans z o) ≡ held_after z.held (entry_of_operation t l o)
 op_told p plans z t l (wait k n) c = refl
 op_told p plans z t l (enters k n) c = refl
 op_told p plans z t l (at k ns) c = refl
@@ -298,7 +298,7 @@ held_told p plans z t (goes (done l) ∷ ss) c = held_told p plans (after_item p
 held_told p plans z t (goes (edge l) ∷ ss) c = held_told p plans (after_item p plans z (edge l)) t ss c.1
 held_told p plans z t (goes (enter f env) ∷ ss) c = held_told p plans (after_item p plans z (enter f env)) t ss c.1
 held_told p plans z t (goes (out f) ∷ ss) c = held_told p plans (after_item p plans z (out f)) t ss c.1
-held_told p plans z t (makes l o ∷ ss) c = held_told p plans (after_op p plans z o) t ss c.1 ∙ ap (λ hs. held_by hs (told t ss)) (op_told p plans z t l o c.0)
+held_told p plans z t (makes l o ∷ ss) c = held_told p plans (after_operation p plans z o) t ss c.1 ∙ ap (λ hs. held_by hs (told t ss)) (op_told p plans z t l o c.0)
 
 -- Entries without a `Cross`
 
@@ -310,7 +310,7 @@ abbrev pub none_cross : List Entry → Bool
 none_cross [] = true
 none_cross (x ∷ xs) = not (is_cross x) && none_cross xs
 
-op_cross : (t l : ℕ) (o : Op) → not (is_cross (entry_of_op t l o)) ≡ true → is_crossing o ≡ false
+op_cross : (t l : ℕ) (o : Operation) → not (is_cross (entry_of_operation t l o)) ≡ true → is_crossing o ≡ false
 op_cross t l (wait k n) h = refl
 op_cross t l (enters k n) h = refl
 op_cross t l (at k ns) h = refl
@@ -345,7 +345,7 @@ steps_cross t (goes (edge l) ∷ ss) h = (refl, steps_cross t ss h)
 steps_cross t (goes (enter f env) ∷ ss) h = (refl, steps_cross t ss h)
 steps_cross t (goes (out f) ∷ ss) h = (refl, steps_cross t ss h)
 steps_cross t (makes l o ∷ ss) h =
-    let parts = and_parts (not (is_cross (entry_of_op t l o))) (none_cross (told t ss)) h in
+    let parts = and_parts (not (is_cross (entry_of_operation t l o))) (none_cross (told t ss)) h in
     (op_cross t l o parts.0, steps_cross t ss parts.1)
 
 -- An `At` stands only where each clause that begins with its events is held
@@ -370,8 +370,8 @@ covers_of hs plans j k ms ns e g h =
     let Q : List ℕ → Type 0 = λ as'. Covers hs k as' (clauses (plans k)) in
     subst Q g (subst P e h)
 
-at_covered : (p : Source) (plans : Plans) (z : Walk) (t l : ℕ) (o : Op) (rest : List Item) (m k : ℕ) (ns : List ℕ) → MayStand p z (makes l o) rest → Good plans z
-    → entry_of_op t l o ≡ e.At t m k ns → Covers z.held k ns (clauses (plans k))
+at_covered : (p : Source) (plans : Plans) (z : Walk) (t l : ℕ) (o : Operation) (rest : List Item) (m k : ℕ) (ns : List ℕ) → MayStand p z (makes l o) rest → Good plans z
+    → entry_of_operation t l o ≡ e.At t m k ns → Covers z.held k ns (clauses (plans k))
 at_covered p plans z t l (wait j n) rest m k ns s h is = cc
 at_covered p plans z t l (enters j n) rest m k ns s h is = cc
 at_covered p plans z t l (at j ms) rest m k ns s h is =
@@ -412,12 +412,12 @@ covered p plans z t (goes (enter f env) ∷ ss) ahead front m k ns rest c w h is
 covered p plans z t (goes (out f) ∷ ss) ahead front m k ns rest c w h is =
     covered p plans (after_item p plans z (out f)) t ss ahead front m k ns rest c.1 w.1 (item_good p plans z (out f) w.0 (rests plans z h)) is
 covered p plans z t (makes l o ∷ ss) ahead [] m k ns rest c w h is =
-    let first : entry_of_op t l o ≡ e.At t m k ns = cc in
+    let first : entry_of_operation t l o ≡ e.At t m k ns = cc in
     at_covered p plans z t l o _ m k ns w.0 h first
 covered p plans z t (makes l o ∷ ss) ahead (y ∷ front) m k ns rest c w h is =
-    let first : entry_of_op t l o ≡ y = cc in
+    let first : entry_of_operation t l o ≡ y = cc in
     let others : told t ss ≡ front ++ e.At t m k ns ∷ rest = cc in
-    let z1 : Walk = after_op p plans z o in
+    let z1 : Walk = after_operation p plans z o in
     let held : z1.held ≡ held_after z.held y = op_told p plans z t l o c.0 ∙ ap (held_after z.held) first in
     let P : List (ℕ × ℕ) → Type 0 = λ hs. Covers (held_by hs front) k ns (clauses (plans k)) in
     subst P held (covered p plans z1 t ss ahead front m k ns rest c.1 w.1 (op_good p plans z l o _ w.0 h) others)

@@ -1,18 +1,17 @@
 -- A begun thread that owes no `Cross` has the newest version.
-use Rattle.std.proofs.Common.{ℕ, zero, suc, ◌<◌, ◌≡◌, ◌==◌, Bool, true, false, List, [], ◌∷◌, ◌++◌, length, take, Option, Some, None, refl, sym, ap, subst, ◌∙◌, if◌then◌else◌, arith}
+use Rattle.std.proofs.Common.{ℕ, zero, suc, ◌<◌, ◌≡◌, ◌==◌, Bool, true, false, List, [], ◌∷◌, ◌++◌, length, Option, Some, None, refl, sym, ap, subst, ◌∙◌, if◌then◌else◌, arith}
 use Rattle.loom_tree.specs.Tree.{Source}
 use Rattle.loom_trace.specs.declared.entry.Entry.{Entry}
 use Rattle.loom_trace.specs.declared.entry.Entry.TheVariants as e
 use Rattle.loom_lang.specs.Trace.{begin, end, trap, read, write, lock, unlock, down, up, spawn, join, print, made, begins, done, edge, enter, out}
-use Rattle.loom_event.specs.Event.{targets}
 use Rattle.loom_event.specs.Entries.{thread_of, is_thread}
-use Rattle.loom_event.specs.Replay.{Spawned, thread_limit}
-use Rattle.loom_law.specs.Walk.{Version, Plans, wait, enters, at, past, post, leave, back, tick, cross, blocked, Step, goes, makes, told, Walk, unborn, without_first, taking, entered_journal, crossing, after, walked}
+use Rattle.loom_event.specs.Replay.{ThreadState, thread_limit}
+use Rattle.loom_law.specs.Walk.{Version, Plans, wait, enters, at, past, post, leave, back, tick, cross, blocked, Step, goes, makes, told, Walk, unborn, without_first, taking, behind_entry, crossing, after, walked}
 use Rattle.loom_law.specs.Part.{led, IsPart}
-use Rattle.loom_law.specs.Control.{Command, Control, first_control, after_entry, controlled, taken_from, taken, entries_of, row_at, listing, listed_from, listed}
-use Rattle.loom_law.specs.Lawful.{Setting, Front, front_of, plans, own, Stands, MayMove, is_cross, owes_cross, IsLawful}
-use Rattle.loom_law.specs.Laws.{HasNewest}
-use Rattle.loom_law.proofs.Obeyed.{stands_moves}
+use Rattle.loom_law.specs.Control.{Command, Control, first_control, after_entry, controlled, taken_from, taken, entries_of, row_at, listing, listed_from, listed, control}
+use Rattle.loom_law.specs.Lawful.{Setting, Front, plans, own, MayMove, is_cross, owes_cross, front_at}
+use Rattle.loom_law.proofs.Strict.{Stands, IsStrict}
+use Rattle.loom_law.proofs.Obedience.{stands_moves}
 use Rattle.loom_law.proofs.Earlier.{IsBegin, first_begins}
 
 -- The filters of a thread's version are told by its entries and the versions that it takes
@@ -49,8 +48,8 @@ both_with vs vs' ks ks' es v h = ap (λ x. active_with x ks es) v ∙ ap (λ x. 
 walked_active : (p : Source) (plans : Plans) (t : ℕ) (z : Walk) (ss : List Step) → Walk.active (walked p plans z ss) ≡ active_with z.coming z.active (told t ss)
 walked_active p plans t z [] = refl
 walked_active p plans t z (goes (made l begin) ∷ ss) =
-    walked_active p plans t (taking (entered_journal z) z.coming) ss
-    ∙ both_with _ _ _ _ (told t ss) (taking_coming (entered_journal z) z.coming refl) (taking_active (entered_journal z) z.coming)
+    walked_active p plans t (taking (behind_entry z) z.coming) ss
+    ∙ both_with _ _ _ _ (told t ss) (taking_coming (behind_entry z) z.coming refl) (taking_active (behind_entry z) z.coming)
 walked_active p plans t z (makes l (cross x v n) ∷ ss) =
     walked_active p plans t (crossing p plans z z.coming) ss
     ∙ both_with _ _ _ _ (told t ss) (crossing_coming p plans z z.coming refl) (crossing_active p plans z z.coming)
@@ -177,7 +176,7 @@ told_active cs t c ks (e.Finish k ∷ es) = told_active cs t (after_entry cs c (
 told_active cs t c ks (e.Installed k v ps ∷ es) = told_active cs t (after_entry cs c (e.Installed k v ps)) ks es
 told_active cs t c ks (e.Removed k v ps ∷ es) = told_active cs t (after_entry cs c (e.Removed k v ps)) ks es
 
-active_told : (s : Setting) (front : List Entry) (t : ℕ) (x : Spawned) (h : IsPart s.program (plans s) (own s front t x))
+active_told : (s : Setting) (front : List Entry) (t : ℕ) (x : ThreadState) (h : IsPart s.program (plans s) (own s front t x))
     → Walk.active (led s.program (plans s) (own s front t x) h.steps) ≡ active_from s.commands t first_control [] front
 active_told s front t x h =
     walked_active s.program (plans s) t (unborn (taken s.commands t front)) h.steps
@@ -308,10 +307,10 @@ append_one : (xs : List Entry) (y : Entry) (ys : List Entry) → (xs ++ y ∷ []
 append_one [] y ys = refl
 append_one (x ∷ xs) y ys = ap (◌∷◌ x) (append_one xs y ys)
 
-moves_from : (s : Setting) (es : List Entry) (h : IsLawful s es) (t : ℕ) (front todo rest : List Entry) → es ≡ front ++ (todo ++ rest) → AreMoves t (listed t front) todo
+moves_from : (s : Setting) (es : List Entry) (h : IsStrict s es) (t : ℕ) (front todo rest : List Entry) → es ≡ front ++ (todo ++ rest) → AreMoves t (listed t front) todo
 moves_from s es h t front [] rest is = tt
 moves_from s es h t front (x ∷ todo) rest is = (
-  moves_of s (front_of s front (take (length (targets front)) h.events)) t x (todo ++ rest) (h.stands front x (todo ++ rest) is),
+  moves_of s (front_at s h.events front) t x (todo ++ rest) (h.stands front x (todo ++ rest) is),
   subst (λ ls. AreMoves t ls todo) (listed_last t [] front x)
       (moves_from s es h t (front ++ x ∷ []) todo rest (is ∙ sym (append_one front x (todo ++ rest)))),
 )
@@ -359,7 +358,9 @@ first_begun t b (x ∷ es) y ys h is =
     begin_begun t b x es (subst IsBegin (sym first) is) g)
     (λ g. first_begun t (begun_behind t b x) es y ys (sym (if_false (is_thread t (thread_of x)) (x ∷ entries_of t es) (entries_of t es) g) ∙ h) is)
 
-pub newest : HasNewest
+pub newest : (s : Setting) (front rest : List Entry) → IsStrict s (front ++ rest) → (i : ℕ) → i < thread_limit → (x : ThreadState)
+    (h : IsPart s.program (plans s) (own s front (suc i) x)) (y : Entry) (ys : List Entry) → entries_of (suc i) front ≡ y ∷ ys → listed (suc i) front ≡ []
+    → (led s.program (plans s) (own s front (suc i) x) h.steps).active ≡ Version.active (control s.commands front).version
 newest s front rest h i small x part y ys some none =
     let t : ℕ = suc i in
     let begins : IsBegin y =

@@ -11,13 +11,13 @@ use Rattle.loom_lang.specs.Acts.{AnswerTheSame}
 use Rattle.loom_lang.specs.Alike.{AreAlike}
 use Rattle.loom_lang.proofs.NextItem.{Agree, traces_agree}
 use Rattle.loom_event.specs.Event.{entry_by}
-use Rattle.loom_law.specs.Walk.{Plans, Op, wait, enters, at, past, post, leave, back, tick, cross, blocked, Step, goes, makes, items, told_item, told, entry_of_op, Owed, Walk, unborn, after, place_of_item, place_of_next, Owes, Acts, AsksFor, MayCross, MayBlock, MayStand, AreWoven}
+use Rattle.loom_law.specs.Walk.{Plans, Operation, wait, enters, at, past, post, leave, back, tick, cross, blocked, Step, goes, makes, items, told_item, told, entry_of_operation, Queue, Walk, unborn, after, place_of_item, place_of_next, Owes, Acts, AsksFor, MayCross, MayBlock, MayStand, AreWoven}
 use Rattle.loom_law.specs.Part.{Own}
 use Rattle.loom_law.specs.Laws.{EndsMade, HasOnePart, HasOneMove, HasOneMade}
 
 -- An entry tells its step
 
-op_of : Entry → Option Op
+op_of : Entry → Option Operation
 op_of (e.Wait t l k n) = Some (wait k n)
 op_of (e.Enter t l k c) = Some (enters k c)
 op_of (e.At t l k ns) = Some (at k ns)
@@ -43,7 +43,7 @@ line_of (e.Cross t l x v n) = l
 line_of (e.Blocked t l what) = l
 line_of _ = 0
 
-op_back : (t l : ℕ) (o : Op) → op_of (entry_of_op t l o) ≡ Some o
+op_back : (t l : ℕ) (o : Operation) → op_of (entry_of_operation t l o) ≡ Some o
 unfolding op_of
 op_back t l (wait k n) = refl
 op_back t l (enters k c) = refl
@@ -56,7 +56,7 @@ op_back t l (tick x) = refl
 op_back t l (cross x v n) = refl
 op_back t l (blocked what) = refl
 
-line_back : (t l : ℕ) (o : Op) → line_of (entry_of_op t l o) ≡ l
+line_back : (t l : ℕ) (o : Operation) → line_of (entry_of_operation t l o) ≡ l
 unfolding line_of
 line_back t l (wait k n) = refl
 line_back t l (enters k c) = refl
@@ -87,13 +87,13 @@ no_op_of_act t l (print v) = refl
 same_some : {A : Type 0} (a b : A) → Some a ≡ Some b → a ≡ b
 same_some a b h = cc
 
-pub same_op : (t l m : ℕ) (o q : Op) → entry_of_op t l o ≡ entry_of_op t m q → (l ≡ m) × (o ≡ q)
+pub same_op : (t l m : ℕ) (o q : Operation) → entry_of_operation t l o ≡ entry_of_operation t m q → (l ≡ m) × (o ≡ q)
 same_op t l m o q h = (
   sym (line_back t l o) ∙ (ap line_of h ∙ line_back t m q),
   same_some o q (sym (op_back t l o) ∙ (ap op_of h ∙ op_back t m q)),
 )
 
-pub act_is_no_op : (t l m : ℕ) (a : Act) (o : Op) → entry_by t l a ≡ entry_of_op t m o → ⊥
+pub act_is_no_op : (t l m : ℕ) (a : Act) (o : Operation) → entry_by t l a ≡ entry_of_operation t m o → ⊥
 act_is_no_op t l m a o h =
     let none : None ≡ Some o = sym (no_op_of_act t l a) ∙ (ap op_of h ∙ op_back t m o) in
     cc
@@ -228,10 +228,10 @@ no_place z (out f ∷ is) y k h = cc
 
 -- places are passed until the next entry: a `Cross` that is told first counts at least those that were passed already
 later_cross : (p : Source) (plans : Plans) (t : ℕ) (z : Walk) (ss : List Step) (ahead : List Item) (l x v n : ℕ) (es : List Entry) → AreWoven p plans z ss ahead
-    → told t ss ≡ entry_of_op t l (cross x v n) ∷ es → length z.passed ≤ n
+    → told t ss ≡ entry_of_operation t l (cross x v n) ∷ es → length z.passed ≤ n
 later_cross p plans t z [] ahead l x v n es h g = cc
 later_cross p plans t z (goes (made m a) ∷ ss) ahead l x v n es h g =
-    let first : entry_by t m a ≡ entry_of_op t l (cross x v n) = cc in
+    let first : entry_by t m a ≡ entry_of_operation t l (cross x v n) = cc in
     absurd (act_is_no_op t m l a (cross x v n) first)
 later_cross p plans t z (goes (begins m env) ∷ ss) ahead l x v n es h g = later_cross p plans t (after p plans z (goes (begins m env))) ss ahead l x v n es h.1 g
 later_cross p plans t z (goes (done m) ∷ ss) ahead l x v n es h g = later_cross p plans t (after p plans z (goes (done m))) ss ahead l x v n es h.1 g
@@ -243,9 +243,9 @@ later_cross p plans t z (goes (enter f env) ∷ ss) ahead l x v n es h g =
     omega arith
 later_cross p plans t z (goes (out f) ∷ ss) ahead l x v n es h g = later_cross p plans t (after p plans z (goes (out f))) ss ahead l x v n es h.1 g
 later_cross p plans t z (makes m o ∷ ss) ahead l x v n es h g =
-    let first : entry_of_op t m o ≡ entry_of_op t l (cross x v n) = cc in
+    let first : entry_of_operation t m o ≡ entry_of_operation t l (cross x v n) = cc in
     let same : (m ≡ l) × (o ≡ cross x v n) = same_op t m l o (cross x v n) first in
-    let P : Op → Type 0 = λ q. MayStand p z (makes m q) (items ss ++ ahead) in
+    let P : Operation → Type 0 = λ q. MayStand p z (makes m q) (items ss ++ ahead) in
     counted (subst P same.1 h.0)
   where
     counted : MayCross p z (items ss ++ ahead) m x v n → length z.passed ≤ n
@@ -270,11 +270,11 @@ goes_rest p z (edge l) rest h = h
 goes_rest p z (enter f env) rest h = h
 goes_rest p z (out f) rest h = h
 
-owes_nothing : (os : Owed) (l : ℕ) (o : Op) → os ≡ [] → Owes os l o → ⊥
+owes_nothing : (os : Queue) (l : ℕ) (o : Operation) → os ≡ [] → Owes os l o → ⊥
 owes_nothing [] l o none h = h
 owes_nothing (x ∷ os) l o none h = cc
 
-acts_first : (os : Owed) (is : List Item) (l : ℕ) (a : Act) (k : Kind) → Acts os is l a → Begins k is → k ≡ an_act
+acts_first : (os : Queue) (is : List Item) (l : ℕ) (a : Act) (k : Kind) → Acts os is l a → Begins k is → k ≡ an_act
 acts_first (o ∷ os) is l a k h b = absurd h
 acts_first [] [] l a k h b = absurd h
 acts_first [] (i ∷ is) l a k h b = sym b ∙ ap kind h
@@ -291,13 +291,13 @@ asks_act z rest l (w.Enter f c) k none h b = absurd (owes_nothing z.owed l (ente
 asks_act z rest l (w.Wait f n) k none h b = absurd (owes_nothing z.owed l (wait f n) none h)
 
 -- an act is told at once
-act_told : (t l m : ℕ) (a : Act) (o : Op) (es fs : List Entry) → entry_by t l a ∷ es ≡ entry_of_op t m o ∷ fs → ⊥
+act_told : (t l m : ℕ) (a : Act) (o : Operation) (es fs : List Entry) → entry_by t l a ∷ es ≡ entry_of_operation t m o ∷ fs → ⊥
 act_told t l m a o es fs g =
-    let first : entry_by t l a ≡ entry_of_op t m o = cc in
+    let first : entry_by t l a ≡ entry_of_operation t m o = cc in
     act_is_no_op t l m a o first
 
-no_split : (p : Source) (plans : Plans) (t : ℕ) (z : Walk) (i : Item) (ss : List Step) (ahead : List Item) (l : ℕ) (o : Op) (rest : List Item) (es : List Entry)
-    → AreWoven p plans z (goes i ∷ ss) ahead → MayStand p z (makes l o) rest → Begins (kind i) rest → told t (goes i ∷ ss) ≡ entry_of_op t l o ∷ es → ⊥
+no_split : (p : Source) (plans : Plans) (t : ℕ) (z : Walk) (i : Item) (ss : List Step) (ahead : List Item) (l : ℕ) (o : Operation) (rest : List Item) (es : List Entry)
+    → AreWoven p plans z (goes i ∷ ss) ahead → MayStand p z (makes l o) rest → Begins (kind i) rest → told t (goes i ∷ ss) ≡ entry_of_operation t l o ∷ es → ⊥
 no_split p plans t z i ss ahead l (wait k n) rest es h m b g = owes_nothing z.owed l (wait k n) (goes_rest p z i (items ss ++ ahead) h.0) m
 no_split p plans t z i ss ahead l (enters k c) rest es h m b g = owes_nothing z.owed l (enters k c) (goes_rest p z i (items ss ++ ahead) h.0) m
 no_split p plans t z i ss ahead l (at k ns) rest es h m b g = owes_nothing z.owed l (at k ns) (goes_rest p z i (items ss ++ ahead) h.0) m
@@ -365,10 +365,10 @@ one_way p plans t z (goes i ∷ ss) (goes j ∷ us) ahead above r s h k a g m n 
     let ih : ss ≡ us = one_way p plans t (after p plans z (goes i)) ss us ahead above r s h.1 (subst P (sym same.0) k.1) (a.1 same.0) same.1 m.1 n.1 in
     ap (λ y. goes y ∷ ss) same.0 ∙ ap (λ ys. goes j ∷ ys) ih
 one_way p plans t z (makes l o ∷ ss) (makes q u ∷ us) ahead above r s h k a g m n =
-    let first : entry_of_op t l o ≡ entry_of_op t q u = cc in
+    let first : entry_of_operation t l o ≡ entry_of_operation t q u = cc in
     let others : told t ss ≡ told t us = cc in
     let same : (l ≡ q) × (o ≡ u) = same_op t l q o u first in
-    let P : Op → Type 0 = λ y. AreWoven p plans (after p plans z (makes q y)) us above in
+    let P : Operation → Type 0 = λ y. AreWoven p plans (after p plans z (makes q y)) us above in
     let ih : ss ≡ us = one_way p plans t (after p plans z (makes l o)) ss us ahead above r s h.1 (subst P (sym same.1) k.1) a others m.1 n.1 in
     ap (λ y. makes y o ∷ ss) same.0 ∙ (ap (λ y. makes q y ∷ ss) same.1 ∙ ap (λ ys. makes q u ∷ ys) ih)
 
@@ -437,7 +437,7 @@ mark_half t s ss skips h (u ∷ us) some =
 
 halves : (t : ℕ) (ss : List Step) → Halves t ss
 halves t [] = record { before = []; behind = []; whole = refl; made = tt; marks = refl }
-halves t (makes l o ∷ ss) = told_half t (makes l o) ss (entry_of_op t l o) (λ us. refl) (halves t ss)
+halves t (makes l o ∷ ss) = told_half t (makes l o) ss (entry_of_operation t l o) (λ us. refl) (halves t ss)
 halves t (goes (made l a) ∷ ss) = told_half t (goes (made l a)) ss (entry_by t l a) (λ us. refl) (halves t ss)
 halves t (goes (begins l env) ∷ ss) = let h = halves t ss in mark_half t (goes (begins l env)) ss (λ us. refl) h h.before refl
 halves t (goes (done l) ∷ ss) = let h = halves t ss in mark_half t (goes (done l)) ss (λ us. refl) h h.before refl
@@ -472,7 +472,7 @@ told_item_append t (out f) es fs = refl
 pub told_append : (t : ℕ) (us vs : List Step) → told t (us ++ vs) ≡ told t us ++ told t vs
 told_append t [] vs = refl
 told_append t (goes i ∷ us) vs = ap (told_item t i) (told_append t us vs) ∙ told_item_append t i (told t us) (told t vs)
-told_append t (makes l o ∷ us) vs = ap (◌∷◌ (entry_of_op t l o)) (told_append t us vs)
+told_append t (makes l o ∷ us) vs = ap (◌∷◌ (entry_of_operation t l o)) (told_append t us vs)
 
 woven_front : (p : Source) (plans : Plans) (z : Walk) (us vs : List Step) (ahead : List Item) → AreWoven p plans z (us ++ vs) ahead → AreWoven p plans z us (items vs ++ ahead)
 woven_front p plans z [] vs ahead h = tt

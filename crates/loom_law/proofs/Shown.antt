@@ -7,10 +7,12 @@ use Rattle.loom_trace.specs.declared.entry.Ending.TheVariants as k
 use Rattle.loom_lang.specs.Trace.{Locals, begin, end, read, write, spawn, join, print, made, begins, done, enter, out, Finished, IsTrace}
 use Rattle.loom_event.proofs.Shown.{adds}
 use Rattle.loom_event.proofs.Runs.{next, given}
-use Rattle.loom_law.specs.Filter.{Region, Clause, Filter, plan_of}
-use Rattle.loom_law.specs.Filter as filters
-use Rattle.loom_law.specs.Walk.{Version, Op, enters, past, leave, blocked, Step, goes, makes, items, told}
+use Rattle.loom_command.specs.Filter.{Region, Clause, Filter}
+use Rattle.loom_law.specs.Filter.{plan_of}
+use Rattle.loom_command.specs.Filter as filters
+use Rattle.loom_law.specs.Walk.{Version, Operation, enters, past, leave, blocked, Step, goes, makes, items, told}
 use Rattle.loom_law.specs.Walk as walk
+use Rattle.loom_command.specs.Script as script
 use Rattle.loom_law.specs.Control.{means, install, Command}
 use Rattle.loom_law.specs.Control as control
 use Rattle.loom_law.specs.Part.{Own, IsPart}
@@ -21,9 +23,10 @@ use Rattle.loom_event.specs.Run.{AreRun}
 use Rattle.loom_event.proofs.Shown.{event}
 use Rattle.loom_law.specs.Filter.{is_alone}
 use Rattle.loom_law.specs.Control.{Control, command_at, entries_of, listed}
-use Rattle.loom_law.specs.Lawful.{Setting, Front, plans, over, owes_cross, is_cross, IsDue, IsParked, MayMove, MayInstall, HasPart, StandsAt, IsOutside, IsLawful}
+use Rattle.loom_law.specs.Lawful.{Setting, Front, plans, over, owes_cross, is_cross, IsDue, IsParked, MayMove, MayInstall, HasPart, StandsAt, running, front_at, IsOutside, HasCompletions, HasPosts, IsLawful}
 use Rattle.loom_event.proofs.Runs.{threads_traced, does, events_told, event_of}
 use Rattle.loom_event.proofs.Runs as runs
+use Rattle.loom_event.proofs.Stops as stops
 use Rattle.loom_event.specs.Run.{IsTraced}
 use Rattle.loom_event.proofs.Shown.{deed}
 use Rattle.loom_law.specs.Filter.{clauses}
@@ -31,25 +34,24 @@ use Rattle.loom_law.specs.Walk.{unborn, holds, walked}
 use Rattle.loom_tree.specs.Tree.{Source}
 use Rattle.loom_trace.specs.declared.entry.What.{What}
 use Rattle.loom_lang.specs.Trace.{Item}
-use Rattle.loom_law.specs.Walk.{Walk, after_op, MayStand}
-use Rattle.loom_law.specs.Lawful.{Follows, Posted}
-use Rattle.loom_law.proofs.Held.{Covers}
+use Rattle.loom_law.specs.Walk.{Walk, after_operation, MayStand}
+use Rattle.loom_law.proofs.Holdings.{Covers}
 use Rattle.loom_law.proofs.Inside.{none_cross, steps_cross, covered, good_start}
-use Rattle.loom_law.proofs.Fronts.{front_at, Each, each_one, StandsBehind, nothing_made}
-use Rattle.loom_event.specs.Replay.{Spawned}
+use Rattle.loom_law.proofs.Fronts.{Each, behind, each_one, FollowsBehind, nothing_made}
+use Rattle.loom_event.specs.Replay.{ThreadState}
 
 -- both updates are kept: {inc.lm:3; inc.lm:3} <> {inc.lm:7; inc.lm:7}
-abbrev pub on_line : ℕ → filters.Event
+abbrev pub on_line : ℕ → filters.LineEvent
 on_line l = record { file = codes "inc.lm"; line = l; test = None }
 
 abbrev pub fix : Filter
 fix = Clause.exclusive (Region.between (on_line 3 ∷ []) (on_line 3 ∷ []) ∷ Region.between (on_line 7 ∷ []) (on_line 7 ∷ []) ∷ []) ∷ []
 
 abbrev pub commands : List Command
-commands = record { trigger = control.at 0; name = codes "fix"; action = install (means (plan_of adds fix)) } ∷ []
+commands = record { trigger = script.at 0; name = codes "fix"; action = install (means (plan_of adds fix)) } ∷ []
 
 abbrev pub setting : Setting
-setting = record { program = adds; commands = commands; limit = 100000; stop = λ x. false }
+setting = record { program = adds; commands = commands; limit = 100000; stop = stops.never }
 
 abbrev pub journal : List Entry
 journal =
@@ -252,7 +254,7 @@ stands_nowhere zero = refl
 stands_nowhere (suc zero) = refl
 stands_nowhere (suc (suc t)) = refl
 
-outside_first : (t : ℕ) → IsOutside setting (e.Asked 1 ∷ []) t (thread_at (start adds) t) (plan_of adds fix) nowhere
+outside_first : (t : ℕ) → IsOutside setting (e.Asked 1 ∷ []) t (running (thread_at (start adds) t)) (plan_of adds fix) nowhere
 outside_first zero = tt
 outside_first (suc zero) = tt
 outside_first (suc (suc t)) = tt
@@ -270,7 +272,7 @@ installs = record {
   outside = outside_first;
 }
 
-all_ended : (t : ℕ) (x : Spawned) → thread_at (replay (start adds) events) t ≡ Some x → x.ended ≡ true
+all_ended : (t : ℕ) (x : ThreadState) → thread_at (replay (start adds) events) t ≡ Some x → x.ended ≡ true
 all_ended zero x h = cc
 all_ended (suc zero) x h = cc
 all_ended (suc (suc zero)) x h = cc
@@ -279,83 +281,13 @@ all_ended (suc (suc (suc t))) x h = cc
 first_due : IsDue setting (front_at setting events [])
 first_due = record { command = _; is = refl; answered = refl; not_closing = refl; runs = refl; triggered = omega arith }
 
-pub entries_stand : Each (StandsBehind setting events) [] journal
-entries_stand = (
-  (first_due, refl),
-  (
-    (refl, installs),
-    (
-      (moves refl refl refl refl refl tt, tt),
-      (
-        moves refl refl refl refl refl tt,
-        (
-          (moves refl refl refl refl refl tt, tt),
-          (
-            (moves refl refl refl refl refl tt, (refl, refl)),
-            (
-              (moves refl refl refl refl refl tt, record { by = 1; other = refl; holds = refl }),
-              (
-                (moves refl refl refl refl refl tt, (refl, (tt, (tt, tt)))),
-                (
-                  moves refl refl refl refl refl tt,
-                  (
-                    moves refl refl refl refl refl tt,
-                    (
-                      (moves refl refl refl refl refl tt, refl),
-                      (
-                        (moves refl refl refl refl refl tt, refl),
-                        (
-                          (moves refl refl refl refl refl tt, (refl, refl)),
-                          (
-                            (moves refl refl refl refl refl tt, (_, refl, refl)),
-                            (
-                              (moves refl refl refl refl refl tt, (refl, (tt, (tt, tt)))),
-                              (
-                                moves refl refl refl refl refl tt,
-                                (
-                                  moves refl refl refl refl refl tt,
-                                  (
-                                    (moves refl refl refl refl refl tt, refl),
-                                    (
-                                      (moves refl refl refl refl refl tt, refl),
-                                      (
-                                        (moves refl refl refl refl refl tt, refl),
-                                        (
-                                          moves refl refl refl refl refl tt,
-                                          (
-                                            moves refl refl refl refl refl tt,
-                                            (
-                                              moves refl refl refl refl refl tt,
-                                              (
-                                                (moves refl refl refl refl refl tt, refl),
-                                                (
-                                                  (refl, (refl, (omega arith, (refl, (all_ended, nothing_due _ refl))))),
-                                                  tt,
-                                                ),
-                                              ),
-                                            ),
-                                          ),
-                                        ),
-                                      ),
-                                    ),
-                                  ),
-                                ),
-                              ),
-                            ),
-                          ),
-                        ),
-                      ),
-                    ),
-                  ),
-                ),
-              ),
-            ),
-          ),
-        ),
-      ),
-    ),
-  ),
-)
+pub entries_follow : Each (FollowsBehind setting events) [] journal
+entries_follow =
+    behind (first_due, refl) (behind (refl, installs) (behind (moves refl refl refl refl refl tt, tt) (behind (moves refl refl refl refl refl tt, tt) (behind (moves refl refl refl refl refl tt, tt) (behind (moves refl refl refl refl refl tt, refl)
+    (behind (moves refl refl refl refl refl tt, record { by = 1; other = refl; holds = refl }) (behind (moves refl refl refl refl refl tt, (tt, (tt, tt))) (behind (moves refl refl refl refl refl tt, tt) (behind (moves refl refl refl refl refl tt, tt)
+    (behind (moves refl refl refl refl refl tt, tt) (behind (moves refl refl refl refl refl tt, tt) (behind (moves refl refl refl refl refl tt, refl) (behind (moves refl refl refl refl refl tt, (_, refl, refl)) (behind (moves refl refl refl refl refl tt, (tt, (tt, tt))) (behind (moves refl refl refl refl refl tt, tt)
+    (behind (moves refl refl refl refl refl tt, tt) (behind (moves refl refl refl refl refl tt, tt) (behind (moves refl refl refl refl refl tt, tt) (behind (moves refl refl refl refl refl tt, tt) (behind (moves refl refl refl refl refl tt, tt) (behind (moves refl refl refl refl refl tt, tt) (behind (moves refl refl refl refl refl tt, tt)
+    (behind (moves refl refl refl refl refl tt, tt) (behind (refl, (refl, (omega arith, (refl, (all_ended, nothing_due _ refl))))) tt))))))))))))))))))))))))
 
 main_traced : IsTraced adds 1 [] (deed 5 begin ∷ deed 6 (spawn 2 0 []) ∷ deed 7 (read 0 (pos 0)) ∷ deed 7 (write 0 (pos 1)) ∷ deed 8 (join 2)
     ∷ deed 9 (read 0 (pos 2)) ∷ deed 9 (print (pos 2)) ∷ deed 5 end ∷ [])
@@ -379,7 +311,7 @@ lawful = record {
   tells = refl;
   run = run;
   parts = all_parts;
-  stands = each_one (StandsBehind setting events) journal entries_stand;
+  follows = each_one (FollowsBehind setting events) journal entries_follow;
 }
 
 -- Without the enter before the watched line these are no entries of thread 1, and the journal isn't lawful
@@ -416,13 +348,13 @@ bare_is_unlawful h =
 
 -- No thread makes `Blocked` twice behind each other, and nothing of an order begins before what it follows
 
-pub not_twice : (p : Source) (z : Walk) (l : ℕ) (what : What) (rest : List Item) → MayStand p (after_op p (plans setting) z (blocked what)) (makes l (blocked what)) rest → ⊥
+pub not_twice : (p : Source) (z : Walk) (l : ℕ) (what : What) (rest : List Item) → MayStand p (after_operation p (plans setting) z (blocked what)) (makes l (blocked what)) rest → ⊥
 not_twice p z l what rest h =
     let bad : true ≡ false = h.not_yet in
     cc
 
-pub not_before : (k n m : ℕ) → Follows [] k (Some (n, suc m)) → ⊥
+pub not_before : (k n m : ℕ) → HasCompletions [] k (Some (n, suc m)) → ⊥
 not_before k n m h = omega arith
 
-pub not_unposted : (k n m : ℕ) → Posted [] k (Some (n, suc m)) → ⊥
+pub not_unposted : (k n m : ℕ) → HasPosts [] k (Some (n, suc m)) → ⊥
 not_unposted k n m h = omega arith

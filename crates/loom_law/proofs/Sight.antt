@@ -1,16 +1,17 @@
 -- What a filter would see along a course fits it: events under way are those of open statements, and regions were entered on the path of their frame.
-use Rattle.std.proofs.Common.{ℕ, ◌≡◌, ◌⊎◌, inl, inr, not, Bool, true, false, List, [], ◌∷◌, ◌++◌, slice_get, Option, Some, None, refl, sym, ap, subst, ◌∙◌}
+use Rattle.loom_law.specs.Walk.{Queue}
+use Rattle.std.proofs.Common.{ℕ, ◌≡◌, ◌⊎◌, inl, inr, not, Bool, true, false, List, [], ◌∷◌, ◌++◌, slice_get, Option, Some, None, refl, sym, ap, subst, ◌∙◌, if◌then◌else◌}
 use Rattle.std.specs.List.{Contains, filter}
 use Rattle.std.proofs.lemmas.List.Elements.{Contains-append_left, Contains-append_cases}
 use Rattle.loom_tree.specs.Tree.{Body, simple, if_, while_, Function, Source}
 use Rattle.loom_tree.specs.Tree as tree
 use Rattle.loom_lang.specs.Trace.{Locals}
-use Rattle.loom_law.specs.Filter.{Site, statement, function, Watch, Range, between, whole, Plan, matching, share, entries_of, exits_of}
-use Rattle.loom_law.specs.Watch.{Watched, Seen, all_ranges, with_events, beginning, completing, complete, opening, others_of, leaving_of}
+use Rattle.loom_law.specs.Filter.{Site, statement, function, Watch, Range, between, whole, Plan, matching, share, entry_events, exit_events}
+use Rattle.loom_law.specs.View.{FrameView, View, all_ranges, with_events, with_begun, with_complete, with_all_complete, with_statement, first_frame, other_frames, is_empty}
 use Rattle.loom_law.specs.Paths.{Node, links_of, statements, others, Begins, watch_at, IsExit, Halts, Comes, here, goes}
 use Rattle.loom_law.specs.Paths as path
 use Rattle.loom_law.proofs.Course.{Level, Course, AreNone, OnFirst, Follows, IsNested, AllReturn, IsLoop, IsCalledFrom, moved, at_level, no_member, contains_cases}
-use Rattle.loom_law.proofs.Matched.{Watches, filter_member, shared_one, one_shared, matches_statement, matches_function, untested_matches}
+use Rattle.loom_law.proofs.Matches.{Watches, filter_member, shared_one, one_shared, matches_statement, matches_function, untested_matches}
 
 -- A filter's regions between events watch lines, its other regions functions, and an event that watches a function is a region.
 
@@ -82,11 +83,11 @@ abbrev pub FitsRange : Plan → Level → Range → Type 0
 FitsRange f x (between es xs) = IsOnPath f x es xs
 FitsRange f x (whole n) = IsInWhole f x n
 
-pub record Fits (f : Plan) (x : Level) (y : Watched) : Type 0 where
+pub record Fits (f : Plan) (x : Level) (y : FrameView) : Type 0 where
   pub under : FitsUnder f x.func x.opened y.under_way
   pub inside : (r : Range) → Contains y.inside r → FitsRange f x r
 
-abbrev pub AreFit : Plan → List Level → List Watched → Type 0
+abbrev pub AreFit : Plan → List Level → List FrameView → Type 0
 AreFit f [] [] = Unit {0}
 AreFit f [] (y ∷ ys) = ⊥
 AreFit f (x ∷ xs) [] = ⊥
@@ -112,26 +113,26 @@ Knows f [] nss = Unit {0}
 Knows f (b ∷ bs) [] = ⊥
 Knows f (b ∷ bs) (ns ∷ nss) = ((l n : ℕ) → Begins b l → watch_at f n ≡ Some (record { site = statement l; test = None }) → Contains ns n) × Knows f bs nss
 
-abbrev pub AreKnown : Plan → List Level → List Watched → Type 0
+abbrev pub AreKnown : Plan → List Level → List FrameView → Type 0
 AreKnown f [] ys = Unit {0}
 AreKnown f (x ∷ xs) [] = ⊥
 AreKnown f (x ∷ xs) (y ∷ ys) = Knows f x.opened y.under_way × AreKnown f xs ys
 
 -- of a frame that has just begun nothing is seen yet
-abbrev pub IsFresh : List Level → List Watched → Type 0
+abbrev pub IsFresh : List Level → List FrameView → Type 0
 IsFresh [] ys = Unit {0}
 IsFresh (x ∷ xs) [] = ⊥
 IsFresh (x ∷ xs) (y ∷ ys) = x.node ≡ None → y ≡ record { under_way = [] ∷ []; inside = [] }
 
-abbrev pub AreLeaving : Plan → List Level → List Watched → Type 0
+abbrev pub AreLeaving : Plan → List Level → List FrameView → Type 0
 AreLeaving f gone [] = Unit {0}
 AreLeaving f [] (y ∷ ys) = ⊥
 AreLeaving f (x ∷ xs) (y ∷ ys) = Fits f x y × (ys ≡ [])
 
-pub record Sees (f : Plan) (s : Course) (w : Seen) : Type 0 where
+pub record Sees (f : Plan) (s : Course) (w : View) : Type 0 where
   pub fits : AreFit f s.levels w.frames
   pub here : AreHere f s.levels w.here
-  pub knows : AreKnown f s.levels (beginning f w.here w.frames)
+  pub knows : AreKnown f s.levels (with_begun f w.here w.frames)
   pub fresh : IsFresh s.levels w.frames
   pub leaving : AreLeaving f s.gone w.leaving
 
@@ -188,7 +189,7 @@ same_member n j ms b (inl same) =
 same_member n j ms b (inr none) = absurd (no_member j none)
 
 begun_range : (p : Source) (f : Plan) (g : ℕ) (fn : Function) (m : Option Node) (os : List Body) (ms : List ℕ) (r : Range) → IsWellSited f
-    → AreOpened fn os → FitsNode fn m os → ((n : ℕ) → Contains ms n → MatchesAt f g m os n) → Contains (all_ranges f) r → share (entries_of r) ms ≡ true
+    → AreOpened fn os → FitsNode fn m os → ((n : ℕ) → Contains ms n → MatchesAt f g m os n) → Contains (all_ranges f) r → share (entry_events r) ms ≡ true
     → FitsRange f (record { func = g; function = fn; node = m; opened = os }) r
 begun_range p f g fn m os ms (between es xs) well open_ k h c t =
     let one = shared_one es ms t in
@@ -244,22 +245,22 @@ begun_range p f g fn m os ms (whole n) well open_ k h c t =
     by_node (Some path.leaves) os' a = absurd a
 
 -- what has begun here fits too
-pub begun_fits : (p : Source) (f : Plan) (ls : List Level) (ns : List ℕ) (ys : List Watched) → IsWellSited f → AreGood p ls → AreHere f ls ns → AreFit f ls ys
-    → AreFit f ls (beginning f ns ys)
+pub begun_fits : (p : Source) (f : Plan) (ls : List Level) (ns : List ℕ) (ys : List FrameView) → IsWellSited f → AreGood p ls → AreHere f ls ns → AreFit f ls ys
+    → AreFit f ls (with_begun f ns ys)
 begun_fits p f [] ns [] well good h fit = tt
 begun_fits p f [] ns (y ∷ ys) well good h fit = absurd fit
 begun_fits p f (x ∷ xs) ns [] well good h fit = absurd fit
 begun_fits p f (x ∷ xs) ns (y ∷ ys) well good h fit = (
   record {
     under = begun_under f x.func x.function x.node x.opened ns y.under_way good.0.node h fit.0.under;
-    inside = (λ r c. by_cases r (Contains-append_cases (filter (λ q. share (entries_of q) ns) (all_ranges f)) y.inside r c));
+    inside = (λ r c. by_cases r (Contains-append_cases (filter (λ q. share (entry_events q) ns) (all_ranges f)) y.inside r c));
   },
   fit.1,
 )
   where
-    by_cases : (r : Range) → Contains (filter (λ q. share (entries_of q) ns) (all_ranges f)) r ⊎ Contains y.inside r → FitsRange f x r
+    by_cases : (r : Range) → Contains (filter (λ q. share (entry_events q) ns) (all_ranges f)) r ⊎ Contains y.inside r → FitsRange f x r
     by_cases r (inl c) =
-        let m = filter_member (λ q. share (entries_of q) ns) (all_ranges f) r c in
+        let m = filter_member (λ q. share (entry_events q) ns) (all_ranges f) r c in
         begun_range p f x.func x.function x.node x.opened ns r well good.0.opened good.0.node h m.1 m.0
     by_cases r (inr c) = fit.0.inside r c
 
@@ -274,7 +275,7 @@ knows_again f [] nss k = tt
 knows_again f (b ∷ bs) [] k = k
 knows_again f (b ∷ bs) (ns ∷ nss) k = k
 
-pub known_again : (f : Plan) (ls : List Level) (ys : List Watched) → AreKnown f ls ys → AreKnown f ls (beginning f [] ys)
+pub known_again : (f : Plan) (ls : List Level) (ys : List FrameView) → AreKnown f ls ys → AreKnown f ls (with_begun f [] ys)
 known_again f [] ys k = tt
 known_again f (x ∷ xs) [] k = k
 known_again f (x ∷ xs) (y ∷ ys) k = (knows_again f x.opened y.under_way k.0, k.1)
@@ -291,7 +292,7 @@ loop_begins (simple n s rest) l h = absurd h
 loop_begins (if_ n e x y rest) l h = absurd h
 loop_begins (while_ n e x rest) l h = h
 
-pub range_moves : (f : Plan) (x : Level) (n : Node) (os : List Body) (r : Range) → Follows x.function x.node n → (Halts f (exits_of r) n → ⊥) → FitsRange f x r
+pub range_moves : (f : Plan) (x : Level) (n : Node) (os : List Body) (r : Range) → Follows x.function x.node n → (Halts f (exit_events r) n → ⊥) → FitsRange f x r
     → FitsRange f (moved x n os) r
 range_moves f x n os (between es xs) fol halts h =
     let P : Option Node → Type 0 = λ z. Follows x.function z n in
@@ -310,9 +311,9 @@ range_moves f x n os (between es xs) fol halts h =
     }
 range_moves f x n os (whole m) fol halts h = record { region = h.region; watches = h.watches }
 
-pub begins_seen : (f : Plan) (x : Level) (xs : List Level) (l : ℕ) (env : Locals) (b : Body) (ys : List Watched) → Begins b l → Follows x.function x.node (path.begins l)
+pub begins_seen : (f : Plan) (x : Level) (xs : List Level) (l : ℕ) (env : Locals) (b : Body) (ys : List FrameView) → Begins b l → Follows x.function x.node (path.begins l)
     → AreFit f (x ∷ xs) ys → AreKnown f (x ∷ xs) ys
-    → Sees f (at_level (moved x (path.begins l) (b ∷ x.opened)) xs) (record { frames = opening ys; leaving = []; here = matching f (statement l) env })
+    → Sees f (at_level (moved x (path.begins l) (b ∷ x.opened)) xs) (record { frames = with_statement ys; leaving = []; here = matching f (statement l) env })
 begins_seen f x xs l env b [] begun fol fit k = absurd fit
 begins_seen f x xs l env b (y ∷ ys) begun fol fit k = record {
   fits = (
@@ -340,26 +341,26 @@ not_both false n y = cc
 abbrev lv : ℕ → Function → Option Node → List Body → Level
 lv g fn m os = record { func = g; function = fn; node = m; opened = os }
 
-done_fits : (f : Plan) (g : ℕ) (fn : Function) (m : Option Node) (b : Body) (bs : List Body) (l : ℕ) (y : Watched) (nss : List (List ℕ)) → Begins b l
+done_fits : (f : Plan) (g : ℕ) (fn : Function) (m : Option Node) (b : Body) (bs : List Body) (l : ℕ) (y : FrameView) (nss : List (List ℕ)) → Begins b l
     → Follows fn m (path.complete l) → FitsUnder f g (b ∷ bs) nss → Knows f (b ∷ bs) nss → ((r : Range) → Contains y.inside r → FitsRange f (lv g fn m (b ∷ bs)) r)
-    → Fits f (lv g fn (Some (path.complete l)) bs) (completing nss y) × Knows f bs (with_events [] (Watched.under_way (completing nss y)))
+    → Fits f (lv g fn (Some (path.complete l)) bs) (with_complete nss y) × Knows f bs (with_events [] (FrameView.under_way (with_complete nss y)))
 done_fits f g fn m b bs l y [] begun fol u k h = absurd u
 done_fits f g fn m b bs l y (ns ∷ nss) begun fol u k h =
-    (record { under = u.1; inside = (λ r c. left_or_stays r (filter_member (λ q. not (share (exits_of q) ns)) y.inside r c)) }, knows_again f bs nss k.1)
+    (record { under = u.1; inside = (λ r c. left_or_stays r (filter_member (λ q. not (share (exit_events q) ns)) y.inside r c)) }, knows_again f bs nss k.1)
   where
-    left_or_stays : (r : Range) → (not (share (exits_of r) ns) ≡ true) × Contains y.inside r → FitsRange f (lv g fn (Some (path.complete l)) bs) r
+    left_or_stays : (r : Range) → (not (share (exit_events r) ns) ≡ true) × Contains y.inside r → FitsRange f (lv g fn (Some (path.complete l)) bs) r
     left_or_stays r c = range_moves f (lv g fn m (b ∷ bs)) (path.complete l) bs r fol
-        (λ (e : IsExit f (exits_of r) l). not_both (share (exits_of r) ns) c.0 (one_shared (exits_of r) ns e.event e.one (k.0 l e.event begun e.is))) (h r c.1)
+        (λ (e : IsExit f (exit_events r) l). not_both (share (exit_events r) ns) c.0 (one_shared (exit_events r) ns e.event e.one (k.0 l e.event begun e.is))) (h r c.1)
 
-pub done_seen : (f : Plan) (g : ℕ) (fn : Function) (m : Option Node) (b : Body) (bs : List Body) (xs : List Level) (l : ℕ) (ys : List Watched) → Begins b l
+pub done_seen : (f : Plan) (g : ℕ) (fn : Function) (m : Option Node) (b : Body) (bs : List Body) (xs : List Level) (l : ℕ) (ys : List FrameView) → Begins b l
     → Follows fn m (path.complete l) → AreFit f (lv g fn m (b ∷ bs) ∷ xs) ys → AreKnown f (lv g fn m (b ∷ bs) ∷ xs) ys
-    → Sees f (at_level (lv g fn (Some (path.complete l)) bs) xs) (record { frames = complete ys; leaving = []; here = [] })
+    → Sees f (at_level (lv g fn (Some (path.complete l)) bs) xs) (record { frames = with_all_complete ys; leaving = []; here = [] })
 done_seen f g fn m b bs xs l [] begun fol fit k = absurd fit
 done_seen f g fn m b bs xs l (y ∷ ys) begun fol fit k =
     let d = done_fits f g fn m b bs l y y.under_way begun fol fit.0.under k.0 fit.0.inside in
     record { fits = (d.0, fit.1); here = (λ n c. absurd (no_member n c)); knows = (d.1, k.1); fresh = (λ e. cc); leaving = tt }
 
-pub edge_seen : (f : Plan) (g : ℕ) (fn : Function) (m : Option Node) (os : List Body) (xs : List Level) (l : ℕ) (ys : List Watched)
+pub edge_seen : (f : Plan) (g : ℕ) (fn : Function) (m : Option Node) (os : List Body) (xs : List Level) (l : ℕ) (ys : List FrameView)
     → Follows fn m (path.turns l) → AreFit f (lv g fn m os ∷ xs) ys → AreKnown f (lv g fn m os ∷ xs) ys
     → Sees f (at_level (lv g fn (Some (path.turns l)) os) xs) (record { frames = ys; leaving = []; here = [] })
 edge_seen f g fn m os xs l [] fol fit k = absurd fit
@@ -371,7 +372,7 @@ edge_seen f g fn m os xs l (y ∷ ys) fol fit k = record {
   leaving = tt;
 }
 
-pub enter_seen : (f : Plan) (h : ℕ) (fn : Function) (env : Locals) (ls : List Level) (ys : List Watched) → AreFit f ls ys → AreKnown f ls ys
+pub enter_seen : (f : Plan) (h : ℕ) (fn : Function) (env : Locals) (ls : List Level) (ys : List FrameView) → AreFit f ls ys → AreKnown f ls ys
     → Sees f (at_level (lv h fn None []) ls) (record { frames = record { under_way = [] ∷ []; inside = [] } ∷ ys; leaving = []; here = matching f (function (Some h)) env })
 enter_seen f h fn env ls ys fit k = record {
   fits = (record { under = (λ n c. absurd (no_member n c)); inside = (λ r c. absurd (no_member r c)) }, fit);
@@ -381,7 +382,7 @@ enter_seen f h fn env ls ys fit k = record {
   leaving = tt;
 }
 
-caller_not_fresh : (p : Source) (f : Plan) (xs : List Level) (h : ℕ) (ys : List Watched) → IsCalledFrom p xs h → AreFit f xs ys → IsFresh xs ys
+caller_not_fresh : (p : Source) (f : Plan) (xs : List Level) (h : ℕ) (ys : List FrameView) → IsCalledFrom p xs h → AreFit f xs ys → IsFresh xs ys
 caller_not_fresh p f [] h ys c fit = tt
 caller_not_fresh p f (x ∷ xs) h [] c fit = absurd fit
 caller_not_fresh p f (x ∷ xs) h (y ∷ ys) c fit = λ e. none_is_some (sym e ∙ c.node)
@@ -389,8 +390,8 @@ caller_not_fresh p f (x ∷ xs) h (y ∷ ys) c fit = λ e. none_is_some (sym e �
     none_is_some : None ≡ Some (path.begins c.line) → y ≡ record { under_way = [] ∷ []; inside = [] }
     none_is_some e = cc
 
-pub out_seen : {A : Type 0} (p : Source) (f : Plan) (x : Level) (xs : List Level) (ys : List Watched) (os : List A) → IsCalledFrom p xs x.func → AreFit f (x ∷ xs) ys
-    → AreKnown f (x ∷ xs) ys → Sees f (record { levels = xs; gone = x ∷ [] }) (record { frames = others_of ys; leaving = leaving_of os ys; here = [] })
+pub out_seen : (p : Source) (f : Plan) (x : Level) (xs : List Level) (ys : List FrameView) (os : Queue) → IsCalledFrom p xs x.func → AreFit f (x ∷ xs) ys
+    → AreKnown f (x ∷ xs) ys → Sees f (record { levels = xs; gone = x ∷ [] }) (record { frames = other_frames ys; leaving = if is_empty os then [] else first_frame ys; here = [] })
 out_seen p f x xs [] os c fit k = absurd fit
 out_seen p f x xs (y ∷ ys) [] c fit k = record {
   fits = fit.1;

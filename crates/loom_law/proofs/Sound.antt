@@ -1,5 +1,5 @@
 -- Unsafe places are sound.
-use Rattle.std.proofs.Common.{ℕ, ◌≡◌, ◌⊎◌, inl, inr, List, [], ◌∷◌, ◌++◌, slice_get, Option, Some, None, refl, sym, ap, subst, ◌∙◌}
+use Rattle.std.proofs.Common.{ℕ, ◌≡◌, ◌⊎◌, inl, inr, List, [], ◌∷◌, ◌++◌, slice_get, Option, Some, None, refl, sym, ap, subst, ◌∙◌, if◌then◌else◌}
 use Rattle.std.specs.List.{Contains}
 use Rattle.std.proofs.lemmas.List.Elements.{Contains-append_left, Contains-append_right}
 use Rattle.loom_tree.specs.Tree.{Body, Function, Source}
@@ -7,26 +7,26 @@ use Rattle.loom_lang.specs.Places.{Place, body_places}
 use Rattle.loom_lang.specs.Places as place
 use Rattle.loom_lang.specs.Trace.{Locals, begin, end, trap, read, write, lock, unlock, down, up, spawn, join, print, Item, made, begins, done, edge, enter, out}
 use Rattle.loom_law.specs.Filter.{Plan, statement, matching}
-use Rattle.loom_law.specs.Walk.{Version, Plans, Op, wait, enters, at, past, post, leave, back, tick, cross, blocked, Step, goes, makes, items, Begun, Frame, Spot, elsewhere, beginning, entered, complete, left, trapped, Owed, Walk, unborn, in_frame, opened, closed, completed, without_first, taking, entered_journal, after_item, noted, noted_at, begun_at, left_behind, frames_without, spot_without, crossing, after_op, walked, innermost, resting, place_of_next}
-use Rattle.loom_law.specs.Watch as watch
-use Rattle.loom_law.specs.Watch.{Watched, Seen, nothing_seen, settled, seen_item, seen_step, seen_from, where_all_made, IsClear}
+use Rattle.loom_law.specs.Walk.{Version, Plans, Operation, wait, enters, at, past, post, leave, back, tick, cross, blocked, Step, goes, makes, items, OpenStatement, OpenFrame, Spot, elsewhere, beginning, entered, complete, left, trapped, Queue, Walk, unborn, in_frame, opened, closed, completed, without_first, taking, behind_entry, after_item, noted, noted_at, begun_at, left_behind, frames_without, spot_without, crossing, after_operation, walked, innermost, place_of_request, place_of_next}
+use Rattle.loom_law.specs.View as view
+use Rattle.loom_law.specs.View.{FrameView, View, nothing_seen, settled, seen_item, seen_step, seen_from, IsClear}
 use Rattle.loom_law.specs.Paths.{Node, statements, Begins, places_in, places_of, IsUnsafe, Halts, node_places}
 use Rattle.loom_law.specs.Paths as path
-use Rattle.loom_law.specs.Part.{Own, led, Point, IsPlaceOf}
+use Rattle.loom_law.specs.Part.{led}
 use Rattle.loom_law.specs.Laws.{IsSound}
-use Rattle.loom_law.proofs.Course.{CallsToLocals, none_gone, Level, Course, over, AreNone, OnFirst, Follows, IsWithin, Acts, IsNested, AllReturn, IsLoop, moved, at_level, Runs, IsCourse, contains_first, contains_later, trace_is_course}
+use Rattle.loom_law.proofs.Course.{Level, Course, no_frames, AreNone, OnFirst, Follows, IsWithin, Acts, IsNested, AllReturn, IsLoop, moved, at_level, Runs, IsCourse, contains_first, contains_later, trace_is_course}
 use Rattle.loom_law.proofs.Sight.{IsWellSited, FitsNode, IsGood, AreGood, AreGone, AreFit, AreKnown, IsFresh, AreLeaving, Sees, begun_fits, none_here, known_again, one_line, loop_begins, begins_seen, done_seen, edge_seen, enter_seen, out_seen}
 use Rattle.loom_law.proofs.Unsafe.{statement_places, own_place, loop_place, others_in, AreRound, IsHere, IsClearOf, own_clear, reached_first, AreClear, below_clear, all_clear, clear_append, none_inside, none_under_way}
 
 -- The walk has the frames of the course
 
-abbrev pub SameLines : List Body → List Begun → Type 0
+abbrev pub SameLines : List Body → List OpenStatement → Type 0
 SameLines [] [] = Unit {0}
 SameLines [] (s ∷ ss) = ⊥
 SameLines (b ∷ bs) [] = ⊥
 SameLines (b ∷ bs) (s ∷ ss) = Begins b s.line × SameLines bs ss
 
-abbrev pub SameFrames : List Level → List Frame → Type 0
+abbrev pub SameFrames : List Level → List OpenFrame → Type 0
 SameFrames [] [] = Unit {0}
 SameFrames [] (z ∷ zs) = ⊥
 SameFrames (x ∷ xs) [] = ⊥
@@ -45,7 +45,7 @@ FitsSpot ls gone (left h is) = OnFirst gone (λ (x : Level) xs. h ≡ x.func)
 FitsSpot ls gone (trapped l) = AreNone ls × AreNone gone
 
 -- the thread is there in the tree, and the filter sees of it what fits
-pub record Is (p : Source) (f : Plan) (s : Course) (z : Walk) (w : Seen) : Type 0 where
+pub record Is (p : Source) (f : Plan) (s : Course) (z : Walk) (w : View) : Type 0 where
   pub good : AreGood p s.levels
   pub gone : AreGone p s.levels s.gone
   pub sees : Sees f s w
@@ -54,15 +54,15 @@ pub record Is (p : Source) (f : Plan) (s : Course) (z : Walk) (w : Seen) : Type 
 
 -- Items
 
-none_fit : (f : Plan) (ls : List Level) (ys : List Watched) → AreNone ls → AreFit f ls ys → AreFit f [] ys
+none_fit : (f : Plan) (ls : List Level) (ys : List FrameView) → AreNone ls → AreFit f ls ys → AreFit f [] ys
 none_fit f [] ys n h = h
 none_fit f (x ∷ xs) ys n h = absurd n
 
-none_same : (ls : List Level) (zs : List Frame) → AreNone ls → SameFrames ls zs → SameFrames [] zs
+none_same : (ls : List Level) (zs : List OpenFrame) → AreNone ls → SameFrames ls zs → SameFrames [] zs
 none_same [] zs n h = h
 none_same (x ∷ xs) zs n h = absurd n
 
-nothing_sees : (f : Plan) → Sees f over nothing_seen
+nothing_sees : (f : Plan) → Sees f no_frames nothing_seen
 nothing_sees f = record { fits = tt; here = tt; knows = tt; fresh = tt; leaving = tt }
 
 taking_frames : (ls : List Level) (z : Walk) (vs : List Version) → SameFrames ls z.frames → SameFrames ls (Walk.frames (taking z vs))
@@ -77,7 +77,7 @@ within_not_none : (m : Option Node) (l : ℕ) → IsWithin m l → m ≡ None �
 within_not_none None l h e = h
 within_not_none (Some n) l h e = cc
 
-acts_not_fresh : (f : Plan) (ls : List Level) (l : ℕ) (ys : List Watched) → Acts ls l → AreFit f ls ys → IsFresh ls ys
+acts_not_fresh : (f : Plan) (ls : List Level) (l : ℕ) (ys : List FrameView) → Acts ls l → AreFit f ls ys → IsFresh ls ys
 acts_not_fresh f [] l ys a h = absurd a
 acts_not_fresh f (x ∷ xs) l [] a h = absurd h
 acts_not_fresh f (x ∷ xs) l (y ∷ ys) a h = λ e. absurd (within_not_none x.node l a.0 e)
@@ -86,11 +86,11 @@ acts_top : (ls : List Level) (l : ℕ) → Acts ls l → TopActs ls
 acts_top [] l a = tt
 acts_top (x ∷ xs) l a = (l, a.0)
 
-abbrev now : Plan → Seen → List Watched
-now f w = watch.beginning f w.here w.frames
+abbrev now : Plan → View → List FrameView
+now f w = view.with_begun f w.here w.frames
 
-act_keeps : (p : Source) (f : Plan) (s : Course) (z : Walk) (w : Seen) (l : ℕ) → IsWellSited f → Is p f s z w → Acts s.levels l
-    → Is p f (record s { gone = [] }) (entered_journal z) (settled f w)
+act_keeps : (p : Source) (f : Plan) (s : Course) (z : Walk) (w : View) (l : ℕ) → IsWellSited f → Is p f s z w → Acts s.levels l
+    → Is p f (record s { gone = [] }) (behind_entry z) (settled f w)
 act_keeps p f s z w l well is a =
     let fit : AreFit f s.levels (now f w) = begun_fits p f s.levels w.here w.frames well is.good is.sees.here is.sees.fits in
     record {
@@ -107,38 +107,38 @@ act_keeps p f s z w l well is a =
       spot = (tt, acts_top s.levels l a);
     }
 
-same_begins : (x : Level) (xs : List Level) (zs : List Frame) (l : ℕ) (b : Body) → Begins b l → SameFrames (x ∷ xs) zs
+same_begins : (x : Level) (xs : List Level) (zs : List OpenFrame) (l : ℕ) (b : Body) → Begins b l → SameFrames (x ∷ xs) zs
     → SameFrames (moved x (path.begins l) (b ∷ x.opened) ∷ xs) (in_frame (opened l) zs)
 same_begins x xs [] l b begun h = absurd h
 same_begins x xs (z ∷ zs) l b begun h = (h.0, ((begun, h.1.0), h.1.1))
 
-same_rest : (b : Body) (bs : List Body) (ss : List Begun) → SameLines (b ∷ bs) ss → SameLines bs (without_first ss)
+same_rest : (b : Body) (bs : List Body) (ss : List OpenStatement) → SameLines (b ∷ bs) ss → SameLines bs (without_first ss)
 same_rest b bs [] h = absurd h
 same_rest b bs (s ∷ ss) h = h.1
 
 abbrev lv : ℕ → Function → Option Node → List Body → Level
 lv g fn m os = record { func = g; function = fn; node = m; opened = os }
 
-same_done : (g : ℕ) (fn : Function) (m n : Option Node) (b : Body) (bs : List Body) (xs : List Level) (zs : List Frame) → SameFrames (lv g fn m (b ∷ bs) ∷ xs) zs
+same_done : (g : ℕ) (fn : Function) (m n : Option Node) (b : Body) (bs : List Body) (xs : List Level) (zs : List OpenFrame) → SameFrames (lv g fn m (b ∷ bs) ∷ xs) zs
     → SameFrames (lv g fn n bs ∷ xs) (in_frame closed zs)
 same_done g fn m n b bs xs [] h = absurd h
 same_done g fn m n b bs xs (z ∷ zs) h = (h.0, (same_rest b bs z.statements h.1.0, h.1.1))
 
-same_edge : (g : ℕ) (fn : Function) (m n : Option Node) (os : List Body) (xs : List Level) (zs : List Frame) → SameFrames (lv g fn m os ∷ xs) zs → SameFrames (lv g fn n os ∷ xs) zs
+same_edge : (g : ℕ) (fn : Function) (m n : Option Node) (os : List Body) (xs : List Level) (zs : List OpenFrame) → SameFrames (lv g fn m os ∷ xs) zs → SameFrames (lv g fn n os ∷ xs) zs
 same_edge g fn m n os xs [] h = absurd h
 same_edge g fn m n os xs (z ∷ zs) h = h
 
-same_out : (x : Level) (xs : List Level) (zs : List Frame) → SameFrames (x ∷ xs) zs → SameFrames xs (without_first zs)
+same_out : (x : Level) (xs : List Level) (zs : List OpenFrame) → SameFrames (x ∷ xs) zs → SameFrames xs (without_first zs)
 same_out x xs [] h = absurd h
 same_out x xs (z ∷ zs) h = h.1.1
 
 -- where an item leads to
-abbrev Leads : Source → Plan → (Course → Type 0) → Walk → Seen → Type 0
+abbrev Leads : Source → Plan → (Course → Type 0) → Walk → View → Type 0
 Leads p f P z w = (s : Course) × (P s × Is p f s z w)
 
-begins_keeps : (p : Source) (plans : Plans) (f : Plan) (ls : List Level) (z : Walk) (ys : List Watched) (l : ℕ) (env : Locals) (P : Course → Type 0) → AreGood p ls
+begins_keeps : (p : Source) (plans : Plans) (f : Plan) (ls : List Level) (z : Walk) (ys : List FrameView) (l : ℕ) (env : Locals) (P : Course → Type 0) → AreGood p ls
     → SameFrames ls z.frames → AreFit f ls ys → AreKnown f ls ys → Runs p (record { levels = ls; gone = [] }) (begins l env) P
-    → Leads p f P (after_item p plans z (begins l env)) (record { frames = watch.opening ys; leaving = []; here = matching f (statement l) env })
+    → Leads p f P (after_item p plans z (begins l env)) (record { frames = view.with_statement ys; leaving = []; here = matching f (statement l) env })
 begins_keeps p plans f [] z ys l env P good same fit k r = absurd r
 begins_keeps p plans f (x ∷ xs) z ys l env P good same fit k (b, (begun, (there, (fol, done_there)))) = (
   at_level (moved x (path.begins l) (b ∷ x.opened)) xs,
@@ -154,10 +154,10 @@ begins_keeps p plans f (x ∷ xs) z ys l env P good same fit k (b, (begun, (ther
   ),
 )
 
-done_keeps : (p : Source) (plans : Plans) (f : Plan) (g : ℕ) (fn : Function) (m : Option Node) (os : List Body) (xs : List Level) (z : Walk) (ys : List Watched) (l : ℕ)
+done_keeps : (p : Source) (plans : Plans) (f : Plan) (g : ℕ) (fn : Function) (m : Option Node) (os : List Body) (xs : List Level) (z : Walk) (ys : List FrameView) (l : ℕ)
     (P : Course → Type 0) → AreGood p (lv g fn m os ∷ xs) → SameFrames (lv g fn m os ∷ xs) z.frames → AreFit f (lv g fn m os ∷ xs) ys
     → AreKnown f (lv g fn m os ∷ xs) ys → Runs p (record { levels = lv g fn m os ∷ xs; gone = [] }) (done l) P
-    → Leads p f P (after_item p plans z (done l)) (record { frames = watch.complete ys; leaving = []; here = [] })
+    → Leads p f P (after_item p plans z (done l)) (record { frames = view.with_all_complete ys; leaving = []; here = [] })
 done_keeps p plans f g fn m [] xs z ys l P good same fit k r = absurd r
 done_keeps p plans f g fn m (b ∷ bs) xs z ys l P good same fit k r = (
   at_level (lv g fn (Some (path.complete l)) bs) xs,
@@ -173,28 +173,28 @@ done_keeps p plans f g fn m (b ∷ bs) xs z ys l P good same fit k r = (
   ),
 )
 
-edge_keeps : (p : Source) (plans : Plans) (f : Plan) (g : ℕ) (fn : Function) (m : Option Node) (os : List Body) (xs : List Level) (z : Walk) (ys : List Watched) (l : ℕ)
+edge_keeps : (p : Source) (plans : Plans) (f : Plan) (g : ℕ) (fn : Function) (m : Option Node) (os : List Body) (xs : List Level) (z : Walk) (ys : List FrameView) (l : ℕ)
     (P : Course → Type 0) → AreGood p (lv g fn m os ∷ xs) → SameFrames (lv g fn m os ∷ xs) z.frames → AreFit f (lv g fn m os ∷ xs) ys
     → AreKnown f (lv g fn m os ∷ xs) ys → Runs p (record { levels = lv g fn m os ∷ xs; gone = [] }) (edge l) P
     → Leads p f P (after_item p plans z (edge l)) (record { frames = ys; leaving = []; here = [] })
-edge_keeps p plans f g fn m [] xs z ys l P good same fit k r = absurd r.1
+edge_keeps p plans f g fn m [] xs z ys l P good same fit k r = absurd r
 edge_keeps p plans f g fn m (b ∷ bs) xs z ys l P good same fit k r = (
   at_level (lv g fn (Some (path.turns l)) (b ∷ bs)) xs,
   (
-    r.1.1.1,
+    r.1.1,
     record {
-      good = (record { is = good.0.is; opened = good.0.opened; node = r.1.0 }, good.1);
+      good = (record { is = good.0.is; opened = good.0.opened; node = r.0 }, good.1);
       gone = tt;
-      sees = edge_seen f g fn m (b ∷ bs) xs l ys r.1.1.0 fit k;
+      sees = edge_seen f g fn m (b ∷ bs) xs l ys r.1.0 fit k;
       frames = same_edge g fn m (Some (path.turns l)) (b ∷ bs) xs z.frames same;
       spot = (tt, (l, refl));
     },
   ),
 )
 
-out_keeps : (p : Source) (plans : Plans) (f : Plan) (x : Level) (xs : List Level) (z : Walk) (ys : List Watched) (h : ℕ) (P : Course → Type 0) → AreGood p (x ∷ xs)
+out_keeps : (p : Source) (plans : Plans) (f : Plan) (x : Level) (xs : List Level) (z : Walk) (ys : List FrameView) (h : ℕ) (P : Course → Type 0) → AreGood p (x ∷ xs)
     → SameFrames (x ∷ xs) z.frames → AreFit f (x ∷ xs) ys → AreKnown f (x ∷ xs) ys → Runs p (record { levels = x ∷ xs; gone = [] }) (out h) P
-    → Leads p f P (after_item p plans z (out h)) (record { frames = watch.others_of ys; leaving = watch.leaving_of (Walk.owed (after_item p plans z (out h))) ys; here = [] })
+    → Leads p f P (after_item p plans z (out h)) (record { frames = view.other_frames ys; leaving = if view.is_empty (Walk.owed (after_item p plans z (out h))) then [] else view.first_frame ys; here = [] })
 out_keeps p plans f x xs z ys h P good same fit k r = (
   record { levels = xs; gone = x ∷ [] },
   (
@@ -213,59 +213,59 @@ nothing_gone : {A : Type 0} (xs : List A) → AreNone xs → xs ≡ []
 nothing_gone [] h = refl
 nothing_gone (x ∷ xs) h = absurd h
 
-begin_keeps : (p : Source) (f : Plan) (s : Course) (z : Walk) (w : Seen) → IsWellSited f → Is p f s z w → AreNone s.levels
-    → Is p f over (taking (entered_journal z) z.coming) (settled f w)
+begin_keeps : (p : Source) (f : Plan) (s : Course) (z : Walk) (w : View) → IsWellSited f → Is p f s z w → AreNone s.levels
+    → Is p f no_frames (taking (behind_entry z) z.coming) (settled f w)
 begin_keeps p f s z w well is n =
     let fit : AreFit f [] (now f w) = none_fit f s.levels (now f w) n (begun_fits p f s.levels w.here w.frames well is.good is.sees.here is.sees.fits) in
     record {
       good = tt;
       gone = tt;
       sees = record { fits = fit; here = tt; knows = tt; fresh = tt; leaving = tt };
-      frames = taking_frames [] (entered_journal z) z.coming (none_same s.levels z.frames n is.frames);
-      spot = taking_spot (entered_journal z) z.coming (tt, tt);
+      frames = taking_frames [] (behind_entry z) z.coming (none_same s.levels z.frames n is.frames);
+      spot = taking_spot (behind_entry z) z.coming (tt, tt);
     }
 
-fitted : (p : Source) (f : Plan) (s : Course) (z : Walk) (w : Seen) → IsWellSited f → Is p f s z w → AreFit f s.levels (now f w)
+fitted : (p : Source) (f : Plan) (s : Course) (z : Walk) (w : View) → IsWellSited f → Is p f s z w → AreFit f s.levels (now f w)
 fitted p f s z w well is = begun_fits p f s.levels w.here w.frames well is.good is.sees.here is.sees.fits
 
-pub item_keeps : (p : Source) (plans : Plans) (f : Plan) (s : Course) (z : Walk) (w : Seen) (i : Item) (P : Course → Type 0) → IsWellSited f → Is p f s z w → Runs p s i P
+pub item_keeps : (p : Source) (plans : Plans) (f : Plan) (s : Course) (z : Walk) (w : View) (i : Item) (P : Course → Type 0) → IsWellSited f → Is p f s z w → Runs p s i P
     → Leads p f P (after_item p plans z i) (seen_item f (after_item p plans z i) (settled f w) i)
-item_keeps p plans f s z w (made l begin) P well is r = (over, (r.1.1, begin_keeps p f s z w well is r.0))
+item_keeps p plans f s z w (made l begin) P well is r = (no_frames, (r.1.1, begin_keeps p f s z w well is r.0))
 item_keeps p plans f s z w (made l end) P well is r =
-    (over, (r.1, record { good = tt; gone = tt; sees = nothing_sees f; frames = none_same s.levels z.frames r.0 is.frames; spot = (tt, tt) }))
+    (no_frames, (r.1, record { good = tt; gone = tt; sees = nothing_sees f; frames = none_same s.levels z.frames r.0 is.frames; spot = (tt, tt) }))
 item_keeps p plans f s z w (made l (trap c)) P well is r =
-    (over, (r.1.1, record { good = tt; gone = tt; sees = nothing_sees f; frames = tt; spot = (tt, tt) }))
-item_keeps p plans f s z w (made l (read x v)) P well is r = (record s { gone = [] }, (r.1.1, act_keeps p f s z w l well is r.1.0))
-item_keeps p plans f s z w (made l (write x v)) P well is r = (record s { gone = [] }, (r.1.1, act_keeps p f s z w l well is r.1.0))
-item_keeps p plans f s z w (made l (lock m)) P well is r = (record s { gone = [] }, (r.1.1, act_keeps p f s z w l well is r.1.0))
-item_keeps p plans f s z w (made l (unlock m)) P well is r = (record s { gone = [] }, (r.1.1, act_keeps p f s z w l well is r.1.0))
-item_keeps p plans f s z w (made l (down x)) P well is r = (record s { gone = [] }, (r.1.1, act_keeps p f s z w l well is r.1.0))
-item_keeps p plans f s z w (made l (up x)) P well is r = (record s { gone = [] }, (r.1.1, act_keeps p f s z w l well is r.1.0))
-item_keeps p plans f s z w (made l (spawn c h vs)) P well is r = (record s { gone = [] }, (r.1.1, act_keeps p f s z w l well is r.1.0))
-item_keeps p plans f s z w (made l (join c)) P well is r = (record s { gone = [] }, (r.1.1, act_keeps p f s z w l well is r.1.0))
-item_keeps p plans f s z w (made l (print v)) P well is r = (record s { gone = [] }, (r.1.1, act_keeps p f s z w l well is r.1.0))
+    (no_frames, (r.1, record { good = tt; gone = tt; sees = nothing_sees f; frames = tt; spot = (tt, tt) }))
+item_keeps p plans f s z w (made l (read x v)) P well is r = (record s { gone = [] }, (r.1, act_keeps p f s z w l well is r.0))
+item_keeps p plans f s z w (made l (write x v)) P well is r = (record s { gone = [] }, (r.1, act_keeps p f s z w l well is r.0))
+item_keeps p plans f s z w (made l (lock m)) P well is r = (record s { gone = [] }, (r.1, act_keeps p f s z w l well is r.0))
+item_keeps p plans f s z w (made l (unlock m)) P well is r = (record s { gone = [] }, (r.1, act_keeps p f s z w l well is r.0))
+item_keeps p plans f s z w (made l (down x)) P well is r = (record s { gone = [] }, (r.1, act_keeps p f s z w l well is r.0))
+item_keeps p plans f s z w (made l (up x)) P well is r = (record s { gone = [] }, (r.1, act_keeps p f s z w l well is r.0))
+item_keeps p plans f s z w (made l (spawn c h vs)) P well is r = (record s { gone = [] }, (r.1, act_keeps p f s z w l well is r.0))
+item_keeps p plans f s z w (made l (join c)) P well is r = (record s { gone = [] }, (r.1, act_keeps p f s z w l well is r.0))
+item_keeps p plans f s z w (made l (print v)) P well is r = (record s { gone = [] }, (r.1, act_keeps p f s z w l well is r.0))
 item_keeps p plans f s z w (begins l env) P well is r =
     begins_keeps p plans f s.levels z (now f w) l env P is.good is.frames (fitted p f s z w well is) is.sees.knows r
 item_keeps p plans f s z w (done l) P well is r = on_levels s.levels is.good is.frames (fitted p f s z w well is) is.sees.knows r
   where
     on_levels : (ls : List Level) → AreGood p ls → SameFrames ls z.frames → AreFit f ls (now f w) → AreKnown f ls (now f w)
-        → Runs p (record { levels = ls; gone = [] }) (done l) P → Leads p f P (after_item p plans z (done l)) (record { frames = watch.complete (now f w); leaving = []; here = [] })
+        → Runs p (record { levels = ls; gone = [] }) (done l) P → Leads p f P (after_item p plans z (done l)) (record { frames = view.with_all_complete (now f w); leaving = []; here = [] })
     on_levels [] g same fit k r' = absurd r'
     on_levels (x ∷ xs) g same fit k r' = done_keeps p plans f x.func x.function x.node x.opened xs z (now f w) l P g same fit k r'
-item_keeps p plans f s z w (edge l) P well is r = on_levels s.levels is.good is.frames (fitted p f s z w well is) is.sees.knows (none_gone p, r.1)
+item_keeps p plans f s z w (edge l) P well is r = on_levels s.levels is.good is.frames (fitted p f s z w well is) is.sees.knows r
   where
     on_levels : (ls : List Level) → AreGood p ls → SameFrames ls z.frames → AreFit f ls (now f w) → AreKnown f ls (now f w)
         → Runs p (record { levels = ls; gone = [] }) (edge l) P → Leads p f P (after_item p plans z (edge l)) (record { frames = now f w; leaving = []; here = [] })
-    on_levels [] g same fit k r' = absurd r'.1
+    on_levels [] g same fit k r' = absurd r'
     on_levels (x ∷ xs) g same fit k r' = edge_keeps p plans f x.func x.function x.node x.opened xs z (now f w) l P g same fit k r'
 item_keeps p plans f s z w (enter h env) P well is r = (
-  at_level (lv h r.1.1.0 None []) s.levels,
+  at_level (lv h r.1.0 None []) s.levels,
   (
-    r.1.1.1.1,
+    r.1.1.1,
     record {
-      good = (record { is = r.1.1.1.0; opened = tt; node = tt }, (r.1.0, is.good));
+      good = (record { is = r.1.1.0; opened = tt; node = tt }, (r.0, is.good));
       gone = tt;
-      sees = enter_seen f h r.1.1.0 env s.levels (now f w) (fitted p f s z w well is) is.sees.knows;
+      sees = enter_seen f h r.1.0 env s.levels (now f w) (fitted p f s z w well is) is.sees.knows;
       frames = (refl, (tt, is.frames));
       spot = (tt, refl);
     },
@@ -275,26 +275,26 @@ item_keeps p plans f s z w (out h) P well is r = on_levels s.levels is.good is.f
   where
     on_levels : (ls : List Level) → AreGood p ls → SameFrames ls z.frames → AreFit f ls (now f w) → AreKnown f ls (now f w)
         → Runs p (record { levels = ls; gone = [] }) (out h) P
-        → Leads p f P (after_item p plans z (out h)) (record { frames = watch.others_of (now f w); leaving = watch.leaving_of (Walk.owed (after_item p plans z (out h))) (now f w); here = [] })
+        → Leads p f P (after_item p plans z (out h)) (record { frames = view.other_frames (now f w); leaving = if view.is_empty (Walk.owed (after_item p plans z (out h))) then [] else view.first_frame (now f w); here = [] })
     on_levels [] g same fit k r' = absurd r'
     on_levels (x ∷ xs) g same fit k r' = out_keeps p plans f x xs z (now f w) h P g same fit k r'
 
 -- Operations
 
-same_in_frame : (h : Frame → Frame) → ((x : Frame) → Frame.func (h x) ≡ x.func) → ((x : Frame) (os : List Body) → SameLines os x.statements → SameLines os (Frame.statements (h x)))
-    → (ls : List Level) (zs : List Frame) → SameFrames ls zs → SameFrames ls (in_frame h zs)
+same_in_frame : (h : OpenFrame → OpenFrame) → ((x : OpenFrame) → OpenFrame.func (h x) ≡ x.func) → ((x : OpenFrame) (os : List Body) → SameLines os x.statements → SameLines os (OpenFrame.statements (h x)))
+    → (ls : List Level) (zs : List OpenFrame) → SameFrames ls zs → SameFrames ls (in_frame h zs)
 same_in_frame h a b [] [] s = s
 same_in_frame h a b [] (z ∷ zs) s = absurd s
 same_in_frame h a b (x ∷ xs) [] s = s
 same_in_frame h a b (x ∷ xs) (z ∷ zs) s = (a z ∙ s.0, (b z x.opened s.1.0, s.1.1))
 
-noted_lines : (k : ℕ) (ns : List ℕ) (os : List Body) (ss : List Begun) → SameLines os ss → SameLines os (noted k ns ss)
+noted_lines : (k : ℕ) (ns : List ℕ) (os : List Body) (ss : List OpenStatement) → SameLines os ss → SameLines os (noted k ns ss)
 noted_lines k ns [] [] h = h
 noted_lines k ns [] (s ∷ ss) h = absurd h
 noted_lines k ns (b ∷ bs) [] h = h
 noted_lines k ns (b ∷ bs) (s ∷ ss) h = h
 
-noted_func : (t : Spot) (k : ℕ) (ns : List ℕ) (x : Frame) → Frame.func (noted_at t k ns x) ≡ x.func
+noted_func : (t : Spot) (k : ℕ) (ns : List ℕ) (x : OpenFrame) → OpenFrame.func (noted_at t k ns x) ≡ x.func
 noted_func elsewhere k ns x = refl
 noted_func (beginning l env) k ns x = refl
 noted_func (entered h env) k ns x = refl
@@ -302,7 +302,7 @@ noted_func (complete l) k ns x = refl
 noted_func (left h is) k ns x = refl
 noted_func (trapped l) k ns x = refl
 
-noted_at_lines : (t : Spot) (k : ℕ) (ns : List ℕ) (x : Frame) (os : List Body) → SameLines os x.statements → SameLines os (Frame.statements (noted_at t k ns x))
+noted_at_lines : (t : Spot) (k : ℕ) (ns : List ℕ) (x : OpenFrame) (os : List Body) → SameLines os x.statements → SameLines os (OpenFrame.statements (noted_at t k ns x))
 noted_at_lines elsewhere k ns x os h = h
 noted_at_lines (beginning l env) k ns x os h = noted_lines k ns os x.statements h
 noted_at_lines (entered g env) k ns x os h = h
@@ -310,7 +310,7 @@ noted_at_lines (complete l) k ns x os h = h
 noted_at_lines (left g is) k ns x os h = h
 noted_at_lines (trapped l) k ns x os h = h
 
-without_lines : (ks : List ℕ) (ls : List Level) (zs : List Frame) → SameFrames ls zs → SameFrames ls (frames_without ks zs)
+without_lines : (ks : List ℕ) (ls : List Level) (zs : List OpenFrame) → SameFrames ls zs → SameFrames ls (frames_without ks zs)
 without_lines ks [] [] s = s
 without_lines ks [] (z ∷ zs) s = absurd s
 without_lines ks (x ∷ xs) [] s = s
@@ -332,7 +332,7 @@ without_spot ks ls gone (complete l) h = h
 without_spot ks ls gone (left g is) h = h
 without_spot ks ls gone (trapped l) h = h
 
-crossing_keeps : (p : Source) (plans : Plans) (f : Plan) (s : Course) (z : Walk) (w : Seen) (vs : List Version) → Is p f s z w → Is p f s (crossing p plans z vs) w
+crossing_keeps : (p : Source) (plans : Plans) (f : Plan) (s : Course) (z : Walk) (w : View) (vs : List Version) → Is p f s z w → Is p f s (crossing p plans z vs) w
 crossing_keeps p plans f s z w [] is = is
 crossing_keeps p plans f s z w (v ∷ vs) is = record {
   good = is.good;
@@ -342,8 +342,8 @@ crossing_keeps p plans f s z w (v ∷ vs) is = record {
   spot = without_spot v.active s.levels s.gone z.spot is.spot;
 }
 
-pub op_keeps : (p : Source) (plans : Plans) (f : Plan) (s : Course) (z z' : Walk) (w : Seen) (l : ℕ) (o : Op) → Is p f s z w
-    → Is p f s (after_op p plans z o) (seen_step f z' w (makes l o))
+pub op_keeps : (p : Source) (plans : Plans) (f : Plan) (s : Course) (z z' : Walk) (w : View) (l : ℕ) (o : Operation) → Is p f s z w
+    → Is p f s (after_operation p plans z o) (seen_step f z' w (makes l o))
 op_keeps p plans f s z z' w l (wait k n) is = record { good = is.good; gone = is.gone; sees = is.sees; frames = is.frames; spot = is.spot }
 op_keeps p plans f s z z' w l (enters k n) is = record { good = is.good; gone = is.gone; sees = is.sees; frames = is.frames; spot = is.spot }
 op_keeps p plans f s z z' w l (at k ns) is = record {
@@ -375,14 +375,14 @@ op_keeps p plans f s z z' w l (blocked what) is = record { good = is.good; gone 
 
 -- Along the steps
 
-pub walk_keeps : (p : Source) (plans : Plans) (f : Plan) (s : Course) (z : Walk) (w : Seen) (ss : List Step) (ahead : List Item) → IsWellSited f → Is p f s z w
+pub walk_keeps : (p : Source) (plans : Plans) (f : Plan) (s : Course) (z : Walk) (w : View) (ss : List Step) (ahead : List Item) → IsWellSited f → Is p f s z w
     → IsCourse p s (items ss ++ ahead) → Leads p f (λ s'. IsCourse p s' ahead) (walked p plans z ss) (seen_from p plans f z w ss)
 walk_keeps p plans f s z w [] ahead well is c = (s, (c, is))
 walk_keeps p plans f s z w (goes i ∷ ss) ahead well is c =
     let r = item_keeps p plans f s z w i (λ s'. IsCourse p s' (items ss ++ ahead)) well is c in
     walk_keeps p plans f r.0 (after_item p plans z i) (seen_step f (after_item p plans z i) w (goes i)) ss ahead well r.1.1 r.1.0
 walk_keeps p plans f s z w (makes l o ∷ ss) ahead well is c =
-    walk_keeps p plans f s (after_op p plans z o) (seen_step f (after_op p plans z o) w (makes l o)) ss ahead well (op_keeps p plans f s z (after_op p plans z o) w l o is) c
+    walk_keeps p plans f s (after_operation p plans z o) (seen_step f (after_operation p plans z o) w (makes l o)) ss ahead well (op_keeps p plans f s z (after_operation p plans z o) w l o is) c
 
 -- Places of the top frame
 
@@ -494,10 +494,10 @@ out_here p x good all fol = record {
   not_entry = out_no_entry x.func x.func;
 }
 
-innermost_is : (os : List Body) (fr : Frame) (l : ℕ) → OnFirst os (λ b bs. Begins b l) → SameLines os fr.statements → innermost fr.func fr.statements ≡ place.inside l
+innermost_is : (os : List Body) (fr : OpenFrame) (l : ℕ) → OnFirst os (λ b bs. Begins b l) → SameLines os fr.statements → innermost fr.func fr.statements ≡ place.inside l
 innermost_is os fr l a s = by_cases os fr.statements a s
   where
-    by_cases : (bs : List Body) (ss : List Begun) → OnFirst bs (λ b cs. Begins b l) → SameLines bs ss → innermost fr.func ss ≡ place.inside l
+    by_cases : (bs : List Body) (ss : List OpenStatement) → OnFirst bs (λ b cs. Begins b l) → SameLines bs ss → innermost fr.func ss ≡ place.inside l
     by_cases [] ss a' s' = absurd a'
     by_cases (b ∷ bs) [] a' s' = absurd s'
     by_cases (b ∷ bs) (t ∷ ts) a' s' = ap place.inside (one_line b t.line l s'.0 a')
@@ -509,26 +509,26 @@ safe_at p f x y e safe =
     let P : Place → Type 0 = λ z. IsUnsafe p f z → ⊥ in
     subst P (sym e) safe
 
-clear : (frames leaving : List Watched) (w : Seen) → w.frames ≡ frames → w.leaving ≡ leaving → AreClear frames → AreClear leaving → IsClear w
+clear : (frames leaving : List FrameView) (w : View) → w.frames ≡ frames → w.leaving ≡ leaving → AreClear frames → AreClear leaving → IsClear w
 clear fs lv' w a b h k =
     let same : w.frames ++ w.leaving ≡ fs ++ lv' = ap (λ z. z ++ w.leaving) a ∙ ap (λ z. fs ++ z) b in
     let all : AreClear (fs ++ lv') = clear_append fs lv' h k in
-    let P : List Watched → Type 0 = λ z. (watch.all_of z ≡ []) × (watch.all_under_way z ≡ []) in
+    let P : List FrameView → Type 0 = λ z. (view.all_of z ≡ []) × (view.all_under_way z ≡ []) in
     let both = subst P (sym same) (none_inside _ all, none_under_way _ all) in
     record { outside = both.0; at_rest = both.1 }
 
-none_clear : (f : Plan) (ls : List Level) (ws : List Watched) → AreNone ls → AreFit f ls ws → AreClear ws
+none_clear : (f : Plan) (ls : List Level) (ws : List FrameView) → AreNone ls → AreFit f ls ws → AreClear ws
 none_clear f [] [] n h = tt
 none_clear f [] (w ∷ ws) n h = absurd h
 none_clear f (x ∷ xs) ws n h = absurd n
 
-none_leaving : (f : Plan) (gone : List Level) (ws : List Watched) → AreNone gone → AreLeaving f gone ws → AreClear ws
+none_leaving : (f : Plan) (gone : List Level) (ws : List FrameView) → AreNone gone → AreLeaving f gone ws → AreClear ws
 none_leaving f [] [] n h = tt
 none_leaving f [] (w ∷ ws) n h = absurd h
 none_leaving f (x ∷ xs) ws n h = absurd n
 
 -- an act comes next
-act_place : (ls gone : List Level) (zs : List Frame) (t : Spot) (l : ℕ) → Acts ls l → SameFrames ls zs → FitsSpot ls gone t → resting t [] zs ≡ place.inside l
+act_place : (ls gone : List Level) (zs : List OpenFrame) (t : Spot) (l : ℕ) → Acts ls l → SameFrames ls zs → FitsSpot ls gone t → place_of_request t [] zs ≡ place.inside l
 act_place [] gone zs t l a s k = absurd a
 act_place (x ∷ xs) gone [] t l a s k = absurd s
 act_place (x ∷ xs) gone (z ∷ zs) elsewhere l a s k = innermost_is x.opened z l a.1 s.1.0
@@ -540,26 +540,26 @@ act_place (x ∷ xs) gone (z ∷ zs) (complete m) l a s k =
 act_place (x ∷ xs) gone (z ∷ zs) (left h is) l a s k = innermost_is x.opened z l a.1 s.1.0
 act_place (x ∷ xs) gone (z ∷ zs) (trapped m) l a s k = absurd k.0
 
-acts_clear : (p : Source) (f : Plan) (ls : List Level) (ws : List Watched) (l : ℕ) → IsWellSited f → AreGood p ls → AreFit f ls ws → Acts ls l
+acts_clear : (p : Source) (f : Plan) (ls : List Level) (ws : List FrameView) (l : ℕ) → IsWellSited f → AreGood p ls → AreFit f ls ws → Acts ls l
     → (IsUnsafe p f (place.inside l) → ⊥) → AreClear ws
 acts_clear p f [] ws l well good fit a safe = absurd a
 acts_clear p f (x ∷ xs) ws l well good fit a safe =
     all_clear p f x xs ws (place.inside l) well good fit (acting_here p x.func x.function x.node x.opened l good.0 a.0 a.1) safe
 
-act_clear : (p : Source) (f : Plan) (s : Course) (z : Walk) (w : Seen) (y : Place) (l : ℕ) → IsWellSited f → Is p f s z w → Acts s.levels l
-    → resting z.spot [] z.frames ≡ y → (IsUnsafe p f y → ⊥) → AreClear (now f w)
+act_clear : (p : Source) (f : Plan) (s : Course) (z : Walk) (w : View) (y : Place) (l : ℕ) → IsWellSited f → Is p f s z w → Acts s.levels l
+    → place_of_request z.spot [] z.frames ≡ y → (IsUnsafe p f y → ⊥) → AreClear (now f w)
 act_clear p f s z w y l well is a e safe =
     let there : place.inside l ≡ y = sym (act_place s.levels s.gone z.frames z.spot l a is.frames is.spot) ∙ e in
     acts_clear p f s.levels (now f w) l well is.good (fitted p f s z w well is) a (safe_at p f (place.inside l) y there safe)
 
-over_clear : (p : Source) (f : Plan) (s : Course) (z : Walk) (w : Seen) → IsWellSited f → Is p f s z w → AreNone s.levels → AreClear (now f w)
+over_clear : (p : Source) (f : Plan) (s : Course) (z : Walk) (w : View) → IsWellSited f → Is p f s z w → AreNone s.levels → AreClear (now f w)
 over_clear p f s z w well is n = none_clear f s.levels (now f w) n (fitted p f s z w well is)
 
-edges_clear : (p : Source) (f : Plan) (ls : List Level) (ws : List Watched) (l : ℕ) → IsWellSited f → AreGood p ls → AreFit f ls ws
+edges_clear : (p : Source) (f : Plan) (ls : List Level) (ws : List FrameView) (l : ℕ) → IsWellSited f → AreGood p ls → AreFit f ls ws
     → Runs p (record { levels = ls; gone = [] }) (edge l) (λ s'. Unit {0}) → (IsUnsafe p f (place.back_edge l) → ⊥) → AreClear ws
-edges_clear p f [] ws l well good fit r safe = absurd r.1
+edges_clear p f [] ws l well good fit r safe = absurd r
 edges_clear p f (x ∷ xs) ws l well good fit r safe =
-    all_clear p f x xs ws (place.back_edge l) well good fit (edge_here p x.func x.function x.node x.opened l _ good.0 r.1) safe
+    all_clear p f x xs ws (place.back_edge l) well good fit (edge_here p x.func x.function x.node x.opened l _ good.0 r) safe
 
 some_same : {A : Type 0} (x y : A) → Some x ≡ Some y → x ≡ y
 some_same x y e = cc
@@ -568,14 +568,14 @@ none_some : {A : Type 0} {B : Type 0} (y : A) → None ≡ Some y → B
 none_some y e = cc
 
 -- something is owed
-fresh_clear : (w : Watched) → w ≡ record { under_way = [] ∷ []; inside = [] } → IsClearOf w
+fresh_clear : (w : FrameView) → w ≡ record { under_way = [] ∷ []; inside = [] } → IsClearOf w
 fresh_clear w e =
-    let P : Watched → Type 0 = λ z. IsClearOf z in
+    let P : FrameView → Type 0 = λ z. IsClearOf z in
     subst P (sym e) (record { outside = refl; at_rest = refl })
 
-entered_clear : (p : Source) (f : Plan) (ls : List Level) (ws : List Watched) (zs : List Frame) (y : Place) → IsWellSited f → AreGood p ls → AreFit f ls ws
-    → IsFresh ls ws → SameFrames ls zs → OnFirst ls (λ (x : Level) xs. x.node ≡ None) → (h : ℕ) (env : Locals) (o : ℕ × Op) (os : Owed)
-    → resting (entered h env) (o ∷ os) zs ≡ y → (IsUnsafe p f y → ⊥) → AreClear ws
+entered_clear : (p : Source) (f : Plan) (ls : List Level) (ws : List FrameView) (zs : List OpenFrame) (y : Place) → IsWellSited f → AreGood p ls → AreFit f ls ws
+    → IsFresh ls ws → SameFrames ls zs → OnFirst ls (λ (x : Level) xs. x.node ≡ None) → (h : ℕ) (env : Locals) (o : ℕ × Operation) (os : Queue)
+    → place_of_request (entered h env) (o ∷ os) zs ≡ y → (IsUnsafe p f y → ⊥) → AreClear ws
 entered_clear p f [] ws zs y well good fit fresh same k h env o os e safe = absurd k
 entered_clear p f (x ∷ xs) [] zs y well good fit fresh same k h env o os e safe = absurd fit
 entered_clear p f (x ∷ xs) (w ∷ ws) [] y well good fit fresh same k h env o os e safe = absurd same
@@ -587,13 +587,13 @@ entered_clear p f (x ∷ xs) (w ∷ ws) (z ∷ zs) y well good fit fresh same k 
           (reached_first p x.func (place.entry x.func) (entry_in p x.func x.function good.0.is)) (safe_at p f (place.entry x.func) y (sym at_entry ∙ e) safe),
     )
   where
-    before : (bs : List Body) (ss : List Begun) → AreNone bs → SameLines bs ss → innermost z.func ss ≡ place.entry z.func
+    before : (bs : List Body) (ss : List OpenStatement) → AreNone bs → SameLines bs ss → innermost z.func ss ≡ place.entry z.func
     before [] [] n s = refl
     before [] (t ∷ ts) n s = absurd s
     before (b ∷ bs) ss n s = absurd n
 
-top_place : (ls : List Level) (zs : List Frame) (t : Spot) (o : ℕ × Op) (os : Owed) (l : ℕ) → Acts ls l → SameFrames ls zs → (resting t (o ∷ os) zs ≡ resting elsewhere (o ∷ os) zs)
-    → resting t (o ∷ os) zs ≡ place.inside l
+top_place : (ls : List Level) (zs : List OpenFrame) (t : Spot) (o : ℕ × Operation) (os : Queue) (l : ℕ) → Acts ls l → SameFrames ls zs → (place_of_request t (o ∷ os) zs ≡ place_of_request elsewhere (o ∷ os) zs)
+    → place_of_request t (o ∷ os) zs ≡ place.inside l
 top_place [] zs t o os l a s e = absurd a
 top_place (x ∷ xs) [] t o os l a s e = absurd s
 top_place (x ∷ xs) (z ∷ zs) t o os l a s e = e ∙ innermost_is x.opened z l a.1 s.1.0
@@ -613,13 +613,13 @@ top_cases : (p : Source) (ls : List Level) → AreGood p ls → TopActs ls → A
 top_cases p [] good t = inl tt
 top_cases p (x ∷ xs) good t = inr (t.0, acts_of p (x ∷ xs) t.0 good t.1)
 
-completes_clear : (p : Source) (f : Plan) (ls : List Level) (ws : List Watched) (l : ℕ) → IsWellSited f → AreGood p ls → AreFit f ls ws
+completes_clear : (p : Source) (f : Plan) (ls : List Level) (ws : List FrameView) (l : ℕ) → IsWellSited f → AreGood p ls → AreFit f ls ws
     → OnFirst ls (λ (x : Level) xs. x.node ≡ Some (path.complete l)) → (IsUnsafe p f (place.inside l) → ⊥) → AreClear ws
 completes_clear p f [] ws l well good fit k safe = absurd k
 completes_clear p f (x ∷ xs) ws l well good fit k safe =
     all_clear p f x xs ws (place.inside l) well good fit (complete_here p x.func x.function x.node x.opened l good.0 k) safe
 
-gone_clear : (p : Source) (f : Plan) (ls gone : List Level) (ws lvs : List Watched) (h : ℕ) → IsWellSited f → AreGood p ls → AreGone p ls gone → AreFit f ls ws
+gone_clear : (p : Source) (f : Plan) (ls gone : List Level) (ws lvs : List FrameView) (h : ℕ) → IsWellSited f → AreGood p ls → AreGone p ls gone → AreFit f ls ws
     → AreLeaving f gone lvs → OnFirst gone (λ (x : Level) xs. h ≡ x.func) → (IsUnsafe p f (place.out h) → ⊥) → AreClear ws × AreClear lvs
 gone_clear p f ls [] ws lvs h well good g fit lea k safe = absurd k
 gone_clear p f ls (x ∷ xs) ws lvs h well good g fit lea k safe =
@@ -627,16 +627,16 @@ gone_clear p f ls (x ∷ xs) ws lvs h well good g fit lea k safe =
     let here_ : IsHere p x (place.out x.func) = out_here p x g.0 g.1.1.0 g.1.1.1 in
     (below_clear p f ls ws (place.out x.func) x.func well good fit g.1.0 (reached_first p x.func (place.out x.func) here_.own) safe', of_gone lvs lea here_ safe')
   where
-    of_gone : (vs : List Watched) → AreLeaving f (x ∷ xs) vs → IsHere p x (place.out x.func) → (IsUnsafe p f (place.out x.func) → ⊥) → AreClear vs
+    of_gone : (vs : List FrameView) → AreLeaving f (x ∷ xs) vs → IsHere p x (place.out x.func) → (IsUnsafe p f (place.out x.func) → ⊥) → AreClear vs
     of_gone [] a b c = tt
     of_gone (v ∷ vs) a b c = (own_clear p f x v (place.out x.func) well g.0 a.0 b c, none_left vs a.1)
       where
-        none_left : (us : List Watched) → us ≡ [] → AreClear us
+        none_left : (us : List FrameView) → us ≡ [] → AreClear us
         none_left [] e = tt
         none_left (u ∷ us) e = cc
 
-owed_clear : (p : Source) (f : Plan) (s : Course) (z : Walk) (w : Seen) (y : Place) (o : ℕ × Op) (os : Owed) (t : Spot) → IsWellSited f → Is p f s z w
-    → FitsSpot s.levels s.gone t → resting t (o ∷ os) z.frames ≡ y → (IsUnsafe p f y → ⊥) → AreClear w.frames × AreClear w.leaving
+owed_clear : (p : Source) (f : Plan) (s : Course) (z : Walk) (w : View) (y : Place) (o : ℕ × Operation) (os : Queue) (t : Spot) → IsWellSited f → Is p f s z w
+    → FitsSpot s.levels s.gone t → place_of_request t (o ∷ os) z.frames ≡ y → (IsUnsafe p f y → ⊥) → AreClear w.frames × AreClear w.leaving
 owed_clear p f s z w y o os elsewhere well is k e safe = by_cases (top_cases p s.levels is.good k.1)
   where
     by_cases : AreNone s.levels ⊎ ((l : ℕ) × Acts s.levels l) → AreClear w.frames × AreClear w.leaving
@@ -649,7 +649,7 @@ owed_clear p f s z w y o os (beginning l env) well is k e safe =
     let at_line : place.inside l ≡ y = sym (top_place s.levels z.frames (beginning l env) o os l a is.frames (same_rest_place z.frames)) ∙ e in
     (acts_clear p f s.levels w.frames l well is.good is.sees.fits a (safe_at p f (place.inside l) y at_line safe), none_leaving f s.gone w.leaving k.0 is.sees.leaving)
   where
-    same_rest_place : (zs : List Frame) → resting (beginning l env) (o ∷ os) zs ≡ resting elsewhere (o ∷ os) zs
+    same_rest_place : (zs : List OpenFrame) → place_of_request (beginning l env) (o ∷ os) zs ≡ place_of_request elsewhere (o ∷ os) zs
     same_rest_place [] = refl
     same_rest_place (z' ∷ zs) = refl
 owed_clear p f s z w y o os (entered h env) well is k e safe =
@@ -661,90 +661,48 @@ owed_clear p f s z w y o os (left h vs) well is k e safe =
 owed_clear p f s z w y o os (trapped l) well is k e safe =
     (none_clear f s.levels w.frames k.0 is.sees.fits, none_leaving f s.gone w.leaving k.1 is.sees.leaving)
 
--- where no frame is open
-end_clear : (p : Source) (f : Plan) (ls gone : List Level) (zs : List Frame) (lvs : List Watched) (t : Spot) (y : Place) → IsWellSited f → AreGood p ls → AreGone p ls gone
-    → AreNone ls → SameFrames ls zs → FitsSpot ls gone t → AreLeaving f gone lvs → resting t [] zs ≡ y → (IsUnsafe p f y → ⊥) → AreClear lvs
-end_clear p f ls gone zs lvs elsewhere y well good g n same k lea e safe = none_leaving f gone lvs k.0 lea
-end_clear p f ls gone zs lvs (beginning l env) y well good g n same k lea e safe = none_leaving f gone lvs k.0 lea
-end_clear p f ls gone zs lvs (entered h env) y well good g n same k lea e safe = none_leaving f gone lvs k.0 lea
-end_clear p f ls gone zs lvs (complete l) y well good g n same k lea e safe = none_leaving f gone lvs k.0 lea
-end_clear p f [] gone [] lvs (left h is) y well good g n same k lea e safe =
-    (gone_clear p f [] gone [] lvs h well good g tt lea k (safe_at p f (place.out h) y e safe)).1
-end_clear p f [] gone (z ∷ zs) lvs (left h is) y well good g n same k lea e safe = absurd same
-end_clear p f (x ∷ xs) gone zs lvs (left h is) y well good g n same k lea e safe = absurd n
-end_clear p f ls gone zs lvs (trapped l) y well good g n same k lea e safe = none_leaving f gone lvs k.1 lea
-
--- nothing is owed: of open frames nothing is seen, and of one that was left, where calls give their values to locals
-abbrev pub AllClear : Source → Plan → Seen → Type 0
-AllClear p f w = AreClear (now f w) × (CallsToLocals p → AreClear w.leaving)
-
-item_clear : (p : Source) (f : Plan) (s : Course) (z : Walk) (w : Seen) (y : Place) (i : Item) → IsWellSited f → Is p f s z w → Runs p s i (λ s'. Unit {0}) → z.owed ≡ []
-    → place_of_next z [] (i ∷ []) ≡ Some y → (IsUnsafe p f y → ⊥) → AllClear p f w
-item_clear p f s z w y (made l begin) well is r o e safe = (over_clear p f s z w well is r.0, λ k. none_leaving f s.gone w.leaving r.1.0 is.sees.leaving)
-item_clear p f s z w y (made l end) well is r o e safe = (
-  over_clear p f s z w well is r.0,
-  λ k. end_clear p f s.levels s.gone z.frames w.leaving z.spot y well is.good is.gone r.0 is.frames is.spot is.sees.leaving (ap (λ os. resting z.spot os z.frames) (sym o) ∙ some_same _ y e) safe,
-)
-item_clear p f s z w y (made l (trap c)) well is r o e safe =
-    (act_clear p f s z w y l well is r.1.0 (ap (λ os. resting z.spot os z.frames) (sym o) ∙ some_same _ y e) safe, λ k. none_leaving f s.gone w.leaving (r.0 k) is.sees.leaving)
-item_clear p f s z w y (made l (read x v)) well is r o e safe =
-    (act_clear p f s z w y l well is r.1.0 (ap (λ os. resting z.spot os z.frames) (sym o) ∙ some_same _ y e) safe, λ k. none_leaving f s.gone w.leaving (r.0 k) is.sees.leaving)
-item_clear p f s z w y (made l (write x v)) well is r o e safe =
-    (act_clear p f s z w y l well is r.1.0 (ap (λ os. resting z.spot os z.frames) (sym o) ∙ some_same _ y e) safe, λ k. none_leaving f s.gone w.leaving (r.0 k) is.sees.leaving)
-item_clear p f s z w y (made l (lock m)) well is r o e safe =
-    (act_clear p f s z w y l well is r.1.0 (ap (λ os. resting z.spot os z.frames) (sym o) ∙ some_same _ y e) safe, λ k. none_leaving f s.gone w.leaving (r.0 k) is.sees.leaving)
-item_clear p f s z w y (made l (unlock m)) well is r o e safe =
-    (act_clear p f s z w y l well is r.1.0 (ap (λ os. resting z.spot os z.frames) (sym o) ∙ some_same _ y e) safe, λ k. none_leaving f s.gone w.leaving (r.0 k) is.sees.leaving)
-item_clear p f s z w y (made l (down x)) well is r o e safe =
-    (act_clear p f s z w y l well is r.1.0 (ap (λ os. resting z.spot os z.frames) (sym o) ∙ some_same _ y e) safe, λ k. none_leaving f s.gone w.leaving (r.0 k) is.sees.leaving)
-item_clear p f s z w y (made l (up x)) well is r o e safe =
-    (act_clear p f s z w y l well is r.1.0 (ap (λ os. resting z.spot os z.frames) (sym o) ∙ some_same _ y e) safe, λ k. none_leaving f s.gone w.leaving (r.0 k) is.sees.leaving)
-item_clear p f s z w y (made l (spawn c h vs)) well is r o e safe =
-    (act_clear p f s z w y l well is r.1.0 (ap (λ os. resting z.spot os z.frames) (sym o) ∙ some_same _ y e) safe, λ k. none_leaving f s.gone w.leaving (r.0 k) is.sees.leaving)
-item_clear p f s z w y (made l (join c)) well is r o e safe =
-    (act_clear p f s z w y l well is r.1.0 (ap (λ os. resting z.spot os z.frames) (sym o) ∙ some_same _ y e) safe, λ k. none_leaving f s.gone w.leaving (r.0 k) is.sees.leaving)
-item_clear p f s z w y (made l (print v)) well is r o e safe =
-    (act_clear p f s z w y l well is r.1.0 (ap (λ os. resting z.spot os z.frames) (sym o) ∙ some_same _ y e) safe, λ k. none_leaving f s.gone w.leaving (r.0 k) is.sees.leaving)
+-- nothing is owed
+item_clear : (p : Source) (f : Plan) (s : Course) (z : Walk) (w : View) (y : Place) (i : Item) → IsWellSited f → Is p f s z w → Runs p s i (λ s'. Unit {0}) → z.owed ≡ []
+    → place_of_next z [] (i ∷ []) ≡ Some y → (IsUnsafe p f y → ⊥) → AreClear (now f w)
+item_clear p f s z w y (made l begin) well is r o e safe = over_clear p f s z w well is r.0
+item_clear p f s z w y (made l end) well is r o e safe = over_clear p f s z w well is r.0
+item_clear p f s z w y (made l (trap c)) well is r o e safe = act_clear p f s z w y l well is r.0 (ap (λ os. place_of_request z.spot os z.frames) (sym o) ∙ some_same _ y e) safe
+item_clear p f s z w y (made l (read x v)) well is r o e safe = act_clear p f s z w y l well is r.0 (ap (λ os. place_of_request z.spot os z.frames) (sym o) ∙ some_same _ y e) safe
+item_clear p f s z w y (made l (write x v)) well is r o e safe = act_clear p f s z w y l well is r.0 (ap (λ os. place_of_request z.spot os z.frames) (sym o) ∙ some_same _ y e) safe
+item_clear p f s z w y (made l (lock m)) well is r o e safe = act_clear p f s z w y l well is r.0 (ap (λ os. place_of_request z.spot os z.frames) (sym o) ∙ some_same _ y e) safe
+item_clear p f s z w y (made l (unlock m)) well is r o e safe = act_clear p f s z w y l well is r.0 (ap (λ os. place_of_request z.spot os z.frames) (sym o) ∙ some_same _ y e) safe
+item_clear p f s z w y (made l (down x)) well is r o e safe = act_clear p f s z w y l well is r.0 (ap (λ os. place_of_request z.spot os z.frames) (sym o) ∙ some_same _ y e) safe
+item_clear p f s z w y (made l (up x)) well is r o e safe = act_clear p f s z w y l well is r.0 (ap (λ os. place_of_request z.spot os z.frames) (sym o) ∙ some_same _ y e) safe
+item_clear p f s z w y (made l (spawn c h vs)) well is r o e safe = act_clear p f s z w y l well is r.0 (ap (λ os. place_of_request z.spot os z.frames) (sym o) ∙ some_same _ y e) safe
+item_clear p f s z w y (made l (join c)) well is r o e safe = act_clear p f s z w y l well is r.0 (ap (λ os. place_of_request z.spot os z.frames) (sym o) ∙ some_same _ y e) safe
+item_clear p f s z w y (made l (print v)) well is r o e safe = act_clear p f s z w y l well is r.0 (ap (λ os. place_of_request z.spot os z.frames) (sym o) ∙ some_same _ y e) safe
 item_clear p f s z w y (begins l env) well is r o e safe = none_some y e
 item_clear p f s z w y (done l) well is r o e safe = none_some y e
-item_clear p f s z w y (edge l) well is r o e safe = (
-  edges_clear p f s.levels (now f w) l well is.good (fitted p f s z w well is) (none_gone p, r.1) (safe_at p f (place.back_edge l) y (some_same _ y e) safe),
-  λ k. none_leaving f s.gone w.leaving (r.0 k) is.sees.leaving,
-)
-item_clear p f s z w y (enter h env) well is r o e safe = (
-  below_clear p f s.levels (now f w) (place.entry h) h well is.good (fitted p f s z w well is) r.1.0
-      (reached_first p h (place.entry h) (entry_in p h r.1.1.0 r.1.1.1.0)) (safe_at p f (place.entry h) y (some_same _ y e) safe),
-  λ k. none_leaving f s.gone w.leaving (r.0 k) is.sees.leaving,
-)
+item_clear p f s z w y (edge l) well is r o e safe =
+    edges_clear p f s.levels (now f w) l well is.good (fitted p f s z w well is) r (safe_at p f (place.back_edge l) y (some_same _ y e) safe)
+item_clear p f s z w y (enter h env) well is r o e safe =
+    below_clear p f s.levels (now f w) (place.entry h) h well is.good (fitted p f s z w well is) r.0
+    (reached_first p h (place.entry h) (entry_in p h r.1.0 r.1.1.0)) (safe_at p f (place.entry h) y (some_same _ y e) safe)
 item_clear p f s z w y (out h) well is r o e safe = none_some y e
 
-point_clear : (p : Source) (f : Plan) (s : Course) (z : Walk) (w : Seen) (y : Place) (i : Item) (os : Owed) → IsWellSited f → CallsToLocals p → Is p f s z w
-    → Runs p s i (λ s'. Unit {0}) → z.owed ≡ os → place_of_next z os (i ∷ []) ≡ Some y → (IsUnsafe p f y → ⊥) → IsClear (where_all_made f os w)
-point_clear p f s z w y i [] well local is r o e safe =
-    let both : AllClear p f w = item_clear p f s z w y i well is r o e safe in
-    clear (now f w) w.leaving (record w { frames = now f w }) refl refl both.0 (both.1 local)
-point_clear p f s z w y i (o ∷ os) well local is r q e safe =
-    let there : resting z.spot (o ∷ os) z.frames ≡ y = ap (λ rs. resting z.spot rs z.frames) (sym q) ∙ some_same _ y e in
+-- what is seen, with what is owed
+abbrev seen_where : Plan → Queue → View → View
+seen_where f os w = if view.is_empty os then settled f w else w
+
+point_clear : (p : Source) (f : Plan) (s : Course) (z : Walk) (w : View) (y : Place) (i : Item) (os : Queue) → IsWellSited f → Is p f s z w
+    → Runs p s i (λ s'. Unit {0}) → z.owed ≡ os → place_of_next z os (i ∷ []) ≡ Some y → (IsUnsafe p f y → ⊥) → IsClear (seen_where f os w)
+point_clear p f s z w y i [] well is r o e safe = clear (now f w) [] (settled f w) refl refl (item_clear p f s z w y i well is r o e safe) tt
+point_clear p f s z w y i (o ∷ os) well is r q e safe =
+    let there : place_of_request z.spot (o ∷ os) z.frames ≡ y = ap (λ rs. place_of_request z.spot rs z.frames) (sym q) ∙ some_same _ y e in
     let both = owed_clear p f s z w y o os z.spot well is is.spot there safe in
     clear w.frames w.leaving w refl refl both.0 both.1
 
-start : (p : Source) (f : Plan) (vs : List Version) → Is p f over (unborn vs) nothing_seen
+start : (p : Source) (f : Plan) (vs : List Version) → Is p f no_frames (unborn vs) nothing_seen
 start p f vs = record { good = tt; gone = tt; sees = nothing_sees f; frames = tt; spot = (tt, tt) }
 
--- The unsafe places of a filter whose regions and events are of their kinds are sound, in each program whose calls give their values to locals.
-pub sound_of_sites : (p : Source) (f : Plan) → IsWellSited f → CallsToLocals p → IsSound p f
-sound_of_sites p f well local plans x h y there safe =
-    let c : IsCourse p over (items h.steps ++ h.next ∷ []) = trace_is_course p x.func x.args _ _ h.trace in
-    let r = walk_keeps p plans f over (unborn x.versions) nothing_seen h.steps (h.next ∷ []) well (start p f x.versions) c in
-    point_clear p f r.0 (led p plans x h.steps) _ y h.next (led p plans x h.steps).owed well local r.1.1 r.1.0 refl there safe
-
--- In any program, where nothing is owed and a frame that was left counts as closed.
-pub sound_where_settled : (p : Source) (f : Plan) → IsWellSited f → (plans : Plans) (x : Own) (h : Point p plans x) (y : Place) → IsPlaceOf p plans x h y
-    → (IsUnsafe p f y → ⊥) → (led p plans x h.steps).owed ≡ [] → IsClear (settled f (seen_from p plans f (unborn x.versions) nothing_seen h.steps))
-sound_where_settled p f well plans x h y there safe none =
-    let c : IsCourse p over (items h.steps ++ h.next ∷ []) = trace_is_course p x.func x.args _ _ h.trace in
-    let r = walk_keeps p plans f over (unborn x.versions) nothing_seen h.steps (h.next ∷ []) well (start p f x.versions) c in
-    let z : Walk = led p plans x h.steps in
-    let P : Owed → Type 0 = λ os. place_of_next z os (h.next ∷ []) ≡ Some y in
-    let both = item_clear p f r.0 z _ y h.next well r.1.1 r.1.0 none (subst P none there) safe in
-    clear _ [] _ refl refl both.0 tt
+-- The unsafe places of a filter whose regions and events are of their kinds are sound.
+pub sound_of_sites : (p : Source) (f : Plan) → IsWellSited f → IsSound p f
+sound_of_sites p f well plans x h y there safe =
+    let c : IsCourse p no_frames (items h.steps ++ h.next ∷ []) = trace_is_course p x.func x.args _ _ h.trace in
+    let r = walk_keeps p plans f no_frames (unborn x.versions) nothing_seen h.steps (h.next ∷ []) well (start p f x.versions) c in
+    point_clear p f r.0 (led p plans x h.steps) _ y h.next (led p plans x h.steps).owed well r.1.1 r.1.0 refl there safe

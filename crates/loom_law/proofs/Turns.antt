@@ -1,275 +1,43 @@
 -- A lawful journal with one more entry is lawful.
-use Rattle.std.proofs.Common.{ℕ, zero, suc, ◌<◌, ◌≤◌, ◌≡◌, ◌==◌, ◌⊎◌, inl, inr, Bool, true, false, ◌&&◌, List, [], ◌∷◌, ◌++◌, ℤ, length, map, take, drop, ◌+◌, Option, Some, None, slice_get, refl, sym, ap, subst, ◌∙◌, if◌then◌else◌, arith}
+use Rattle.std.proofs.Common.{ℕ, zero, suc, ◌<◌, ◌≤◌, ◌≡◌, ◌==◌, Bool, true, false, ◌&&◌, List, [], ◌∷◌, ◌++◌, ℤ, length, map, drop, ◌+◌, Option, Some, None, slice_get, refl, sym, ap, subst, ◌∙◌, if◌then◌else◌, arith}
 use Rattle.std.specs.Prelude.{codes}
 use Rattle.std.specs.List.{list_any}
-use Rattle.loom_tree.specs.Tree.{Source, Function}
+use Rattle.loom_tree.specs.Tree.{Source}
 use Rattle.loom_trace.specs.declared.entry.Entry.{Entry}
 use Rattle.loom_trace.specs.declared.entry.Entry.TheVariants as e
-use Rattle.loom_trace.specs.declared.entry.Ending.{Ending}
 use Rattle.loom_lang.specs.Numbers.{function_number}
-use Rattle.loom_lang.specs.Trace.{Act, begin, end, trap, read, write, lock, unlock, down, up, spawn, join, print, Item, made, begins, done, edge, enter, out, Outcome, Open, thread, IsTrace}
+use Rattle.loom_lang.specs.Trace.{Act, begin, end, trap, read, write, lock, unlock, down, up, spawn, join, print, Item, made, begins, done, edge, enter, out, Outcome, Open, IsTrace}
 use Rattle.loom_lang.specs.Acts.{Deed, acts, IsAlike}
 use Rattle.loom_lang.proofs.Broken.{broken_trace}
 use Rattle.loom_lang.proofs.NextAct.{one_next_act}
 use Rattle.loom_event.specs.Event.{Event, entry_by, entry_of, is_target, targets, deeds}
 use Rattle.loom_event.specs.Entries.{thread_of, is_thread}
-use Rattle.loom_event.specs.Replay.{Spawned, Store, new_thread, main_thread, start, thread_at, IsAllowedAct, IsAllowed, with_thread, after_act, replay, AreAllowed, thread_limit}
+use Rattle.loom_event.specs.Replay.{ThreadState, Store, new_thread, main_thread, start, thread_at, IsAllowedAct, IsAllowed, with_thread, after_act, replay, AreAllowed, thread_limit}
 use Rattle.loom_event.specs.Replay as law
 use Rattle.loom_event.specs.Run.{IsTraced, IsThreadTraced, AreRun}
-use Rattle.loom_law.specs.Walk.{Version, Plans, Op, wait, enters, at, past, post, leave, back, tick, cross, blocked, Step, goes, makes, items, told, entry_of_op, Walk, unborn, holds, without_first, taking, entered_journal, crossing, filter_of, after, walked, Owes, first_number, MayCross, MayStand, AreWoven}
+use Rattle.loom_law.specs.Walk.{Version, Plans, Operation, wait, enters, at, past, post, leave, back, tick, cross, blocked, Step, goes, makes, items, told, entry_of_operation, Walk, unborn, holds, without_first, taking, behind_entry, crossing, filter_of, after, walked, Owes, first_number, MayCross, MayStand, AreWoven}
 use Rattle.loom_law.specs.Part.{Own, led, IsPart, HasMoved}
-use Rattle.loom_law.specs.Control.{Command, Holder, Control, control, first_control, controlled, takes, taken, entries_of, listed}
-use Rattle.loom_law.specs.Lawful.{Setting, Front, front_of, plans, own, HasPart, owes_cross, KeptAway, Parks, IsParked, MayMove, is_held_by, is_installed, Stands, IsLawful}
-use Rattle.loom_law.specs.Laws.{IsUnfinished, with_newest, own_with, Needs, MayTurn, HasEmptyEnds, HasBeginning, HasEventTurns, HasOperationTurns, HasControlTurns}
+use Rattle.loom_law.specs.Control.{Holder, Control, control, first_control, taken, entries_of, listed}
+use Rattle.loom_law.specs.Lawful.{Setting, Front, front_of, plans, own, HasPart, owes_cross, StaysAway, Parks, IsParked, MayMove, is_held_by, is_installed, Permits}
+use Rattle.loom_law.proofs.Strict.{Stands, IsStrict}
+use Rattle.loom_law.specs.Laws.{IsUnfinished, own_with, MayTurn, HasEmptyEnds}
 use Rattle.loom_law.proofs.OnePart.{same_op, act_is_no_op, told_append, append_none, same_front, never_empty, same_act}
 use Rattle.loom_law.proofs.Newest.{taking_coming, crossing_coming}
-use Rattle.loom_law.proofs.Ending.{or_rest, and_true, end_holds}
-use Rattle.loom_law.proofs.Named.{owed_installed}
-use Rattle.loom_law.proofs.Held.{or_left, or_right}
+use Rattle.loom_law.proofs.LastLeaves.{or_rest, and_true, end_holds}
+use Rattle.loom_law.proofs.ActiveFilters.{owed_installed}
+use Rattle.loom_law.proofs.Holdings.{or_left, or_right}
 use Rattle.loom_law.proofs.Balance.{IsSound, first_sound, sound_along}
-use Rattle.loom_law.proofs.Obeyed.{are_said, balance}
-use Rattle.loom_law.proofs.Leaving.{right_leaves}
-use Rattle.loom_law.proofs.Earlier.{append_assoc, targets_append, length_append, entries_append, taken_append, deeds_append, IsOf, act_keeps, replay_append, same_number, by_test, if_false, if_true, entry_thread, items_append, items_ahead, woven_front, first_begins, fewer, to_take, takes_is, is_taking, takings, takings_taken, none_left, an_own}
-
--- Lists
-
-take_front : {A : Type 0} (n : ℕ) (xs ys : List A) → n ≤ length xs → take n (xs ++ ys) ≡ take n xs
-take_front zero xs ys h = refl
-take_front (suc n) [] ys h = let no : ⊥ = omega arith in absurd no
-take_front (suc n) (x ∷ xs) ys h = ap (◌∷◌ x) (take_front n xs ys (omega arith))
-
-take_whole : {A : Type 0} (n : ℕ) (xs ys : List A) → n ≡ length xs → take n (xs ++ ys) ≡ xs
-take_whole zero [] ys h = refl
-take_whole zero (x ∷ xs) ys h = let no : ⊥ = omega arith in absurd no
-take_whole (suc n) [] ys h = let no : ⊥ = omega arith in absurd no
-take_whole (suc n) (x ∷ xs) ys h = ap (◌∷◌ x) (take_whole n xs ys (omega arith))
-
-map_length : {A B : Type 0} (f : A → B) (xs : List A) → length (map f xs) ≡ length xs
-map_length f [] = refl
-map_length f (x ∷ xs) = ap suc (map_length f xs)
-
-map_append : {A B : Type 0} (f : A → B) (xs ys : List A) → map f (xs ++ ys) ≡ map f xs ++ map f ys
-map_append f [] ys = refl
-map_append f (x ∷ xs) ys = ap (◌∷◌ (f x)) (map_append f xs ys)
-
--- an entry of a longer journal is the last one, or stands in the journal before it
-record IsLast (es : List Entry) (x : Entry) (front : List Entry) (y : Entry) (rest : List Entry) : Type 0 where
-  front_is : es ≡ front
-  entry_is : x ≡ y
-  rest_is : rest ≡ []
-
-record IsEarlier (es : List Entry) (x : Entry) (front : List Entry) (y : Entry) (rest : List Entry) : Type 0 where
-  more : List Entry
-  rest_is : rest ≡ more ++ x ∷ []
-  whole : es ≡ front ++ y ∷ more
-
-last_or_earlier : (es : List Entry) (x : Entry) (front : List Entry) (y : Entry) (rest : List Entry) → es ++ x ∷ [] ≡ front ++ y ∷ rest
-    → IsLast es x front y rest ⊎ IsEarlier es x front y rest
-last_or_earlier [] x [] y rest h = inl (record { front_is = refl; entry_is = cc; rest_is = cc })
-last_or_earlier [] x (u ∷ front) y rest h = let no : [] ≡ front ++ y ∷ rest = cc in absurd (none front no)
-  where
-    none : (us : List Entry) → [] ≡ us ++ y ∷ rest → ⊥
-    none [] g = cc
-    none (v ∷ us) g = cc
-last_or_earlier (z ∷ es) x [] y rest h =
-    let first : z ≡ y = cc in
-    let others : rest ≡ es ++ x ∷ [] = cc in
-    inr (record { more = es; rest_is = others; whole = ap (λ u. u ∷ es) first })
-last_or_earlier (z ∷ es) x (u ∷ front) y rest h =
-    let first : z ≡ u = cc in
-    let others : es ++ x ∷ [] ≡ front ++ y ∷ rest = cc in
-    further (last_or_earlier es x front y rest others) first
-  where
-    further : IsLast es x front y rest ⊎ IsEarlier es x front y rest → z ≡ u → IsLast (z ∷ es) x (u ∷ front) y rest ⊎ IsEarlier (z ∷ es) x (u ∷ front) y rest
-    further (inl g) f = inl (record { front_is = ap (λ v. v ∷ es) f ∙ ap (◌∷◌ u) g.front_is; entry_is = g.entry_is; rest_is = g.rest_is })
-    further (inr g) f = inr (record { more = g.more; rest_is = g.rest_is; whole = ap (λ v. v ∷ es) f ∙ ap (◌∷◌ u) g.whole })
-
--- What stands in a journal stands so with more behind it
-
-more_behind : (s : Setting) (f : Front) (x : Entry) (rest more : List Entry) → ((k : Ending) → x ≡ e.Finish k → rest ≡ [] → ⊥) → Stands s f x rest → Stands s f x (rest ++ more)
-more_behind s f (e.Finish k) rest more none h = absurd (none k refl h.0)
-more_behind s f _ rest more none h = h
-
-pub longer : (s : Setting) (es : List Entry) (h : IsLawful s es) (x : Entry) (xs ys : List Event) → xs ≡ h.events ++ ys → IsUnfinished es → map entry_of ys ≡ targets (x ∷ [])
-    → AreRun s.program xs → ((u : ℕ) → HasPart s (es ++ x ∷ []) u (thread_at (replay (start s.program) xs) u)) → Stands s (front_of s es h.events) x []
-    → (h' : IsLawful s (es ++ x ∷ [])) × (h'.events ≡ xs)
-longer s es h x xs ys is open_ tells run parts last = (
-  record {
-    events = xs;
-    tells = ap (map entry_of) is ∙ (map_append entry_of h.events ys ∙ (ap (λ zs. zs ++ map entry_of ys) h.tells ∙ (ap (λ zs. targets es ++ zs) tells ∙ sym (targets_append es (x ∷ [])))));
-    run = run;
-    parts = parts;
-    stands = λ front y rest whole. stood front y rest (last_or_earlier es x front y rest whole);
-  },
-  refl,
-)
-  where
-    many : length (targets es) ≡ length h.events
-    many = sym (ap length h.tells) ∙ map_length entry_of h.events
-
-    stood : (front : List Entry) (y : Entry) (rest : List Entry) → IsLast es x front y rest ⊎ IsEarlier es x front y rest
-        → Stands s (front_of s front (take (length (targets front)) xs)) y rest
-    stood front y rest (inl g) =
-        let all : take (length (targets es)) xs ≡ h.events = ap (take (length (targets es))) is ∙ take_whole (length (targets es)) h.events ys many in
-        let here : Stands s (front_of s es (take (length (targets es)) xs)) x [] = subst (λ zs. Stands s (front_of s es zs) x []) (sym all) last in
-        let there : Stands s (front_of s front (take (length (targets front)) xs)) x [] =
-        subst (λ fs. Stands s (front_of s fs (take (length (targets fs)) xs)) x []) g.front_is here in
-        subst (Stands s (front_of s front (take (length (targets front)) xs)) y) (sym g.rest_is)
-        (subst (λ u. Stands s (front_of s front (take (length (targets front)) xs)) u []) g.entry_is there)
-    stood front y rest (inr g) =
-        let n : ℕ = length (targets front) in
-        let count : targets es ≡ targets front ++ targets (y ∷ g.more) = ap targets g.whole ∙ targets_append front (y ∷ g.more) in
-        let few : n ≤ length (targets es) = subst (λ zs. n ≤ length zs) (sym count) (length_append (targets front) (targets (y ∷ g.more))) in
-        let same : take n xs ≡ take n h.events = ap (take n) is ∙ take_front n h.events ys (subst (λ m. n ≤ m) many few) in
-        let before : Stands s (front_of s front (take n h.events)) y g.more = h.stands front y g.more g.whole in
-        let no : (k : Ending) → y ≡ e.Finish k → g.more ≡ [] → ⊥ = λ k a b. open_ k (record {
-          front = front;
-          is = g.whole ∙ (ap (λ us. front ++ y ∷ us) b ∙ ap (λ u. front ++ u ∷ []) a);
-        }) in
-        subst (Stands s (front_of s front (take n xs)) y) (sym g.rest_is)
-        (subst (λ zs. Stands s (front_of s front zs) y (g.more ++ x ∷ [])) (sym same)
-        (more_behind s (front_of s front (take n h.events)) y g.more (x ∷ []) no before))
-
--- A thread that did nothing
-
-no_items : (p : Source) (g : Option Function) (f : ℕ) (vs : List ℤ) → thread p g f vs 0 [] Open
-no_items p None f vs = (refl, refl)
-no_items p (Some g) f vs = inl (refl, refl)
-
-empty_trace : (p : Source) (f : ℕ) (vs : List ℤ) → IsTrace p f vs [] Open
-empty_trace p f vs = record { most_turns = 0; gives = no_items p (slice_get p.funcs f) f vs }
-
-empty_part : (p : Source) (plans : Plans) (t f : ℕ) (args : List ℤ) (vs : List Version) (es : List Entry) → es ≡ [] → vs ≡ [] → IsPart p plans (an_own t f args vs es)
-empty_part p plans t f args vs es none new = record {
-  steps = [];
-  ahead = [];
-  outcome = Open;
-  trace = empty_trace p f args;
-  woven = tt;
-  tells = sym none;
-  taken = new;
-}
-
--- Parts with one more entry
-
-not_mine : (t : ℕ) (x : Entry) (es : List Entry) → is_thread t (thread_of x) ≡ false → entries_of t (es ++ x ∷ []) ≡ entries_of t es
-not_mine t x es h =
-    entries_append t es (x ∷ []) ∙ (ap (λ zs. entries_of t es ++ zs) (if_false (is_thread t (thread_of x)) (x ∷ []) [] h) ∙ append_none (entries_of t es))
-
-and_false : (a b : Bool) → b ≡ false → (a && b) ≡ false
-and_false true b h = h
-and_false false b h = refl
-
-not_taken : (cs : List Command) (t : ℕ) (x : Entry) (es : List Entry) → is_thread t (thread_of x) ≡ false → taken cs t (es ++ x ∷ []) ≡ taken cs t es
-not_taken cs t x es h =
-    let v : Version = Control.version (controlled cs first_control es) in
-    let no : takes t x ≡ false = takes_is t x ∙ and_false (is_taking x) (is_thread t (thread_of x)) h in
-    taken_append cs t first_control es (x ∷ [])
-    ∙ (ap (λ zs. taken cs t es ++ zs) (if_false (takes t x) (v ∷ []) [] no) ∙ append_none (taken cs t es))
-
-others_part : (s : Setting) (es : List Entry) (x : Entry) (t : ℕ) (o o' : Option Spawned) → IsOf o o' → is_thread t (thread_of x) ≡ false → HasPart s es t o
-    → HasPart s (es ++ x ∷ []) t o'
-others_part s es x t None None is other h = not_mine t x es other ∙ h
-others_part s es x t None (Some z) is other h =
-    let none : entries_of t (es ++ x ∷ []) ≡ [] = not_mine t x es other ∙ h in
-    empty_part s.program (plans s) t z.func z.args (taken s.commands t (es ++ x ∷ [])) (entries_of t (es ++ x ∷ [])) none
-    (none_left (taken s.commands t (es ++ x ∷ [])) (sym (ap takings none) ∙ takings_taken s.commands t first_control (es ++ x ∷ [])))
-others_part s es x t (Some y) None is other h = absurd is
-others_part s es x t (Some y) (Some z) is other h =
-    let p : Source = s.program in
-    let one : IsPart p (plans s) (an_own t z.func y.args (taken s.commands t es) (entries_of t es)) =
-    subst (λ f. IsPart p (plans s) (an_own t f y.args (taken s.commands t es) (entries_of t es))) is.0 h in
-    let two : IsPart p (plans s) (an_own t z.func z.args (taken s.commands t es) (entries_of t es)) =
-    subst (λ vs. IsPart p (plans s) (an_own t z.func vs (taken s.commands t es) (entries_of t es))) is.1 one in
-    let three : IsPart p (plans s) (an_own t z.func z.args (taken s.commands t (es ++ x ∷ [])) (entries_of t es)) =
-    subst (λ vs. IsPart p (plans s) (an_own t z.func z.args vs (entries_of t es))) (sym (not_taken s.commands t x es other)) two in
-    subst (λ zs. IsPart p (plans s) (an_own t z.func z.args (taken s.commands t (es ++ x ∷ [])) zs)) (sym (not_mine t x es other)) three
-
-pub mine : (t : ℕ) (x : Entry) (es : List Entry) → is_thread t (thread_of x) ≡ true → entries_of t (es ++ x ∷ []) ≡ entries_of t es ++ x ∷ []
-mine t x es h = entries_append t es (x ∷ []) ∙ ap (λ zs. entries_of t es ++ zs) (if_true (is_thread t (thread_of x)) (x ∷ []) [] h)
-
-one_taken : (t : ℕ) (v : Version) (vs : List Version) (x : Entry) → is_thread t (thread_of x) ≡ true → vs ++ (if takes t x then v ∷ [] else []) ≡ with_newest x v vs
-one_taken t v vs (e.Begin u l) h = ap (λ zs. vs ++ zs) (if_true (u == t) (v ∷ []) [] h)
-one_taken t v vs (e.Cross u l x n m) h = ap (λ zs. vs ++ zs) (if_true (u == t) (v ∷ []) [] h)
-one_taken t v vs _ h = append_none vs
-
-newest_taken : (cs : List Command) (t : ℕ) (x : Entry) (es : List Entry) → is_thread t (thread_of x) ≡ true
-    → taken cs t (es ++ x ∷ []) ≡ with_newest x (Control.version (control cs es)) (taken cs t es)
-newest_taken cs t x es h = taken_append cs t first_control es (x ∷ []) ∙ one_taken t (Control.version (control cs es)) (taken cs t es) x h
-
-own_part : (s : Setting) (es : List Entry) (x : Entry) (t : ℕ) (y : Spawned) (o' : Option Spawned) → IsOf (Some y) o' → is_thread t (thread_of x) ≡ true
-    → IsPart s.program (plans s) (own_with s es t y x) → HasPart s (es ++ x ∷ []) t o'
-own_part s es x t y None is self h = absurd is
-own_part s es x t y (Some z) is self h =
-    let p : Source = s.program in
-    let vs : List Version = with_newest x (Control.version (control s.commands es)) (taken s.commands t es) in
-    let us : List Entry = entries_of t es ++ x ∷ [] in
-    let one : IsPart p (plans s) (an_own t z.func y.args vs us) = subst (λ f. IsPart p (plans s) (an_own t f y.args vs us)) is.0 h in
-    let two : IsPart p (plans s) (an_own t z.func z.args vs us) = subst (λ ws. IsPart p (plans s) (an_own t z.func ws vs us)) is.1 one in
-    let three : IsPart p (plans s) (an_own t z.func z.args (taken s.commands t (es ++ x ∷ [])) us) =
-    subst (λ ws. IsPart p (plans s) (an_own t z.func z.args ws us)) (sym (newest_taken s.commands t x es self)) two in
-    subst (λ zs. IsPart p (plans s) (an_own t z.func z.args (taken s.commands t (es ++ x ∷ [])) zs)) (sym (mine t x es self)) three
-
--- Control entries
-
-of_itself : (o : Option Spawned) → IsOf o o
-of_itself None = tt
-of_itself (Some x) = (refl, refl)
-
-no_target : (x : Entry) → thread_of x ≡ None → is_target x ≡ false
-no_target (e.Begin t l) h = cc
-no_target (e.End t l) h = cc
-no_target (e.Trap t l r) h = cc
-no_target (e.Read t l y v) h = cc
-no_target (e.Write t l y v) h = cc
-no_target (e.Lock t l m) h = cc
-no_target (e.Unlock t l m) h = cc
-no_target (e.Down t l y) h = cc
-no_target (e.Up t l y) h = cc
-no_target (e.Spawn t l c f vs) h = cc
-no_target (e.Join t l c) h = cc
-no_target (e.Print t l v) h = cc
-no_target _ h = refl
-
-pub control_turns : HasControlTurns
-control_turns s es h open_ x none stands =
-    longer s es h x h.events [] (sym (append_none h.events)) open_ (sym (if_false (is_target x) (x ∷ []) [] (no_target x none))) h.run
-    (λ t. others_part s es x t (thread_at (replay (start s.program) h.events) t) (thread_at (replay (start s.program) h.events) t)
-    (of_itself (thread_at (replay (start s.program) h.events) t)) (ap (is_thread t) none) (h.parts t))
-    stands
-
--- A journal with no entry
-
-no_deeds : (p : Source) (t : ℕ) (o : Option Spawned) → IsThreadTraced p [] t o
-no_deeds p t None = refl
-no_deeds p t (Some x) = record { items = []; outcome = Open; trace = empty_trace p x.func x.args; same = refl }
-
-no_part : (s : Setting) (t : ℕ) (o : Option Spawned) → HasPart s [] t o
-no_part s t None = refl
-no_part s t (Some x) = empty_part s.program (plans s) t x.func x.args [] [] refl refl
-
-no_entry : (front : List Entry) (x : Entry) (rest : List Entry) → [] ≡ front ++ x ∷ rest → ⊥
-no_entry [] x rest h = cc
-no_entry (y ∷ front) x rest h = cc
-
-pub beginning : HasBeginning
-beginning s = (
-  record {
-    events = [];
-    tells = refl;
-    run = record { traced = λ t. no_deeds s.program t (thread_at (start s.program) t); allowed = tt };
-    parts = λ t. no_part s t (thread_at (start s.program) t);
-    stands = λ front x rest is. absurd (no_entry front x rest is);
-  },
-  refl,
-)
+use Rattle.loom_law.proofs.Obedience.{are_said, balance}
+use Rattle.loom_law.proofs.Leaves.{right_leaves}
+use Rattle.loom_law.proofs.Earlier.{append_assoc, deeds_append, IsOf, act_keeps, replay_append, same_number, by_test, if_false, if_true, entry_thread, items_append, items_ahead, woven_front, first_begins, fewer, to_take, takings, takings_taken, an_own}
+use Rattle.loom_law.proofs.Longer.{longer, empty_trace, others_part, mine, newest_taken, own_part, of_itself}
 
 -- Parts behind an entry of a thread
 
 pub eq_same : (n : ℕ) → (n == n) ≡ true
 eq_same n = grind arith
 
-turn_parts : (s : Setting) (es : List Entry) (st : Store) (x : Entry) (t : ℕ) (z : Spawned) → ((u : ℕ) → HasPart s es u (thread_at st u)) → thread_of x ≡ Some t
+turn_parts : (s : Setting) (es : List Entry) (st : Store) (x : Entry) (t : ℕ) (z : ThreadState) → ((u : ℕ) → HasPart s es u (thread_at st u)) → thread_of x ≡ Some t
     → thread_at st t ≡ Some z → IsPart s.program (plans s) (own_with s es t z x) → (st' : Store) → ((u : ℕ) → IsOf (thread_at st u) (thread_at st' u)) → (u : ℕ)
     → HasPart s (es ++ x ∷ []) u (thread_at st' u)
 turn_parts s es st x t z parts of there part st' keeps u =
@@ -283,7 +51,7 @@ turn_parts s es st x t z parts of there part st' keeps u =
 abbrev entry_of_deed : ℕ → Deed → Entry
 entry_of_deed t d = entry_by t d.line d.act
 
-pub op_no_target : (t l : ℕ) (o : Op) → is_target (entry_of_op t l o) ≡ false
+pub op_no_target : (t l : ℕ) (o : Operation) → is_target (entry_of_operation t l o) ≡ false
 op_no_target t l (wait k n) = refl
 op_no_target t l (enters k c) = refl
 op_no_target t l (at k ns) = refl
@@ -295,7 +63,7 @@ op_no_target t l (tick x) = refl
 op_no_target t l (cross x v n) = refl
 op_no_target t l (blocked what) = refl
 
-pub op_thread : (t l : ℕ) (o : Op) → thread_of (entry_of_op t l o) ≡ Some t
+pub op_thread : (t l : ℕ) (o : Operation) → thread_of (entry_of_operation t l o) ≡ Some t
 op_thread t l (wait k n) = refl
 op_thread t l (enters k c) = refl
 op_thread t l (at k ns) = refl
@@ -324,7 +92,7 @@ act_target t l (print v) = refl
 told_targets : (t : ℕ) (ss : List Step) → targets (told t ss) ≡ map (entry_of_deed t) (acts (items ss))
 told_targets t [] = refl
 told_targets t (makes l o ∷ ss) =
-    if_false (is_target (entry_of_op t l o)) (entry_of_op t l o ∷ targets (told t ss)) (targets (told t ss)) (op_no_target t l o) ∙ told_targets t ss
+    if_false (is_target (entry_of_operation t l o)) (entry_of_operation t l o ∷ targets (told t ss)) (targets (told t ss)) (op_no_target t l o) ∙ told_targets t ss
 told_targets t (goes (made l a) ∷ ss) =
     if_true (is_target (entry_by t l a)) (entry_by t l a ∷ targets (told t ss)) (targets (told t ss)) (act_target t l a) ∙ ap (◌∷◌ (entry_by t l a)) (told_targets t ss)
 told_targets t (goes (begins l env) ∷ ss) = told_targets t ss
@@ -391,7 +159,7 @@ acts_append (out f ∷ is) js = acts_append is js
 
 -- Runs with one more event
 
-own_traced : (s : Setting) (es : List Entry) (h : IsLawful s es) (y : Event) (z : Spawned) → thread_at (replay (start s.program) h.events) y.thread ≡ Some z
+own_traced : (s : Setting) (es : List Entry) (h : IsStrict s es) (y : Event) (z : ThreadState) → thread_at (replay (start s.program) h.events) y.thread ≡ Some z
     → (part : IsPart s.program (plans s) (own_with s es y.thread z (entry_of y))) (before : List Step) → part.steps ≡ before ++ goes (made y.line y.act) ∷ []
     → IsTraced s.program z.func z.args (deeds y.thread h.events ++ record { line = y.line; act = y.act } ∷ [])
 own_traced s es h y z there part before is =
@@ -421,7 +189,7 @@ allowed_append : (s : Store) (xs : List Event) (y : Event) → AreAllowed s xs �
 allowed_append s [] y h g = (g, tt)
 allowed_append s (x ∷ xs) y h g = (h.0, allowed_append (law.after s x) xs y h.1 g)
 
-same_traced : (p : Source) (xs : List Event) (t : ℕ) (ds : List Deed) (z : Spawned) (o : Option Spawned) → IsOf (Some z) o → deeds t xs ≡ ds → IsTraced p z.func z.args ds
+same_traced : (p : Source) (xs : List Event) (t : ℕ) (ds : List Deed) (z : ThreadState) (o : Option ThreadState) → IsOf (Some z) o → deeds t xs ≡ ds → IsTraced p z.func z.args ds
     → IsThreadTraced p xs t o
 same_traced p xs t ds z None is same h = absurd is
 same_traced p xs t ds z (Some y) is same h =
@@ -429,7 +197,7 @@ same_traced p xs t ds z (Some y) is same h =
     let two : IsTraced p y.func y.args ds = subst (λ vs. IsTraced p y.func vs ds) is.1 one in
     subst (IsTraced p y.func y.args) (sym same) two
 
-others_traced : (p : Source) (xs ys : List Event) (t : ℕ) (o o' : Option Spawned) → IsOf o o' → deeds t ys ≡ deeds t xs → IsThreadTraced p xs t o → IsThreadTraced p ys t o'
+others_traced : (p : Source) (xs ys : List Event) (t : ℕ) (o o' : Option ThreadState) → IsOf o o' → deeds t ys ≡ deeds t xs → IsThreadTraced p xs t o → IsThreadTraced p ys t o'
 others_traced p xs ys t None None is same h = same ∙ h
 others_traced p xs ys t None (Some y) is same h = record { items = []; outcome = Open; trace = empty_trace p y.func y.args; same = sym (same ∙ h) }
 others_traced p xs ys t (Some x) o' is same h = same_traced p ys t (deeds t xs) x o' is same h
@@ -446,7 +214,7 @@ keeps_threads : (p : Source) (xs : List Event) (y : Event) (u : ℕ) → IsOf (t
 keeps_threads p xs y u =
     subst (λ st. IsOf (thread_at (replay (start p) xs) u) (thread_at st u)) (sym (replay_append (start p) xs (y ∷ []))) (act_keeps (replay (start p) xs) y.thread y.act u)
 
-longer_run : (p : Source) (xs : List Event) (y : Event) (z : Spawned) → AreRun p xs → thread_at (replay (start p) xs) y.thread ≡ Some z → IsAllowed (replay (start p) xs) y
+longer_run : (p : Source) (xs : List Event) (y : Event) (z : ThreadState) → AreRun p xs → thread_at (replay (start p) xs) y.thread ≡ Some z → IsAllowed (replay (start p) xs) y
     → IsTraced p z.func z.args (deeds y.thread xs ++ record { line = y.line; act = y.act } ∷ []) → AreRun p (xs ++ y ∷ [])
 longer_run p xs y z run there ok traced = record {
   traced = λ u. by_test (y.thread == u) (IsThreadTraced p (xs ++ y ∷ []) u (thread_at (replay (start p) (xs ++ y ∷ [])) u))
@@ -480,8 +248,8 @@ drop_whole (suc n) (x ∷ xs) ys h = drop_whole n xs ys (omega arith)
 pub walked_coming : (p : Source) (plans : Plans) (t : ℕ) (z : Walk) (ss : List Step) → Walk.coming (walked p plans z ss) ≡ drop (takings (told t ss)) z.coming
 walked_coming p plans t z [] = refl
 walked_coming p plans t z (goes (made l begin) ∷ ss) =
-    walked_coming p plans t (taking (entered_journal z) z.coming) ss
-    ∙ drop_first (takings (told t ss)) z.coming (Walk.coming (taking (entered_journal z) z.coming)) (taking_coming (entered_journal z) z.coming refl)
+    walked_coming p plans t (taking (behind_entry z) z.coming) ss
+    ∙ drop_first (takings (told t ss)) z.coming (Walk.coming (taking (behind_entry z) z.coming)) (taking_coming (behind_entry z) z.coming refl)
 walked_coming p plans t z (makes l (cross x v n) ∷ ss) =
     walked_coming p plans t (crossing p plans z z.coming) ss
     ∙ drop_first (takings (told t ss)) z.coming (Walk.coming (crossing p plans z z.coming)) (crossing_coming p plans z z.coming refl)
@@ -537,7 +305,7 @@ holder_found (g ∷ hs) t h =
     let ih = holder_found hs t (or_rest (g.thread == t) (list_any (λ (h : Holder). h.thread == t) hs) b h) in
     (ih.0, (ih.1.0, or_right ((g.filter == ih.0) && ((g.clause == ih.1.0) && (g.thread == t))) _ ih.1.1)))
 
-end_free : (s : Setting) (es : List Entry) (h : IsLawful s es) (t l : ℕ) (z : Spawned) (part : IsPart s.program (plans s) (own_with s es t z (e.End t l))) (before : List Step)
+end_free : (s : Setting) (es : List Entry) (h : IsStrict s es) (t l : ℕ) (z : ThreadState) (part : IsPart s.program (plans s) (own_with s es t z (e.End t l))) (before : List Step)
     → part.steps ≡ before ++ goes (made l end) ∷ [] → list_any (λ (g : Holder). g.thread == t) (Control.holders (control s.commands es)) ≡ false
 end_free s es h t l z part before is =
     let p : Source = s.program in
@@ -559,7 +327,7 @@ end_free s es h t l z part before is =
       taken = walked_coming p (plans s) t (unborn vs) before
           ∙ drop_all (takings (told t before)) vs (ap takings same ∙ takings_taken s.commands t first_control es);
     } in
-    let h' : IsLawful s (es ++ []) = subst (IsLawful s) (sym (append_none es)) h in
+    let h' : IsStrict s (es ++ []) = subst (IsStrict s) (sym (append_none es)) h in
     let sound : IsSound (control s.commands es) = sound_along s.commands first_control es (are_said s es [] h') first_sound in
     by_test (list_any (λ (g : Holder). g.thread == t) (Control.holders (control s.commands es)))
     (list_any (λ (g : Holder). g.thread == t) (Control.holders (control s.commands es)) ≡ false)
@@ -571,7 +339,7 @@ end_free s es h t l z part before is =
     cc)
     (λ b. b)
 
-pub act_free : (s : Setting) (es : List Entry) (h : IsLawful s es) (t l : ℕ) (a : Act) (z : Spawned) (part : IsPart s.program (plans s) (own_with s es t z (entry_by t l a)))
+pub act_free : (s : Setting) (es : List Entry) (h : IsStrict s es) (t l : ℕ) (a : Act) (z : ThreadState) (part : IsPart s.program (plans s) (own_with s es t z (entry_by t l a)))
     (before : List Step) → part.steps ≡ before ++ goes (made l a) ∷ [] → a ≡ end
     → list_any (λ (g : Holder). g.thread == t) (Control.holders (control s.commands es)) ≡ false
 act_free s es h t l begin z part before is e = cc
@@ -591,25 +359,25 @@ pub event_stands : (s : Setting) (f : Front) (t l : ℕ) (a : Act) → MayMove s
     → (a ≡ end → list_any (λ (g : Holder). g.thread == t) f.control.holders ≡ false) → Stands s f (entry_by t l a) []
 event_stands s f t l begin m free = (m, tt)
 event_stands s f t l end m free = (m, free refl)
-event_stands s f t l (trap c) m free = m
-event_stands s f t l (read x v) m free = m
-event_stands s f t l (write x v) m free = m
-event_stands s f t l (lock x) m free = m
-event_stands s f t l (unlock x) m free = m
-event_stands s f t l (down x) m free = m
-event_stands s f t l (up x) m free = m
-event_stands s f t l (spawn c g vs) m free = m
-event_stands s f t l (join c) m free = m
-event_stands s f t l (print v) m free = m
+event_stands s f t l (trap c) m free = (m, tt)
+event_stands s f t l (read x v) m free = (m, tt)
+event_stands s f t l (write x v) m free = (m, tt)
+event_stands s f t l (lock x) m free = (m, tt)
+event_stands s f t l (unlock x) m free = (m, tt)
+event_stands s f t l (down x) m free = (m, tt)
+event_stands s f t l (up x) m free = (m, tt)
+event_stands s f t l (spawn c g vs) m free = (m, tt)
+event_stands s f t l (join c) m free = (m, tt)
+event_stands s f t l (print v) m free = (m, tt)
 
 -- What a turn shows is what stands
 
-pub own_same : (s : Setting) (es : List Entry) (x : Entry) (t : ℕ) (z : Spawned) → is_thread t (thread_of x) ≡ true → own_with s es t z x ≡ own s (es ++ x ∷ []) t z
+pub own_same : (s : Setting) (es : List Entry) (x : Entry) (t : ℕ) (z : ThreadState) → is_thread t (thread_of x) ≡ true → own_with s es t z x ≡ own s (es ++ x ∷ []) t z
 own_same s es x t z self =
     ap (λ vs. an_own t z.func z.args vs (entries_of t es ++ x ∷ [])) (sym (newest_taken s.commands t x es self))
     ∙ ap (λ us. an_own t z.func z.args (taken s.commands t (es ++ x ∷ [])) us) (sym (mine t x es self))
 
-moved : (p : Source) (plans : Plans) (x : Own) (h : IsPart p plans x) (before : List Step) (step : Step) (y : Entry) → h.steps ≡ before ++ step ∷ []
+pub moved : (p : Source) (plans : Plans) (x : Own) (h : IsPart p plans x) (before : List Step) (step : Step) (y : Entry) → h.steps ≡ before ++ step ∷ []
     → told x.thread (step ∷ []) ≡ y ∷ [] → HasMoved p plans x before
 moved p plans x h before step y is tells = record {
   last = step;
@@ -627,12 +395,12 @@ turn_parked : (s : Setting) (es : List Entry) (xs : List Event) (t : ℕ) (x : E
 turn_parked s es xs t x step m self tells None is = tt
 turn_parked s es xs t x step m self tells (Some k) is = (
   (λ some.
-      let away : KeptAway s (own_with s es t m.state x) k = record {
+      let away : StaysAway s (own_with s es t m.state x) k = record {
         steps = m.before;
         moved = moved s.program (plans s) (own_with s es t m.state x) m.part m.before step x m.last tells;
         away = m.away k is some;
       } in
-      subst (Parks s (es ++ x ∷ []) k t) (sym m.there) (subst (λ w. KeptAway s w k) (own_same s es x t m.state self) away)),
+      subst (Parks s (es ++ x ∷ []) k t) (sym m.there) (subst (λ w. StaysAway s w k) (own_same s es x t m.state self) away)),
   (λ b. m.no_begin k is b),
 )
 
@@ -645,7 +413,9 @@ turn_moves s es xs t x step m of tells = record {
   parked = turn_parked s es xs t x step m (ap (is_thread t) of ∙ eq_same t) tells (Control.asked (control s.commands es)) refl;
 }
 
-pub event_turns : HasEventTurns
+pub event_turns : (s : Setting) (es : List Entry) (h : IsStrict s es) → IsUnfinished es
+    → (y : Event) → MayTurn s es h.events y.thread (entry_of y) (goes (made y.line y.act)) → IsAllowed (replay (start s.program) h.events) y
+    → (h' : IsStrict s (es ++ entry_of y ∷ [])) × (h'.events ≡ h.events ++ y ∷ [])
 event_turns s es h open_ y m ok =
     let p : Source = s.program in
     let x : Entry = entry_of y in
@@ -659,22 +429,22 @@ event_turns s es h open_ y m ok =
 -- Before an operation
 
 -- these steps stand before the operation
-record BeforeOp (t : ℕ) (ss : List Step) (es : List Entry) (l : ℕ) (o : Op) : Type 0 where
+record BeforeOp (t : ℕ) (ss : List Step) (es : List Entry) (l : ℕ) (o : Operation) : Type 0 where
   before : List Step
   behind : List Step
   whole : ss ≡ before ++ makes l o ∷ behind
   same : told t before ≡ es
 
-op_here : (t m : ℕ) (q : Op) (l : ℕ) (o : Op) (ss : List Step) → entry_of_op t m q ∷ told t ss ≡ entry_of_op t l o ∷ [] → BeforeOp t (makes m q ∷ ss) [] l o
+op_here : (t m : ℕ) (q : Operation) (l : ℕ) (o : Operation) (ss : List Step) → entry_of_operation t m q ∷ told t ss ≡ entry_of_operation t l o ∷ [] → BeforeOp t (makes m q ∷ ss) [] l o
 op_here t m q l o ss h =
-    let first : entry_of_op t m q ≡ entry_of_op t l o = cc in
+    let first : entry_of_operation t m q ≡ entry_of_operation t l o = cc in
     let both = same_op t m l q o first in
     record { before = []; behind = ss; whole = ap (λ n. makes n q ∷ ss) both.0 ∙ ap (λ r. makes l r ∷ ss) both.1; same = refl }
 
-with_mark : (t : ℕ) (s : Step) (ss : List Step) (es : List Entry) (l : ℕ) (o : Op) → ((us : List Step) → told t (s ∷ us) ≡ told t us) → BeforeOp t ss es l o → BeforeOp t (s ∷ ss) es l o
+with_mark : (t : ℕ) (s : Step) (ss : List Step) (es : List Entry) (l : ℕ) (o : Operation) → ((us : List Step) → told t (s ∷ us) ≡ told t us) → BeforeOp t ss es l o → BeforeOp t (s ∷ ss) es l o
 with_mark t s ss es l o skips h = record { before = s ∷ h.before; behind = h.behind; whole = ap (◌∷◌ s) h.whole; same = skips h.before ∙ h.same }
 
-with_told : (t : ℕ) (s : Step) (ss : List Step) (x y : Entry) (es fs : List Entry) (l : ℕ) (o : Op) → ((us : List Step) → told t (s ∷ us) ≡ x ∷ told t us)
+with_told : (t : ℕ) (s : Step) (ss : List Step) (x y : Entry) (es fs : List Entry) (l : ℕ) (o : Operation) → ((us : List Step) → told t (s ∷ us) ≡ x ∷ told t us)
     → x ∷ told t ss ≡ (y ∷ es) ++ fs → (told t ss ≡ es ++ fs → BeforeOp t ss es l o) → BeforeOp t (s ∷ ss) (y ∷ es) l o
 with_told t s ss x y es fs l o tells h go =
     let first : x ≡ y = cc in
@@ -682,33 +452,33 @@ with_told t s ss x y es fs l o tells h go =
     let c : BeforeOp t ss es l o = go others in
     record { before = s ∷ c.before; behind = c.behind; whole = ap (◌∷◌ s) c.whole; same = tells c.before ∙ (ap (λ z. z ∷ told t c.before) first ∙ ap (◌∷◌ y) c.same) }
 
-before_op : (t : ℕ) (ss : List Step) (es : List Entry) (l : ℕ) (o : Op) → told t ss ≡ es ++ entry_of_op t l o ∷ [] → BeforeOp t ss es l o
-before_op t [] es l o h = absurd (never_empty es (entry_of_op t l o) h)
+before_op : (t : ℕ) (ss : List Step) (es : List Entry) (l : ℕ) (o : Operation) → told t ss ≡ es ++ entry_of_operation t l o ∷ [] → BeforeOp t ss es l o
+before_op t [] es l o h = absurd (never_empty es (entry_of_operation t l o) h)
 before_op t (makes m q ∷ ss) [] l o h = op_here t m q l o ss h
-before_op t (goes (made m a) ∷ ss) [] l o h = let first : entry_by t m a ≡ entry_of_op t l o = cc in absurd (act_is_no_op t m l a o first)
+before_op t (goes (made m a) ∷ ss) [] l o h = let first : entry_by t m a ≡ entry_of_operation t l o = cc in absurd (act_is_no_op t m l a o first)
 before_op t (makes m q ∷ ss) (y ∷ es) l o h =
-    with_told t (makes m q) ss (entry_of_op t m q) y es (entry_of_op t l o ∷ []) l o (λ us. refl) h (λ g. before_op t ss es l o g)
+    with_told t (makes m q) ss (entry_of_operation t m q) y es (entry_of_operation t l o ∷ []) l o (λ us. refl) h (λ g. before_op t ss es l o g)
 before_op t (goes (made m a) ∷ ss) (y ∷ es) l o h =
-    with_told t (goes (made m a)) ss (entry_by t m a) y es (entry_of_op t l o ∷ []) l o (λ us. refl) h (λ g. before_op t ss es l o g)
+    with_told t (goes (made m a)) ss (entry_by t m a) y es (entry_of_operation t l o ∷ []) l o (λ us. refl) h (λ g. before_op t ss es l o g)
 before_op t (goes (begins m env) ∷ ss) es l o h = with_mark t (goes (begins m env)) ss es l o (λ us. refl) (before_op t ss es l o h)
 before_op t (goes (done m) ∷ ss) es l o h = with_mark t (goes (done m)) ss es l o (λ us. refl) (before_op t ss es l o h)
 before_op t (goes (edge m) ∷ ss) es l o h = with_mark t (goes (edge m)) ss es l o (λ us. refl) (before_op t ss es l o h)
 before_op t (goes (enter f env) ∷ ss) es l o h = with_mark t (goes (enter f env)) ss es l o (λ us. refl) (before_op t ss es l o h)
 before_op t (goes (out f) ∷ ss) es l o h = with_mark t (goes (out f)) ss es l o (λ us. refl) (before_op t ss es l o h)
 
-stands_there : (p : Source) (plans : Plans) (z : Walk) (before : List Step) (s : Step) (behind : List Step) (ahead : List Item) → AreWoven p plans z (before ++ s ∷ behind) ahead
+pub stands_there : (p : Source) (plans : Plans) (z : Walk) (before : List Step) (s : Step) (behind : List Step) (ahead : List Item) → AreWoven p plans z (before ++ s ∷ behind) ahead
     → MayStand p (walked p plans z before) s (items behind ++ ahead)
 stands_there p plans z [] s behind ahead h = h.0
 stands_there p plans z (u ∷ before) s behind ahead h = stands_there p plans (after p plans z u) before s behind ahead h.1
 
 -- a part with an operation behind it, which takes no version
-record FrontPart (p : Source) (plans : Plans) (x : Own) (l : ℕ) (o : Op) : Type 0 where
+record FrontPart (p : Source) (plans : Plans) (x : Own) (l : ℕ) (o : Operation) : Type 0 where
   part : IsPart p plans x
   rest : List Item
   stands : MayStand p (led p plans x part.steps) (makes l o) rest
 
-front_part : (p : Source) (plans : Plans) (t f : ℕ) (args : List ℤ) (vs : List Version) (es : List Entry) (l : ℕ) (o : Op) → takings es ≡ length vs
-    → IsPart p plans (an_own t f args vs (es ++ entry_of_op t l o ∷ [])) → FrontPart p plans (an_own t f args vs es) l o
+front_part : (p : Source) (plans : Plans) (t f : ℕ) (args : List ℤ) (vs : List Version) (es : List Entry) (l : ℕ) (o : Operation) → takings es ≡ length vs
+    → IsPart p plans (an_own t f args vs (es ++ entry_of_operation t l o ∷ [])) → FrontPart p plans (an_own t f args vs es) l o
 front_part p plans t f args vs es l o n h =
     let c : BeforeOp t h.steps es l o = before_op t h.steps es l o h.tells in
     let woven : AreWoven p plans (unborn vs) (c.before ++ makes l o ∷ c.behind) h.ahead = subst (λ ss. AreWoven p plans (unborn vs) ss h.ahead) c.whole h.woven in
@@ -733,11 +503,11 @@ front_part p plans t f args vs es l o n h =
     }
 
 -- a thread that makes an operation has begun
-has_begun : (p : Source) (plans : Plans) (t f : ℕ) (args : List ℤ) (vs : List Version) (es : List Entry) (l : ℕ) (o : Op)
-    → IsPart p plans (an_own t f args vs (es ++ entry_of_op t l o ∷ [])) → (y : Entry) × ((ys : List Entry) × (es ≡ y ∷ ys))
+has_begun : (p : Source) (plans : Plans) (t f : ℕ) (args : List ℤ) (vs : List Version) (es : List Entry) (l : ℕ) (o : Operation)
+    → IsPart p plans (an_own t f args vs (es ++ entry_of_operation t l o ∷ [])) → (y : Entry) × ((ys : List Entry) × (es ≡ y ∷ ys))
 has_begun p plans t f args vs (y ∷ es) l o h = (y, (es, refl))
 has_begun p plans t f args vs [] l o h =
-    let b = first_begins p plans t f args vs h.steps h.ahead h.outcome (entry_of_op t l o) [] h.trace h.woven h.tells in
+    let b = first_begins p plans t f args vs h.steps h.ahead h.outcome (entry_of_operation t l o) [] h.trace h.woven h.tells in
     let bad : true ≡ false = sym (ap is_target b.1.1) ∙ op_no_target t l o in
     cc
 
@@ -748,12 +518,12 @@ slice_small [] i x h = cc
 slice_small (y ∷ xs) zero x h = omega arith
 slice_small (y ∷ xs) (suc i) x h = let ih : i < length xs = slice_small xs i x h in omega arith
 
-changed_length : (s : Store) (f : Spawned → Spawned) (xs : List Spawned) (n : ℕ) → length (Store.spawned (with_thread (record s { spawned = xs }) (suc n) f)) ≡ length xs
+changed_length : (s : Store) (f : ThreadState → ThreadState) (xs : List ThreadState) (n : ℕ) → length (Store.spawned (with_thread (record s { spawned = xs }) (suc n) f)) ≡ length xs
 changed_length s f [] n = refl
 changed_length s f (x ∷ xs) zero = refl
 changed_length s f (x ∷ xs) (suc n) = ap suc (changed_length s f xs n)
 
-with_thread_length : (s : Store) (u : ℕ) (f : Spawned → Spawned) → length (Store.spawned (with_thread s u f)) ≡ length s.spawned
+with_thread_length : (s : Store) (u : ℕ) (f : ThreadState → ThreadState) → length (Store.spawned (with_thread s u f)) ≡ length s.spawned
 with_thread_length s zero f = refl
 with_thread_length s (suc n) f = changed_length s f s.spawned n
 
@@ -787,7 +557,7 @@ few_first : (o : Option ℕ) → length (main_thread o) ≤ thread_limit
 few_first None = omega arith
 few_first (Some f) = omega arith
 
-thread_small : (p : Source) (xs : List Event) (i : ℕ) (z : Spawned) → AreAllowed (start p) xs → thread_at (replay (start p) xs) (suc i) ≡ Some z → i < thread_limit
+thread_small : (p : Source) (xs : List Event) (i : ℕ) (z : ThreadState) → AreAllowed (start p) xs → thread_at (replay (start p) xs) (suc i) ≡ Some z → i < thread_limit
 thread_small p xs i z ok there =
     let few : length (Store.spawned (replay (start p) xs)) ≤ thread_limit = few_along (start p) xs ok (few_first (function_number p (codes "main"))) in
     let small : i < length (Store.spawned (replay (start p) xs)) = slice_small (Store.spawned (replay (start p) xs)) i z there in
@@ -795,7 +565,7 @@ thread_small p xs i z ok there =
 
 -- Operations
 
-op_owes : (t l : ℕ) (o : Op) (ys : List ℕ) → owes_cross (entry_of_op t l o) ys ≡ false → ys ≡ []
+op_owes : (t l : ℕ) (o : Operation) (ys : List ℕ) → owes_cross (entry_of_operation t l o) ys ≡ false → ys ≡ []
 op_owes t l o [] h = refl
 op_owes t l (wait k n) (y ∷ ys) h = cc
 op_owes t l (enters k c) (y ∷ ys) h = cc
@@ -809,24 +579,24 @@ op_owes t l (cross x v n) (y ∷ ys) h = cc
 op_owes t l (blocked what) (y ∷ ys) h = cc
 
 -- the thread's part with the operation, where it takes no version
-abbrev MakesOp : Setting → List Entry → ℕ → Spawned → ℕ → Op → Type 0
-MakesOp s es t z l o = IsPart s.program (plans s) (an_own t z.func z.args (taken s.commands t es) (entries_of t es ++ entry_of_op t l o ∷ []))
+abbrev MakesOp : Setting → List Entry → ℕ → ThreadState → ℕ → Operation → Type 0
+MakesOp s es t z l o = IsPart s.program (plans s) (an_own t z.func z.args (taken s.commands t es) (entries_of t es ++ entry_of_operation t l o ∷ []))
 
-abbrev IsOwed : ℕ → Op → Type 0
+abbrev IsOwed : ℕ → Operation → Type 0
 IsOwed l o = (p : Source) (z : Walk) (rest : List Item) → MayStand p z (makes l o) rest → Owes z.owed l o
 
-op_installed : (s : Setting) (es : List Entry) (h : IsLawful s es) (i l : ℕ) (o : Op) (z : Spawned) (k : ℕ) → thread_at (replay (start s.program) h.events) (suc i) ≡ Some z
-    → MakesOp s es (suc i) z l o → owes_cross (entry_of_op (suc i) l o) (listed (suc i) es) ≡ false → filter_of o ≡ Some k → IsOwed l o
+op_installed : (s : Setting) (es : List Entry) (h : IsStrict s es) (i l : ℕ) (o : Operation) (z : ThreadState) (k : ℕ) → thread_at (replay (start s.program) h.events) (suc i) ≡ Some z
+    → MakesOp s es (suc i) z l o → owes_cross (entry_of_operation (suc i) l o) (listed (suc i) es) ≡ false → filter_of o ≡ Some k → IsOwed l o
     → is_installed (control s.commands es) k ≡ true
 op_installed s es h i l o z k there part none f owed =
     let t : ℕ = suc i in
     let n : takings (entries_of t es) ≡ length (taken s.commands t es) = takings_taken s.commands t first_control es in
     let b : FrontPart s.program (plans s) (own s es t z) l o = front_part s.program (plans s) t z.func z.args (taken s.commands t es) (entries_of t es) l o n part in
     let begun = has_begun s.program (plans s) t z.func z.args (taken s.commands t es) (entries_of t es) l o part in
-    owed_installed s es [] (subst (IsLawful s) (sym (append_none es)) h) i (thread_small s.program h.events i z h.run.allowed there) z b.part begun.0 begun.1.0 begun.1.1
+    owed_installed s es [] (subst (IsStrict s) (sym (append_none es)) h) i (thread_small s.program h.events i z h.run.allowed there) z b.part begun.0 begun.1.0 begun.1.1
     (op_owes t l o (listed t es) none) l o k (owed s.program (led s.program (plans s) (own s es t z) b.part.steps) b.rest b.stands) f
 
-leave_held : (s : Setting) (es : List Entry) (h : IsLawful s es) (i l k c : ℕ) (z : Spawned) → thread_at (replay (start s.program) h.events) (suc i) ≡ Some z
+leave_held : (s : Setting) (es : List Entry) (h : IsStrict s es) (i l k c : ℕ) (z : ThreadState) → thread_at (replay (start s.program) h.events) (suc i) ≡ Some z
     → MakesOp s es (suc i) z l (leave k c) → owes_cross (e.Leave (suc i) l k c) (listed (suc i) es) ≡ false → is_held_by (control s.commands es) k c (suc i) ≡ true
 leave_held s es h i l k c z there part none =
     let t : ℕ = suc i in
@@ -834,7 +604,7 @@ leave_held s es h i l k c z there part none =
     let b : FrontPart s.program (plans s) (own s es t z) l (leave k c) =
     front_part s.program (plans s) t z.func z.args (taken s.commands t es) (entries_of t es) l (leave k c) n part in
     let begun = has_begun s.program (plans s) t z.func z.args (taken s.commands t es) (entries_of t es) l (leave k c) part in
-    right_leaves s es [] (subst (IsLawful s) (sym (append_none es)) h) i (thread_small s.program h.events i z h.run.allowed there) z b.part begun.0 begun.1.0 begun.1.1
+    right_leaves s es [] (subst (IsStrict s) (sym (append_none es)) h) i (thread_small s.program h.events i z h.run.allowed there) z b.part begun.0 begun.1.0 begun.1.1
     (op_owes t l (leave k c) (listed t es) none) l k c b.stands
 
 -- The version of a `Cross`
@@ -852,17 +622,17 @@ cross_version p plans t f args vs v es l x n m few h =
     let same : Some v.number ≡ Some n = ap first_number (sym coming) ∙ stands.version in
     cc
 
-op_stands : (s : Setting) (es : List Entry) (h : IsLawful s es) (i l : ℕ) (o : Op) (z : Spawned) → thread_at (replay (start s.program) h.events) (suc i) ≡ Some z
-    → IsPart s.program (plans s) (own_with s es (suc i) z (entry_of_op (suc i) l o)) → MayMove s (front_of s es h.events) (suc i) (entry_of_op (suc i) l o)
-    → Needs s (front_of s es h.events) (entry_of_op (suc i) l o) → Stands s (front_of s es h.events) (entry_of_op (suc i) l o) []
+op_stands : (s : Setting) (es : List Entry) (h : IsStrict s es) (i l : ℕ) (o : Operation) (z : ThreadState) → thread_at (replay (start s.program) h.events) (suc i) ≡ Some z
+    → IsPart s.program (plans s) (own_with s es (suc i) z (entry_of_operation (suc i) l o)) → MayMove s (front_of s es h.events) (suc i) (entry_of_operation (suc i) l o)
+    → Permits s (front_of s es h.events) (entry_of_operation (suc i) l o) → Stands s (front_of s es h.events) (entry_of_operation (suc i) l o) []
 op_stands s es h i l (wait k n) z there part m needs = (m, (op_installed s es h i l (wait k n) z k there part (sym m.crosses) refl (λ p w rest g. g), needs))
 op_stands s es h i l (enters k c) z there part m needs = (m, (op_installed s es h i l (enters k c) z k there part (sym m.crosses) refl (λ p w rest g. g), needs))
 op_stands s es h i l (at k ns) z there part m needs = (m, (op_installed s es h i l (at k ns) z k there part (sym m.crosses) refl (λ p w rest g. g), needs))
 op_stands s es h i l (past k ns) z there part m needs = (m, op_installed s es h i l (past k ns) z k there part (sym m.crosses) refl (λ p w rest g. g))
 op_stands s es h i l (post k n) z there part m needs = (m, op_installed s es h i l (post k n) z k there part (sym m.crosses) refl (λ p w rest g. g))
 op_stands s es h i l (leave k c) z there part m needs = (m, leave_held s es h i l k c z there part (sym m.crosses))
-op_stands s es h i l back z there part m needs = m
-op_stands s es h i l (tick x) z there part m needs = m
+op_stands s es h i l back z there part m needs = (m, tt)
+op_stands s es h i l (tick x) z there part m needs = (m, tt)
 op_stands s es h i l (cross x v n) z there part m needs = (
   m,
   (
@@ -873,20 +643,22 @@ op_stands s es h i l (cross x v n) z there part m needs = (
 )
 op_stands s es h i l (blocked what) z there part m needs = (m, needs)
 
-pub some_thread : (s : Setting) (es : List Entry) (h : IsLawful s es) (t l : ℕ) (o : Op) (z : Spawned) → thread_at (replay (start s.program) h.events) t ≡ Some z
-    → IsPart s.program (plans s) (own_with s es t z (entry_of_op t l o)) → MayMove s (front_of s es h.events) t (entry_of_op t l o)
-    → Needs s (front_of s es h.events) (entry_of_op t l o) → Stands s (front_of s es h.events) (entry_of_op t l o) []
+pub some_thread : (s : Setting) (es : List Entry) (h : IsStrict s es) (t l : ℕ) (o : Operation) (z : ThreadState) → thread_at (replay (start s.program) h.events) t ≡ Some z
+    → IsPart s.program (plans s) (own_with s es t z (entry_of_operation t l o)) → MayMove s (front_of s es h.events) t (entry_of_operation t l o)
+    → Permits s (front_of s es h.events) (entry_of_operation t l o) → Stands s (front_of s es h.events) (entry_of_operation t l o) []
 some_thread s es h zero l o z there part moves needs = cc
 some_thread s es h (suc i) l o z there part moves needs = op_stands s es h i l o z there part moves needs
 
-pub operation_turns : HasOperationTurns
+pub operation_turns : (s : Setting) (es : List Entry) (h : IsStrict s es) → IsUnfinished es
+    → (t l : ℕ) (o : Operation) → MayTurn s es h.events t (entry_of_operation t l o) (makes l o)
+    → (h' : IsStrict s (es ++ entry_of_operation t l o ∷ [])) × (h'.events ≡ h.events)
 operation_turns s es h open_ t l o m =
     let st : Store = replay (start s.program) h.events in
-    let x : Entry = entry_of_op t l o in
+    let x : Entry = entry_of_operation t l o in
     let of : thread_of x ≡ Some t = op_thread t l o in
     longer s es h x h.events [] (sym (append_none h.events)) open_ (sym (if_false (is_target x) (x ∷ []) [] (op_no_target t l o))) h.run
     (turn_parts s es st x t m.state h.parts of m.there m.part st (λ u. of_itself (thread_at st u)))
-    (some_thread s es h t l o m.state m.there m.part (turn_moves s es h.events t x (makes l o) m of refl) m.needs)
+    (some_thread s es h t l o m.state m.there m.part (turn_moves s es h.events t x (makes l o) m of refl) m.permits)
 
 pub empty_ends : HasEmptyEnds
 empty_ends p plans x h before l is =

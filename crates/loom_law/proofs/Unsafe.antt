@@ -8,11 +8,11 @@ use Rattle.loom_lang.specs.Numbers.{function_number}
 use Rattle.loom_lang.specs.Places.{Place, body_places}
 use Rattle.loom_lang.specs.Places as place
 use Rattle.loom_law.specs.Filter.{statement, function, Range, between, whole, Plan}
-use Rattle.loom_law.specs.Watch.{Watched, all_of, all_under_way}
+use Rattle.loom_law.specs.View.{FrameView, all_of, all_under_way}
 use Rattle.loom_law.specs.Paths.{Node, links_of, statements, others, has_return, Begins, IsStatement, called_by, Calls, statements_in, statements_of, Reaches, calls, through, places_in, places_of, IsReached, watch_at, IsUnsafeByEvent, Halts, Comes, here, goes, node_places, IsReachedAt, IsUnsafeByPath, IsUnsafeByFunction, IsUnsafe}
 use Rattle.loom_law.specs.Paths as path
 use Rattle.loom_law.proofs.Course.{Level, OnFirst, Follows, IsNested, IsLoop, IsCaller, IsCalledFrom, Sub, contains_first, contains_later, no_member, contains_cases}
-use Rattle.loom_law.proofs.Matched.{Watches, none_there}
+use Rattle.loom_law.proofs.Matches.{Watches, none_there}
 use Rattle.loom_law.proofs.Sight.{IsWellSited, AreOpened, IsGood, AreGood, FitsUnder, FitsRange, Fits, AreFit}
 
 -- Places of nested statements
@@ -146,7 +146,7 @@ pub record IsHere (p : Source) (x : Level) (y : Place) : Type 0 where
   pub own : Contains (places_of p x.func) y
   pub not_entry : y ≡ place.entry x.func → ⊥
 
-pub record IsClearOf (w : Watched) : Type 0 where
+pub record IsClearOf (w : FrameView) : Type 0 where
   pub outside : w.inside ≡ []
   pub at_rest : flat_map (λ (ns : List ℕ). ns) w.under_way ≡ []
 
@@ -223,7 +223,7 @@ round_one g (q ∷ os) o y c h = by_cases (λ k. round_one g os o y k h.1) (cont
     by_cases ih (inr k) = ih k
 
 -- where the place is one of the frame itself
-pub own_clear : (p : Source) (f : Plan) (x : Level) (w : Watched) (y : Place) → IsWellSited f → IsGood p x → Fits f x w → IsHere p x y → (IsUnsafe p f y → ⊥) → IsClearOf w
+pub own_clear : (p : Source) (f : Plan) (x : Level) (w : FrameView) (y : Place) → IsWellSited f → IsGood p x → Fits f x w → IsHere p x y → (IsUnsafe p f y → ⊥) → IsClearOf w
 own_clear p f x w y well good fit h safe = record {
   outside = none_there w.inside (λ r c. safe (range_unsafe p f x y r good h (fit.inside r c)));
   at_rest = under_clear p f x.func x.function y x.opened w.under_way good.is well good.opened
@@ -343,7 +343,7 @@ deep_range p f x y h line (whole n) good is c deep a = inr (inr (record {
   place = inr (deep (statements_of p x.func) c.whole_function);
 }))
 
-deep_clear : (p : Source) (f : Plan) (x : Level) (w : Watched) (y : Place) (h : ℕ) → IsWellSited f → IsGood p x → Fits f x w → IsCaller p x h → ReachedFrom p h y
+deep_clear : (p : Source) (f : Plan) (x : Level) (w : FrameView) (y : Place) (h : ℕ) → IsWellSited f → IsGood p x → Fits f x w → IsCaller p x h → ReachedFrom p h y
     → (IsUnsafe p f y → ⊥) → IsClearOf w
 deep_clear p f x w y h well good fit k deep safe =
     let c : CallsFrom p x.func x.function x.opened k.line h = calls_from p x.func x.function x.opened k.line h good.is good.opened k.statement in
@@ -364,12 +364,12 @@ deep_clear p f x w y h well good fit k deep safe =
           }))) fit.under;
     }
 
-abbrev pub AreClear : List Watched → Type 0
+abbrev pub AreClear : List FrameView → Type 0
 AreClear [] = Unit {0}
 AreClear (w ∷ ws) = IsClearOf w × AreClear ws
 
 -- where the place is one that a call in the first of these frames reaches
-pub below_clear : (p : Source) (f : Plan) (ls : List Level) (ws : List Watched) (y : Place) (h : ℕ) → IsWellSited f → AreGood p ls → AreFit f ls ws → IsCalledFrom p ls h
+pub below_clear : (p : Source) (f : Plan) (ls : List Level) (ws : List FrameView) (y : Place) (h : ℕ) → IsWellSited f → AreGood p ls → AreFit f ls ws → IsCalledFrom p ls h
     → ReachedFrom p h y → (IsUnsafe p f y → ⊥) → AreClear ws
 below_clear p f [] [] y h well good fit k deep safe = tt
 below_clear p f [] (w ∷ ws) y h well good fit k deep safe = absurd fit
@@ -381,20 +381,20 @@ below_clear p f (x ∷ xs) (w ∷ ws) y h well good fit k deep safe =
     )
 
 -- of the top frame, and of those below it
-pub all_clear : (p : Source) (f : Plan) (x : Level) (xs : List Level) (ws : List Watched) (y : Place) → IsWellSited f → AreGood p (x ∷ xs) → AreFit f (x ∷ xs) ws
+pub all_clear : (p : Source) (f : Plan) (x : Level) (xs : List Level) (ws : List FrameView) (y : Place) → IsWellSited f → AreGood p (x ∷ xs) → AreFit f (x ∷ xs) ws
     → IsHere p x y → (IsUnsafe p f y → ⊥) → AreClear ws
 all_clear p f x xs [] y well good fit h safe = tt
 all_clear p f x xs (w ∷ ws) y well good fit h safe =
     (own_clear p f x w y well good.0 fit.0 h safe, below_clear p f xs ws y x.func well good.1.1 fit.1 good.1.0 (reached_first p x.func y h.own) safe)
 
-pub clear_append : (xs ys : List Watched) → AreClear xs → AreClear ys → AreClear (xs ++ ys)
+pub clear_append : (xs ys : List FrameView) → AreClear xs → AreClear ys → AreClear (xs ++ ys)
 clear_append [] ys a b = b
 clear_append (x ∷ xs) ys a b = (a.0, clear_append xs ys a.1 b)
 
-pub none_inside : (ws : List Watched) → AreClear ws → all_of ws ≡ []
+pub none_inside : (ws : List FrameView) → AreClear ws → all_of ws ≡ []
 none_inside [] h = refl
 none_inside (w ∷ ws) h = append_none w.inside _ h.0.outside (none_inside ws h.1)
 
-pub none_under_way : (ws : List Watched) → AreClear ws → all_under_way ws ≡ []
+pub none_under_way : (ws : List FrameView) → AreClear ws → all_under_way ws ≡ []
 none_under_way [] h = refl
 none_under_way (w ∷ ws) h = append_none _ _ h.0.at_rest (none_under_way ws h.1)

@@ -5,15 +5,11 @@ use Rattle.std.specs.Cmp.Lexicographic.{pointwise}
 use Rattle.loom_trace.specs.declared.entry.Entry.{Entry}
 use Rattle.loom_trace.specs.declared.entry.Entry.TheVariants as e
 use Rattle.loom_event.specs.Entries.{thread_of, is_thread}
+use Rattle.loom_command.specs.Script.{Trigger}
 use Rattle.loom_law.specs.Filter.{Plan, has}
 use Rattle.loom_law.specs.Walk.{Version, Plans}
 
 -- Commands
-
-pub data Trigger : Type 0 where
-  -- at so many thread entries
-  at : ℕ → Trigger
-  stall : Trigger
 
 -- what a filter's text is: refused with a number and a clause, or this filter
 pub data Judgement : Type 0 where

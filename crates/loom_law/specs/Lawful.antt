@@ -10,22 +10,25 @@ use Rattle.loom_trace.specs.declared.entry.What.{What}
 use Rattle.loom_trace.specs.declared.entry.What.TheVariants as w
 use Rattle.loom_lang.specs.Places.{Place, nowhere, line_of_place}
 use Rattle.loom_event.specs.Event.{Event, entry_of, targets}
-use Rattle.loom_event.specs.Replay.{Spawned, Store, start, thread_at, replay, IsDisabled, AllEnded, thread_limit}
+use Rattle.loom_event.specs.Replay.{ThreadState, Store, start, thread_at, replay, IsDisabled, AllEnded, thread_limit}
 use Rattle.loom_event.specs.Run.{AreRun}
 use Rattle.loom_event.specs.Entries.{thread_of, thread_entries, last_of_thread, is_stopped, is_over, is_at_limit}
 use Rattle.loom_law.specs.Filter.{Plan, numbers, is_alone, before_in, has}
-use Rattle.loom_law.specs.Walk.{Version, Plans, Step, place_number, unborn}
+use Rattle.loom_law.specs.Walk.{Version, Plans, Step, place_number}
 use Rattle.loom_law.specs.Part.{Own, led, IsPart, Point, IsPlaceOf, ComesTo, HasMoved, KeepsAway, IsInside}
-use Rattle.loom_law.specs.Watch.{nothing_seen, seen_from, where_all_made, IsClear}
+use Rattle.loom_law.specs.View.{IsClear, view_behind}
 use Rattle.loom_law.specs.Paths.{IsUnsafe}
-use Rattle.loom_law.specs.Control.{Trigger, at, stall, Judgement, refused, means, Action, install, remove, Command, command_at, plans_of, have_one_name, Holder, Control, control, taken, entries_of, listed, since_asked, is_post, is_past}
+use Rattle.loom_command.specs.Script.{Trigger, at, stall}
+use Rattle.loom_law.specs.Control.{Judgement, refused, means, Action, install, remove, Command, command_at, plans_of, have_one_name, Holder, Control, control, taken, entries_of, listed, since_asked, is_post, is_past}
 
 -- what a run is judged by
 pub record Setting : Type 0 where
   pub program : Source
   pub commands : List Command
+  -- how many entries threads may make
   pub limit : ℕ
-  pub stop : Entry → Bool
+  -- the stop test, of the entries so far
+  pub stop : List Entry → Bool
 
 -- The end of a journal: its entries, the events that they tell, and what they say of commands.
 pub record Front : Type 0 where
@@ -36,52 +39,60 @@ pub record Front : Type 0 where
 abbrev pub front_of : Setting → List Entry → List Event → Front
 front_of s es xs = record { entries = es; store = replay (start s.program) xs; control = control s.commands es }
 
+-- the end of the front of a journal that tells these events
+abbrev pub front_at : Setting → List Event → List Entry → Front
+front_at s xs es = front_of s es (take (length (targets es)) xs)
+
+-- what the filter of each command is in the program
 abbrev pub plans : Setting → Plans
 plans s = plans_of s.commands
 
 -- Threads
 
-abbrev pub own : Setting → List Entry → ℕ → Spawned → Own
+-- what is the thread's own behind these entries
+abbrev pub own : Setting → List Entry → ℕ → ThreadState → Own
 own s es t x = record { thread = t; func = x.func; args = x.args; versions = taken s.commands t es; entries = entries_of t es }
 
-abbrev pub HasPart : Setting → List Entry → ℕ → Option Spawned → Type 0
+-- its entries are those of a full part; a thread that wasn't spawned has none
+abbrev pub HasPart : Setting → List Entry → ℕ → Option ThreadState → Type 0
 HasPart s es t None = entries_of t es ≡ []
 HasPart s es t (Some x) = IsPart s.program (plans s) (own s es t x)
 
-abbrev pub is_running : Spawned → Bool
-is_running x = x.begun && not x.ended
+-- the thread, if it has begun and not ended
+abbrev pub running : Option ThreadState → Option ThreadState
+running None = None
+running (Some x) = if x.begun && not x.ended then Some x else None
 
 -- where a thread stands: at place 0 before its begin and behind its end
-abbrev pub StandsAs : Setting → List Entry → ℕ → Spawned → Bool → Place → Type 0
-StandsAs s es t x false y = y ≡ nowhere
-StandsAs s es t x true y = ComesTo s.program (plans s) (own s es t x) y
-
-abbrev pub StandsIf : Setting → List Entry → ℕ → Option Spawned → Place → Type 0
-StandsIf s es t None y = y ≡ nowhere
-StandsIf s es t (Some x) y = StandsAs s es t x (is_running x) y
+abbrev pub StandsAs : Setting → List Entry → ℕ → Option ThreadState → Place → Type 0
+StandsAs s es t None y = y ≡ nowhere
+StandsAs s es t (Some x) y = ComesTo s.program (plans s) (own s es t x) y
 
 abbrev pub StandsAt : Setting → Front → ℕ → Place → Type 0
-StandsAt s f t y = StandsIf s f.entries t (thread_at f.store t) y
+StandsAt s f t y = StandsAs s f.entries t (running (thread_at f.store t)) y
 
+-- the thread was spawned and hasn't ended
 pub record Lives (s : Store) (t : ℕ) : Type 0 where
-  pub state : Spawned
+  pub state : ThreadState
   pub is : thread_at s t ≡ Some state
   pub not_ended : state.ended ≡ false
 
 -- Disabled requests, and threads that can't go on
 
--- the posts that a wait needs
+-- A wait for the event that follows this one lacks posts of it. `k` is the filter, and the pair has the event and its count.
 abbrev pub Lacks : Front → ℕ → Option (ℕ × ℕ) → Type 0
 Lacks f k None = ⊥
 Lacks f k (Some a) = count_by (is_post k a.0) f.entries < a.1
 
-pub record IsHeld (f : Front) (k c t : ℕ) : Type 0 where
+-- another thread holds the clause
+pub record IsHeldByOther (f : Front) (k c t : ℕ) : Type 0 where
   pub by : ℕ
   pub other : (by == t) ≡ false
   pub holds : list_any (λ (h : Holder). (h.filter == k) && ((h.clause == c) && (h.thread == by))) f.control.holders ≡ true
 
+-- what the thread asks for can't be granted now
 abbrev pub IsDisabledFor : Setting → Front → ℕ → What → Type 0
-IsDisabledFor s f t (w.Enter k c) = IsHeld f k c t
+IsDisabledFor s f t (w.Enter k c) = IsHeldByOther f k c t
 IsDisabledFor s f t (w.Wait k n) = Lacks f k (before_in n (Plan.rulings (plans s k)))
 IsDisabledFor s f t what = IsDisabled f.store what
 
@@ -90,7 +101,7 @@ pub record IsHeldOff (s : Setting) (f : Front) (t : ℕ) : Type 0 where
   pub filter : ℕ
   pub clause : ℕ
   pub alone : is_alone (plans s filter) clause ≡ true
-  pub held : IsHeld f filter clause t
+  pub held : IsHeldByOther f filter clause t
 
 -- its last entry is `Blocked`, for what is still disabled, and it owes no `Cross`
 abbrev pub IsBlockedBy : Setting → Front → ℕ → Option Entry → Type 0
@@ -100,6 +111,7 @@ IsBlockedBy s f t _ = ⊥
 abbrev pub IsBlocked : Setting → Front → ℕ → Type 0
 IsBlocked s f t = IsBlockedBy s f t (last_of_thread t None f.entries)
 
+-- some thread lives, and each that lives is blocked or held off
 pub record IsStalled (s : Setting) (f : Front) : Type 0 where
   pub live : ℕ
   pub lives : Lives f.store live
@@ -107,24 +119,28 @@ pub record IsStalled (s : Setting) (f : Front) : Type 0 where
 
 -- Commands
 
-abbrev pub slot_limit : ℕ
-slot_limit = 16
+-- how many filters may be installed
+abbrev pub filter_limit : ℕ
+filter_limit = 16
 
--- why a command is refused, with the clause: the name first, then the number of filters, then the filter
+-- why a filter's text is refused, with its clause
 abbrev pub judged : Judgement → Option (ℕ × ℕ)
 judged (refused n c) = Some (n, c)
 judged (means f) = None
 
+-- Why a command is refused, tested in this order. For an install: its name is in use (11), as many filters are installed as may be (14), its text. For
+-- a removal: no filter has the name (12). `n` filters are installed.
 abbrev pub refusal_of : Action → Bool → ℕ → Option (ℕ × ℕ)
-refusal_of (install j) taken n = if taken then Some (11, 0) else (if n == slot_limit then Some (14, 0) else judged j)
-refusal_of remove taken n = if taken then None else Some (12, 0)
+refusal_of (install j) used n = if used then Some (11, 0) else (if n == filter_limit then Some (14, 0) else judged j)
+refusal_of remove used n = if used then None else Some (12, 0)
 
-abbrev pub is_taken : Setting → Control → ℕ → Bool
-is_taken s c k = list_any (λ j. have_one_name s.commands j k) c.version.active
+-- an installed filter has the name in the command
+abbrev pub is_name_used : Setting → Control → ℕ → Bool
+is_name_used s c k = list_any (λ j. have_one_name s.commands j k) c.version.active
 
 abbrev pub refusal_in : Setting → Control → ℕ → Option Command → Option (ℕ × ℕ)
 refusal_in s c k None = None
-refusal_in s c k (Some x) = refusal_of x.action (is_taken s c k) (length c.version.active)
+refusal_in s c k (Some x) = refusal_of x.action (is_name_used s c k) (length c.version.active)
 
 abbrev pub refusal : Setting → Control → ℕ → Option (ℕ × ℕ)
 refusal s c k = refusal_in s c k (command_at s.commands k)
@@ -142,6 +158,7 @@ IsFlaggedBy p (Some x) y = by_action x.action
 abbrev pub IsFlagged : Setting → ℕ → Place → Type 0
 IsFlagged s k y = IsFlaggedBy s.program (command_at s.commands k) y
 
+-- so many entries of threads stand, or the program is stalled
 abbrev pub IsTriggered : Setting → Front → Trigger → Type 0
 IsTriggered s f (at n) = n ≤ thread_entries f.entries
 IsTriggered s f stall = IsStalled s f
@@ -160,18 +177,14 @@ pub record IsDue (s : Setting) (f : Front) : Type 0 where
 
 -- The answers
 
--- the thread stands at this place, which is flagged, and at each point at which it may stand there the filter sees nothing of it
+-- At each point behind the thread's last entry at which it may stand at this place, the filter sees nothing of it.
 abbrev pub SeesNothing : Setting → Own → Plan → Place → Type 0
-SeesNothing s x g y = (h : Point s.program (plans s) x) → IsPlaceOf s.program (plans s) x h y
-    → IsClear (where_all_made g (led s.program (plans s) x h.steps).owed (seen_from s.program (plans s) g (unborn x.versions) nothing_seen h.steps))
+SeesNothing s x g y = (h : Point s.program (plans s) x) → IsPlaceOf s.program (plans s) x h y → IsClear (view_behind s.program (plans s) g x.versions h.steps)
 
-abbrev pub IsOutsideAs : Setting → Own → Bool → Plan → Place → Type 0
-IsOutsideAs s x false g y = Unit {0}
-IsOutsideAs s x true g y = SeesNothing s x g y
-
-abbrev pub IsOutside : Setting → List Entry → ℕ → Option Spawned → Plan → Place → Type 0
+-- so it is with a thread that runs; of one that doesn't there is nothing to see
+abbrev pub IsOutside : Setting → List Entry → ℕ → Option ThreadState → Plan → Place → Type 0
 IsOutside s es t None g y = Unit {0}
-IsOutside s es t (Some x) g y = IsOutsideAs s (own s es t x) (is_running x) g y
+IsOutside s es t (Some x) g y = SeesNothing s (own s es t x) g y
 
 -- the row lists for each thread a flagged place at which it stands
 pub record Lists (s : Setting) (f : Front) (k : ℕ) (row : List ℕ) : Type 0 where
@@ -181,6 +194,7 @@ pub record Lists (s : Setting) (f : Front) (k : ℕ) (row : List ℕ) : Type 0 w
   pub stands : (t : ℕ) → StandsAt s f t (place t)
   pub flagged : (t : ℕ) → IsFlagged s k (place t)
 
+-- The command that was asked installs this filter: no thread is inside its regions, and no event of it is under way.
 pub record MayInstall (s : Setting) (f : Front) (k v : ℕ) (row : List ℕ) : Type 0 where
   pub command : Command
   pub is : command_at s.commands k ≡ Some command
@@ -190,8 +204,9 @@ pub record MayInstall (s : Setting) (f : Front) (k v : ℕ) (row : List ℕ) : T
   pub not_refused : refusal s f.control k ≡ None
   pub version : v ≡ suc (Version.number f.control.version)
   pub lists : Lists s f k row
-  pub outside : (t : ℕ) → IsOutside s f.entries t (thread_at f.store t) plan (lists.place t)
+  pub outside : (t : ℕ) → IsOutside s f.entries t (running (thread_at f.store t)) plan (lists.place t)
 
+-- the command that was asked removes the filter of its name
 pub record MayRemove (s : Setting) (f : Front) (k v : ℕ) (row : List ℕ) : Type 0 where
   pub command : Command
   pub is : command_at s.commands k ≡ Some command
@@ -222,6 +237,7 @@ Ends s f k.Limit = (is_stopped s.stop f.entries ≡ false) × (is_at_limit s.lim
 Ends s f k.Done = (over s f ≡ false) × (AllEnded f.store × (IsDue s f → ⊥))
 Ends s f k.Stuck = (over s f ≡ false) × (IsStalled s f × (IsDue s f → ⊥))
 
+-- the run ends here
 abbrev pub EndsSo : Setting → Front → Type 0
 EndsSo s f = (kind : Ending) × Ends s f kind
 
@@ -242,6 +258,7 @@ abbrev pub is_begin : Entry → Bool
 is_begin (e.Begin t l) = true
 is_begin _ = false
 
+-- places are listed for the thread, and the entry isn't its first
 abbrev pub owes_cross : Entry → List ℕ → Bool
 owes_cross (e.Begin t l) places = false
 owes_cross x [] = false
@@ -249,15 +266,16 @@ owes_cross x (y ∷ ys) = true
 
 -- Between a command that is asked and its answer the thread keeps away from flagged places: it passed none of them since its last entry, and isn't
 -- blocked at one.
-pub record KeptAway (s : Setting) (x : Own) (k : ℕ) : Type 0 where
+pub record StaysAway (s : Setting) (x : Own) (k : ℕ) : Type 0 where
   pub steps : List Step
   pub moved : HasMoved s.program (plans s) x steps
   pub away : KeepsAway (IsFlagged s k) (led s.program (plans s) x steps)
 
-abbrev pub Parks : Setting → List Entry → ℕ → ℕ → Option Spawned → Type 0
+abbrev pub Parks : Setting → List Entry → ℕ → ℕ → Option ThreadState → Type 0
 Parks s es k t None = ⊥
-Parks s es k t (Some x) = KeptAway s (own s es t x) k
+Parks s es k t (Some x) = StaysAway s (own s es t x) k
 
+-- the thread is spawned with this entry
 abbrev pub is_spawn_of : ℕ → Entry → Bool
 is_spawn_of t (e.Spawn u l c g vs) = c == t
 is_spawn_of t _ = false
@@ -266,85 +284,72 @@ abbrev pub has_any : List Entry → Bool
 has_any [] = false
 has_any (x ∷ xs) = true
 
--- From its first entry there on; a thread that is spawned there makes no `Begin`.
+-- Between `Asked` and the answer: so it is from the thread's second entry there on, and a thread that is spawned there makes no `Begin`.
 abbrev pub IsParked : Setting → Front → ℕ → Entry → Option ℕ → Type 0
 IsParked s f t x None = Unit {0}
 IsParked s f t x (Some k) =
     (has_any (entries_of t (since_asked f.entries)) ≡ true → Parks s (f.entries ++ x ∷ []) k t (thread_at f.store t))
     × (is_begin x ≡ true → list_any (is_spawn_of t) (since_asked f.entries) ≡ false)
 
--- Behind the entries of the front the thread may make this one.
+-- Behind the entries of the front the thread may make this one: the run is open, no other thread holds it off, it makes `Cross` exactly where it owes
+-- one, and it keeps away from flagged places.
 pub record MayMove (s : Setting) (f : Front) (t : ℕ) (x : Entry) : Type 0 where
   pub goes_on : IsOpen s f
   pub not_held_off : IsHeldOff s f t → ⊥
   pub crosses : is_cross x ≡ owes_cross x (listed t f.entries)
   pub parked : IsParked s f t x f.control.asked
 
--- events of an order: each begins behind as many completions of the one before it as are asked for
-abbrev pub Follows : List Entry → ℕ → Option (ℕ × ℕ) → Type 0
-Follows es k None = Unit {0}
-Follows es k (Some a) = a.1 ≤ count_by (is_past k a.0) es
+-- An event of an order begins where the one before it was complete often enough, and a wait is over where it was posted so often.
+abbrev pub HasCompletions : List Entry → ℕ → Option (ℕ × ℕ) → Type 0
+HasCompletions es k None = Unit {0}
+HasCompletions es k (Some a) = a.1 ≤ count_by (is_past k a.0) es
 
-abbrev pub Posted : List Entry → ℕ → Option (ℕ × ℕ) → Type 0
-Posted es k None = ⊥
-Posted es k (Some a) = a.1 ≤ count_by (is_post k a.0) es
+abbrev pub HasPosts : List Entry → ℕ → Option (ℕ × ℕ) → Type 0
+HasPosts es k None = ⊥
+HasPosts es k (Some a) = a.1 ≤ count_by (is_post k a.0) es
 
+-- thread t holds clause n of filter k
 abbrev pub is_held_by : Control → ℕ → ℕ → ℕ → Bool
 is_held_by c k n t = list_any (λ (h : Holder). (h.filter == k) && ((h.clause == n) && (h.thread == t))) c.holders
 
 abbrev pub is_installed : Control → ℕ → Bool
 is_installed c k = has c.version.active k
 
--- What else an entry of a thread needs: of versions, of who holds what, of posts, and of the meaning of orders.
-abbrev pub Keeps : Setting → Front → Entry → Type 0
-Keeps s f (e.Cross t l x v n) = (v ≡ Version.number f.control.version) × AllByRecursion (λ y. y ≡ x) (listed t f.entries)
-Keeps s f (e.Blocked t l what) = IsDisabledFor s f t what
-Keeps s f (e.Enter t l k c) =
-    (is_installed f.control k ≡ true) × (list_any (λ (h : Holder). (h.filter == k) && (h.clause == c)) f.control.holders ≡ false)
-Keeps s f (e.Leave t l k c) = is_held_by f.control k c t ≡ true
-Keeps s f (e.Wait t l k n) = (is_installed f.control k ≡ true) × Posted f.entries k (before_in n (Plan.rulings (plans s k)))
-Keeps s f (e.Post t l k n) = is_installed f.control k ≡ true
-Keeps s f (e.At t l k ns) = (is_installed f.control k ≡ true) × AllByRecursion (λ n. Follows f.entries k (before_in n (Plan.rulings (plans s k)))) ns
-Keeps s f (e.Past t l k ns) = is_installed f.control k ≡ true
-Keeps s f (e.End t l) = list_any (λ (h : Holder). h.thread == t) f.control.holders ≡ false
-Keeps s f _ = Unit {0}
+-- What an entry of a thread asks of the entries before it: the place of a `Cross` is the one that was listed, what blocks a thread is disabled, a
+-- clause that is entered is free, and orders are kept. Nothing else is asked: the thread's part gives the rest.
+abbrev pub Permits : Setting → Front → Entry → Type 0
+Permits s f (e.Cross t l x v n) = AllByRecursion (λ y. y ≡ x) (listed t f.entries)
+Permits s f (e.Blocked t l what) = IsDisabledFor s f t what
+Permits s f (e.Enter t l k c) = list_any (λ (h : Holder). (h.filter == k) && (h.clause == c)) f.control.holders ≡ false
+Permits s f (e.Wait t l k n) = HasPosts f.entries k (before_in n (Plan.rulings (plans s k)))
+Permits s f (e.At t l k ns) = AllByRecursion (λ n. HasCompletions f.entries k (before_in n (Plan.rulings (plans s k)))) ns
+Permits s f _ = Unit {0}
 
--- What stands at the end of the front, with `rest` behind it.
-abbrev pub Stands : Setting → Front → Entry → List Entry → Type 0
-Stands s f (e.Asked k) rest = IsDue s f × (k ≡ f.control.next)
-Stands s f (e.Refused k n c) rest = (f.control.asked ≡ Some k) × (refusal s f.control k ≡ Some (n, c))
-Stands s f (e.Installed k v row) rest = (over s f ≡ false) × MayInstall s f k v row
-Stands s f (e.Removed k v row) rest = (over s f ≡ false) × MayRemove s f k v row
-Stands s f (e.Stalled k t l) rest = (over s f ≡ false) × MayStall s f k t l
-Stands s f (e.Cut k) rest = (over s f ≡ true) × (f.control.asked ≡ Some k)
-Stands s f (e.Unreached k) rest = (f.control.asked ≡ None) × ((k ≡ f.control.next) × ((k ≤ length s.commands) × EndsSo s f))
-Stands s f (e.Finish kind) rest = (rest ≡ []) × ((f.control.asked ≡ None) × ((length s.commands < f.control.next) × Ends s f kind))
-Stands s f (e.Begin t l) rest = MayMove s f t (e.Begin t l) × Keeps s f (e.Begin t l)
-Stands s f (e.End t l) rest = MayMove s f t (e.End t l) × Keeps s f (e.End t l)
-Stands s f (e.Trap t l r) rest = MayMove s f t (e.Trap t l r)
-Stands s f (e.Read t l x v) rest = MayMove s f t (e.Read t l x v)
-Stands s f (e.Write t l x v) rest = MayMove s f t (e.Write t l x v)
-Stands s f (e.Lock t l m) rest = MayMove s f t (e.Lock t l m)
-Stands s f (e.Unlock t l m) rest = MayMove s f t (e.Unlock t l m)
-Stands s f (e.Down t l x) rest = MayMove s f t (e.Down t l x)
-Stands s f (e.Up t l x) rest = MayMove s f t (e.Up t l x)
-Stands s f (e.Spawn t l c g vs) rest = MayMove s f t (e.Spawn t l c g vs)
-Stands s f (e.Join t l c) rest = MayMove s f t (e.Join t l c)
-Stands s f (e.Print t l v) rest = MayMove s f t (e.Print t l v)
-Stands s f (e.Tick t l y) rest = MayMove s f t (e.Tick t l y)
-Stands s f (e.Blocked t l y) rest = MayMove s f t (e.Blocked t l y) × Keeps s f (e.Blocked t l y)
-Stands s f (e.At t l k ns) rest = MayMove s f t (e.At t l k ns) × Keeps s f (e.At t l k ns)
-Stands s f (e.Past t l k ns) rest = MayMove s f t (e.Past t l k ns) × Keeps s f (e.Past t l k ns)
-Stands s f (e.Back t l) rest = MayMove s f t (e.Back t l)
-Stands s f (e.Enter t l k c) rest = MayMove s f t (e.Enter t l k c) × Keeps s f (e.Enter t l k c)
-Stands s f (e.Leave t l k c) rest = MayMove s f t (e.Leave t l k c) × Keeps s f (e.Leave t l k c)
-Stands s f (e.Post t l k n) rest = MayMove s f t (e.Post t l k n) × Keeps s f (e.Post t l k n)
-Stands s f (e.Wait t l k n) rest = MayMove s f t (e.Wait t l k n) × Keeps s f (e.Wait t l k n)
-Stands s f (e.Cross t l y v n) rest = MayMove s f t (e.Cross t l y v n) × Keeps s f (e.Cross t l y v n)
+-- Behind the entries of the front this control entry may stand, with `rest` behind it.
+abbrev pub MayControl : Setting → Front → Entry → List Entry → Type 0
+MayControl s f (e.Asked k) rest = IsDue s f × (k ≡ f.control.next)
+MayControl s f (e.Refused k n c) rest = (f.control.asked ≡ Some k) × (refusal s f.control k ≡ Some (n, c))
+MayControl s f (e.Installed k v row) rest = (over s f ≡ false) × MayInstall s f k v row
+MayControl s f (e.Removed k v row) rest = (over s f ≡ false) × MayRemove s f k v row
+MayControl s f (e.Stalled k t l) rest = (over s f ≡ false) × MayStall s f k t l
+MayControl s f (e.Cut k) rest = (over s f ≡ true) × (f.control.asked ≡ Some k)
+MayControl s f (e.Unreached k) rest = (f.control.asked ≡ None) × ((k ≡ f.control.next) × ((k ≤ length s.commands) × EndsSo s f))
+MayControl s f (e.Finish kind) rest = (rest ≡ []) × ((f.control.asked ≡ None) × ((length s.commands < f.control.next) × Ends s f kind))
+MayControl s f _ rest = ⊥
+
+-- an entry of a thread, or of none
+abbrev pub MayFollowBy : Setting → Front → Entry → List Entry → Option ℕ → Type 0
+MayFollowBy s f x rest None = MayControl s f x rest
+MayFollowBy s f x rest (Some t) = MayMove s f t x × Permits s f x
+
+-- Behind the entries of the front this entry may stand, with `rest` behind it.
+abbrev pub MayFollow : Setting → Front → Entry → List Entry → Type 0
+MayFollow s f x rest = MayFollowBy s f x rest (thread_of x)
 
 -- Filters are obeyed
 
-abbrev pub IsInsideIf : Setting → List Entry → ℕ → Option Spawned → ℕ → ℕ → Type 0
+-- the thread is inside a region of the clause
+abbrev pub IsInsideIf : Setting → List Entry → ℕ → Option ThreadState → ℕ → ℕ → Type 0
 IsInsideIf s es t None k c = ⊥
 IsInsideIf s es t (Some x) k c = IsInside s.program (plans s) (own s es t x) k c
 
@@ -366,6 +371,5 @@ pub record IsLawful (s : Setting) (es : List Entry) : Type 0 where
   pub run : AreRun s.program events
   -- each thread has its full part
   pub parts : (t : ℕ) → HasPart s es t (thread_at (replay (start s.program) events) t)
-  -- each entry stands rightly behind those before it
-  pub stands : (front : List Entry) (x : Entry) (rest : List Entry) → es ≡ front ++ x ∷ rest
-      → Stands s (front_of s front (take (length (targets front)) events)) x rest
+  -- each entry follows those before it
+  pub follows : (front : List Entry) (x : Entry) (rest : List Entry) → es ≡ front ++ x ∷ rest → MayFollow s (front_at s events front) x rest

@@ -1,41 +1,40 @@
 -- Laws of full parts and of journals.
-use Rattle.std.specs.Prelude.{ℕ, ◌⊎◌, suc, ◌<◌, ◌≡◌, ◌==◌, ◌&&◌, true, false, List, [], ◌++◌, ◌∷◌, length, take, Some, None, map, Option}
-use Rattle.std.specs.List.{AllByRecursion, list_any}
+use Rattle.std.specs.Prelude.{ℕ, ◌⊎◌, suc, ◌<◌, ◌≡◌, ◌==◌, true, false, List, [], ◌++◌, ◌∷◌, Some, None}
+use Rattle.std.specs.List.{list_any, count_by}
 use Rattle.loom_tree.specs.Tree.{Source}
 use Rattle.loom_trace.specs.declared.entry.Entry.{Entry}
 use Rattle.loom_trace.specs.declared.entry.Entry.TheVariants as e
 use Rattle.loom_trace.specs.declared.entry.Ending.{Ending}
 use Rattle.loom_lang.specs.Places.{Place, nowhere}
-use Rattle.loom_lang.specs.Rules as rules
 use Rattle.loom_lang.specs.Trace.{end, made}
-use Rattle.loom_law.specs.Filter.{Plan, before_in, has, Filter, plan_of}
-use Rattle.loom_law.specs.Walk.{Version, Plans, Op, leave, entry_of_op, Step, goes, makes, holds, unborn, told, filter_of, Owes}
+use Rattle.loom_command.specs.Filter.{Filter}
+use Rattle.loom_law.specs.Filter.{Plan, has, plan_of}
+use Rattle.loom_law.specs.Walk.{Version, Plans, Operation, leave, entry_of_operation, Step, goes, makes, holds, told, filter_of, Owes}
 use Rattle.loom_law.specs.Part.{Own, led, IsPart, Point, IsPlaceOf, HasMoved, KeepsAway, IsInside}
-use Rattle.loom_law.specs.Watch.{nothing_seen, seen_from, where_all_made, IsClear}
+use Rattle.loom_law.specs.View.{IsClear, view_behind}
 use Rattle.loom_law.specs.Paths.{IsUnsafe}
-use Rattle.loom_event.specs.Event.{Event, entry_of, targets}
-use Rattle.loom_event.specs.Replay.{Spawned, start, thread_at, replay, IsAllowed, thread_limit}
-use Rattle.loom_event.specs.Run.{AreRun}
+use Rattle.loom_event.specs.Event.{Event, entry_of}
+use Rattle.loom_event.specs.Replay.{ThreadState, start, thread_at, replay, IsAllowed, thread_limit}
 use Rattle.loom_event.specs.Entries.{thread_of, IsFinished}
-use Rattle.loom_law.specs.Control.{Holder, Control, control, taken, entries_of, listed, since_asked}
-use Rattle.loom_law.specs.Lawful.{Setting, Front, front_of, plans, own, is_held_by, is_installed, HasPart, MayMove, IsDisabledFor, IsHeldOff, IsFlagged, IsOpen, is_cross, is_begin, owes_cross, is_spawn_of, has_any, Follows, Posted, Stands, IsObeyed, IsLawful, SeesNothing}
+use Rattle.loom_law.specs.Control.{Holder, Control, control, taken, entries_of, listed, since_asked, is_post, is_past}
+use Rattle.loom_law.specs.Lawful.{Setting, Front, front_of, front_at, plans, own, is_held_by, is_installed, IsHeldOff, IsFlagged, IsOpen, is_cross, is_begin, owes_cross, is_spawn_of, has_any, Permits, MayFollow, IsObeyed, IsLawful, SeesNothing}
 
--- At each point of a full part a thread holds each clause whose regions it is inside. (Shown.)
+-- At each point of a full part a thread holds each clause whose regions it is inside.
 abbrev pub HasHeldRegions : Type 0
 HasHeldRegions = (p : Source) (plans : Plans) (x : Own) (k c : ℕ) (h : IsInside p plans x k c) → holds (led p plans x h.part.steps).held k c ≡ true
 
--- A thread has at most one full part: two whose last steps tell an entry are the same. (Shown.)
+-- A thread has at most one full part: two whose last steps tell an entry are the same.
 abbrev pub EndsMade : Own → List Step → Type 0
 EndsMade x steps = (front : List Step) × ((last : Step) × ((steps ≡ front ++ last ∷ []) × ((y : Entry) × (told x.thread (last ∷ []) ≡ y ∷ []))))
 
 abbrev pub HasOnePart : Type 0
 HasOnePart = (p : Source) (plans : Plans) (x : Own) (a b : IsPart p plans x) → EndsMade x a.steps → EndsMade x b.steps → a.steps ≡ b.steps
 
--- So there is one list of steps before its last entry. (Shown.)
+-- So there is one list of steps before its last entry.
 abbrev pub HasOneMove : Type 0
 HasOneMove = (p : Source) (plans : Plans) (x : Own) (before before' : List Step) → HasMoved p plans x before → HasMoved p plans x before' → before ≡ before'
 
--- Of two parts of a thread each is the steps up to its last entry, the same for both, and marks behind. (Shown.)
+-- Of two parts of a thread each is the steps up to its last entry, the same for both, and marks behind.
 pub record SameMade (x : Own) (a b : List Step) : Type 0 where
   pub made : List Step
   pub behind : List Step
@@ -51,49 +50,78 @@ HasOneMade = (p : Source) (plans : Plans) (x : Own) (a b : IsPart p plans x) →
 -- The unsafe places of a filter are sound: where a thread comes to a safe place, while the filter isn't active, the filter sees nothing of it.
 abbrev pub IsSound : Source → Plan → Type 0
 IsSound p f = (plans : Plans) (x : Own) (h : Point p plans x) (y : Place) → IsPlaceOf p plans x h y → (IsUnsafe p f y → ⊥)
-    → IsClear (where_all_made f (led p plans x h.steps).owed (seen_from p plans f (unborn x.versions) nothing_seen h.steps))
+    → IsClear (view_behind p plans f x.versions h.steps)
 
--- Those of each filter are sound, whether it is refused or not. (Shown.)
+-- Those of each filter are sound, whether it is refused or not.
 abbrev pub HasSoundPlaces : Type 0
-HasSoundPlaces = (p : Source) (t : Filter) → rules.KeepsRules p → IsSound p (plan_of p t)
+HasSoundPlaces = (p : Source) (t : Filter) → IsSound p (plan_of p t)
 
--- So at an install each thread that stands at a flagged place is outside. (Shown.)
+-- So at an install each thread that stands at a flagged place is outside.
 abbrev pub IsOutsideWhereFlagged : Type 0
-IsOutsideWhereFlagged = (s : Setting) (x : Own) (t : Filter) (y : Place) → rules.KeepsRules s.program → (y ≡ nowhere) ⊎ (IsUnsafe s.program (plan_of s.program t) y → ⊥)
+IsOutsideWhereFlagged = (s : Setting) (x : Own) (t : Filter) (y : Place) → (y ≡ nowhere) ⊎ (IsUnsafe s.program (plan_of s.program t) y → ⊥)
     → SeesNothing s x (plan_of s.program t) y
 
--- What a thread holds of an installed filter behind its entries is what the journal says. (Shown.)
+-- What a thread holds of an installed filter behind its entries is what the journal says.
 abbrev pub HasBalance : Type 0
-HasBalance = (s : Setting) (front rest : List Entry) → IsLawful s (front ++ rest) → (t : ℕ) (x : Spawned) (h : IsPart s.program (plans s) (own s front t x)) (k c : ℕ)
+HasBalance = (s : Setting) (front rest : List Entry) → IsLawful s (front ++ rest) → (t : ℕ) (x : ThreadState) (h : IsPart s.program (plans s) (own s front t x)) (k c : ℕ)
     → is_installed (control s.commands front) k ≡ true
     → holds (led s.program (plans s) (own s front t x) h.steps).held k c ≡ is_held_by (control s.commands front) k c t
 
--- At each front of a lawful journal, itself too, at most one thread is inside the regions of a clause of an installed filter. (Shown.)
+-- An install begins anew: its filter wasn't installed before, nobody holds a clause of it, and none of its events was posted or complete.
+pub record BeginsAnew (front : List Entry) (c : Control) (k : ℕ) : Type 0 where
+  pub not_installed : is_installed c k ≡ false
+  pub no_holder : (n t : ℕ) → is_held_by c k n t ≡ false
+  pub no_posts : (n : ℕ) → count_by (is_post k n) front ≡ 0
+  pub no_completions : (n : ℕ) → count_by (is_past k n) front ≡ 0
+
+abbrev pub HasNewInstalls : Type 0
+HasNewInstalls = (s : Setting) (es : List Entry) → IsLawful s es → (front : List Entry) (k v : ℕ) (row : List ℕ) (rest : List Entry)
+    → es ≡ front ++ e.Installed k v row ∷ rest → BeginsAnew front (control s.commands front) k
+
+-- At each front of a lawful journal, itself too, at most one thread is inside the regions of a clause of an installed filter.
 abbrev pub HasExclusion : Type 0
-HasExclusion = (s : Setting) (front rest : List Entry) → IsLawful s (front ++ rest) → (k c t u : ℕ) (x y : Spawned) → is_installed (control s.commands front) k ≡ true
+HasExclusion = (s : Setting) (front rest : List Entry) → IsLawful s (front ++ rest) → (k c t u : ℕ) (x y : ThreadState) → is_installed (control s.commands front) k ≡ true
     → IsInside s.program (plans s) (own s front t x) k c → IsInside s.program (plans s) (own s front u y) k c → t ≡ u
 
--- Installed filters are obeyed in each lawful journal. (Shown.)
+-- Installed filters are obeyed in each lawful journal.
 abbrev pub IsAlwaysObeyed : Type 0
 IsAlwaysObeyed = (s : Setting) (es : List Entry) (h : IsLawful s es) (front : List Entry) (x : Entry) (rest : List Entry) → es ≡ front ++ x ∷ rest
-    → IsObeyed s (front_of s front (take (length (targets front)) h.events)) x
+    → IsObeyed s (front_at s h.events front) x
 
--- A thread that made an entry, and for which no new version is listed behind its last one, has the newest version. (Shown.)
+-- What holds of a thread's entry though it isn't asked: filters that it names are installed, `Leave` is made by the holder, by `Cross` the newest
+-- version is taken, and a thread that ends holds nothing.
+abbrev pub Balances : Front → Entry → Type 0
+Balances f (e.Cross t l x v n) = v ≡ Version.number f.control.version
+Balances f (e.Enter t l k c) = is_installed f.control k ≡ true
+Balances f (e.Leave t l k c) = is_held_by f.control k c t ≡ true
+Balances f (e.Wait t l k n) = is_installed f.control k ≡ true
+Balances f (e.Post t l k n) = is_installed f.control k ≡ true
+Balances f (e.At t l k ns) = is_installed f.control k ≡ true
+Balances f (e.Past t l k ns) = is_installed f.control k ≡ true
+Balances f (e.End t l) = list_any (λ (h : Holder). h.thread == t) f.control.holders ≡ false
+Balances f _ = Unit {0}
+
+-- So it is in each lawful journal.
+abbrev pub IsAlwaysBalanced : Type 0
+IsAlwaysBalanced = (s : Setting) (es : List Entry) (h : IsLawful s es) (front : List Entry) (x : Entry) (rest : List Entry) → es ≡ front ++ x ∷ rest
+    → Balances (front_at s h.events front) x
+
+-- A thread that made an entry, and for which no new version is listed behind its last one, has the newest version.
 abbrev pub HasNewest : Type 0
-HasNewest = (s : Setting) (front rest : List Entry) → IsLawful s (front ++ rest) → (i : ℕ) → i < thread_limit → (x : Spawned)
+HasNewest = (s : Setting) (front rest : List Entry) → IsLawful s (front ++ rest) → (i : ℕ) → i < thread_limit → (x : ThreadState)
     (h : IsPart s.program (plans s) (own s front (suc i) x)) (y : Entry) (ys : List Entry) → entries_of (suc i) front ≡ y ∷ ys → listed (suc i) front ≡ []
     → (led s.program (plans s) (own s front (suc i) x) h.steps).active ≡ Version.active (control s.commands front).version
 
--- What a thread owes first is of a filter of its version. (Shown.)
+-- What a thread owes first is of a filter of its version.
 abbrev pub HasOwedActive : Type 0
-HasOwedActive = (p : Source) (plans : Plans) (x : Own) (h : IsPart p plans x) (l : ℕ) (o : Op) (k : ℕ) → Owes (led p plans x h.steps).owed l o → filter_of o ≡ Some k
+HasOwedActive = (p : Source) (plans : Plans) (x : Own) (h : IsPart p plans x) (l : ℕ) (o : Operation) (k : ℕ) → Owes (led p plans x h.steps).owed l o → filter_of o ≡ Some k
     → has (led p plans x h.steps).active k ≡ true
 
--- So it is of an installed filter, where no new version is listed for the thread. (Shown.)
+-- So it is of an installed filter, where no new version is listed for the thread.
 abbrev pub HasOwedInstalled : Type 0
-HasOwedInstalled = (s : Setting) (front rest : List Entry) → IsLawful s (front ++ rest) → (i : ℕ) → i < thread_limit → (x : Spawned)
+HasOwedInstalled = (s : Setting) (front rest : List Entry) → IsLawful s (front ++ rest) → (i : ℕ) → i < thread_limit → (x : ThreadState)
     (h : IsPart s.program (plans s) (own s front (suc i) x)) (y : Entry) (ys : List Entry) → entries_of (suc i) front ≡ y ∷ ys → listed (suc i) front ≡ []
-    → (l : ℕ) (o : Op) (k : ℕ) → Owes (led s.program (plans s) (own s front (suc i) x) h.steps).owed l o → filter_of o ≡ Some k
+    → (l : ℕ) (o : Operation) (k : ℕ) → Owes (led s.program (plans s) (own s front (suc i) x) h.steps).owed l o → filter_of o ≡ Some k
     → is_installed (control s.commands front) k ≡ true
 
 -- no number stands twice, in no version a filter
@@ -105,23 +133,23 @@ abbrev pub HaveOnce : List Version → Type 0
 HaveOnce [] = Unit {0}
 HaveOnce (v ∷ vs) = AreOnce v.active × HaveOnce vs
 
--- A thread that owes a leave holds the clause. (Shown.)
+-- A thread that owes a leave holds the clause.
 abbrev pub HasHeldLeaves : Type 0
 HasHeldLeaves = (p : Source) (plans : Plans) (x : Own) (h : IsPart p plans x) → HaveOnce x.versions → (l k c : ℕ) → Owes (led p plans x h.steps).owed l (leave k c)
     → holds (led p plans x h.steps).held k c ≡ true
 
--- The journal says so too, where no new version is listed for the thread. (Shown.)
+-- The journal says so too, where no new version is listed for the thread.
 abbrev pub HasRightLeaves : Type 0
-HasRightLeaves = (s : Setting) (front rest : List Entry) → IsLawful s (front ++ rest) → (i : ℕ) → i < thread_limit → (x : Spawned)
+HasRightLeaves = (s : Setting) (front rest : List Entry) → IsLawful s (front ++ rest) → (i : ℕ) → i < thread_limit → (x : ThreadState)
     (h : IsPart s.program (plans s) (own s front (suc i) x)) (y : Entry) (ys : List Entry) → entries_of (suc i) front ≡ y ∷ ys → listed (suc i) front ≡ []
     → (l k c : ℕ) → Owes (led s.program (plans s) (own s front (suc i) x) h.steps).owed l (leave k c)
     → is_held_by (control s.commands front) k c (suc i) ≡ true
 
--- What stands before the last entry of a lawful journal is lawful. (Shown.)
+-- What stands before the last entry of a lawful journal is lawful.
 abbrev pub HasFronts : Type 0
 HasFronts = (s : Setting) (front rest : List Entry) → IsLawful s (front ++ rest) → IsLawful s front
 
--- A thread that ends holds nothing. (Shown.)
+-- A thread that ends holds nothing.
 abbrev pub HasEmptyEnds : Type 0
 HasEmptyEnds = (p : Source) (plans : Plans) (x : Own) (h : IsPart p plans x) (before : List Step) (l : ℕ) → h.steps ≡ before ++ goes (made l end) ∷ []
     → (led p plans x before).held ≡ []
@@ -139,7 +167,7 @@ with_newest (e.Cross t l x n m) v vs = vs ++ v ∷ []
 with_newest _ v vs = vs
 
 -- what is a thread's own with this entry behind its entries
-abbrev pub own_with : Setting → List Entry → ℕ → Spawned → Entry → Own
+abbrev pub own_with : Setting → List Entry → ℕ → ThreadState → Entry → Own
 own_with s es t z x = record {
   thread = t;
   func = z.func;
@@ -148,22 +176,13 @@ own_with s es t z x = record {
   entries = entries_of t es ++ x ∷ [];
 }
 
--- What is left of `Keeps` for a turn to show. The rest follows from the part: that the filter is installed, that the thread holds what it leaves, the version.
-abbrev pub Needs : Setting → Front → Entry → Type 0
-Needs s f (e.Cross t l x v n) = AllByRecursion (λ y. y ≡ x) (listed t f.entries)
-Needs s f (e.Blocked t l what) = IsDisabledFor s f t what
-Needs s f (e.Enter t l k c) = list_any (λ (h : Holder). (h.filter == k) && (h.clause == c)) f.control.holders ≡ false
-Needs s f (e.Wait t l k n) = Posted f.entries k (before_in n (Plan.rulings (plans s k)))
-Needs s f (e.At t l k ns) = AllByRecursion (λ n. Follows f.entries k (before_in n (Plan.rulings (plans s k)))) ns
-Needs s f _ = Unit {0}
-
--- A journal with no entry is lawful. (Shown.)
+-- A journal with no entry is lawful.
 abbrev pub HasBeginning : Type 0
 HasBeginning = (s : Setting) → (h : IsLawful s []) × (h.events ≡ [])
 
 -- Behind the entries and events so far thread t may make this entry, with this step of its part.
 pub record MayTurn (s : Setting) (es : List Entry) (xs : List Event) (t : ℕ) (x : Entry) (step : Step) : Type 0 where
-  pub state : Spawned
+  pub state : ThreadState
   pub there : thread_at (replay (start s.program) xs) t ≡ Some state
   -- with it the thread's own entries are a part
   pub part : IsPart s.program (plans s) (own_with s es t state x)
@@ -176,40 +195,22 @@ pub record MayTurn (s : Setting) (es : List Entry) (xs : List Event) (t : ℕ) (
   pub away : (k : ℕ) → Control.asked (control s.commands es) ≡ Some k → has_any (entries_of t (since_asked es)) ≡ true
       → KeepsAway (IsFlagged s k) (led s.program (plans s) (own_with s es t state x) before)
   pub no_begin : (k : ℕ) → Control.asked (control s.commands es) ≡ Some k → is_begin x ≡ true → list_any (is_spawn_of t) (since_asked es) ≡ false
-  pub needs : Needs s (front_of s es xs) x
+  pub permits : Permits s (front_of s es xs) x
 
--- A lawful journal with one more event of a thread is lawful, where the store allows the event. (Shown.)
+-- A lawful journal with one more event of a thread is lawful, where the store allows the event.
 abbrev pub HasEventTurns : Type 0
 HasEventTurns = (s : Setting) (es : List Entry) (h : IsLawful s es) → IsUnfinished es
     → (y : Event) → MayTurn s es h.events y.thread (entry_of y) (goes (made y.line y.act)) → IsAllowed (replay (start s.program) h.events) y
     → (h' : IsLawful s (es ++ entry_of y ∷ [])) × (h'.events ≡ h.events ++ y ∷ [])
 
--- So it is with one more operation of a thread, `Cross` and `Blocked` too. (Shown.)
+-- So it is with one more operation of a thread, `Cross` and `Blocked` too.
 abbrev pub HasOperationTurns : Type 0
 HasOperationTurns = (s : Setting) (es : List Entry) (h : IsLawful s es) → IsUnfinished es
-    → (t l : ℕ) (o : Op) → MayTurn s es h.events t (entry_of_op t l o) (makes l o)
-    → (h' : IsLawful s (es ++ entry_of_op t l o ∷ [])) × (h'.events ≡ h.events)
+    → (t l : ℕ) (o : Operation) → MayTurn s es h.events t (entry_of_operation t l o) (makes l o)
+    → (h' : IsLawful s (es ++ entry_of_operation t l o ∷ [])) × (h'.events ≡ h.events)
 
--- And with one more control entry. (Shown.)
+-- And with one more control entry.
 abbrev pub HasControlTurns : Type 0
 HasControlTurns = (s : Setting) (es : List Entry) (h : IsLawful s es) → IsUnfinished es
-    → (x : Entry) → thread_of x ≡ None → Stands s (front_of s es h.events) x []
+    → (x : Entry) → thread_of x ≡ None → MayFollow s (front_of s es h.events) x []
     → (h' : IsLawful s (es ++ x ∷ [])) × (h'.events ≡ h.events)
-
--- What stands by a turn: an entry of a thread with what is left of `Keeps`, a control entry as ever.
-abbrev pub StandsFor : Setting → Front → Entry → List Entry → Option ℕ → Type 0
-StandsFor s f x rest None = Stands s f x rest
-StandsFor s f x rest (Some t) = MayMove s f t x × Needs s f x
-
--- A lawful journal in which threads' entries are asked no more than that.
-pub record IsNearlyLawful (s : Setting) (es : List Entry) : Type 0 where
-  pub events : List Event
-  pub tells : map entry_of events ≡ targets es
-  pub run : AreRun s.program events
-  pub parts : (t : ℕ) → HasPart s es t (thread_at (replay (start s.program) events) t)
-  pub stands : (front : List Entry) (x : Entry) (rest : List Entry) → es ≡ front ++ x ∷ rest
-      → StandsFor s (front_of s front (take (length (targets front)) events)) x rest (thread_of x)
-
--- That is enough. (Shown.)
-abbrev pub HasEnough : Type 0
-HasEnough = (s : Setting) (es : List Entry) → IsNearlyLawful s es → IsLawful s es

@@ -8,7 +8,7 @@ use Rattle.loom_lang.specs.Trace.{Item, made, Outcome, Open, IsTrace}
 use Rattle.loom_lang.specs.Acts.{Deed}
 use Rattle.loom_trace.specs.declared.request.Request.{Request}
 use Rattle.loom_event.specs.Answer.{granted, trapped}
-use Rattle.loom_law.specs.Walk.{Version, Plans, Op, cross, entry_of_op, Step, items, told, Inside, Spot, left, Walk, unborn, all_inside, is_among, walked, request_place, place_of_next, AreWoven}
+use Rattle.loom_law.specs.Walk.{Version, Plans, Operation, cross, entry_of_operation, Step, items, told, Inside, Spot, left, Walk, unborn, all_inside, is_among, walked, request_place, place_of_next, AreWoven}
 
 -- what is a thread's own: its number, function and arguments, the versions that it has taken, in order, and its entries
 pub record Own : Type 0 where
@@ -87,13 +87,13 @@ abbrev pub with_entry : Own → Entry → Own
 with_entry x y = record x { entries = x.entries ++ y ∷ [] }
 
 -- an operation that needs no new version: with its entry the entries are a part
-abbrev pub AsksToMake : Source → Plans → Own → ℕ → Op → Type 0
-AsksToMake p plans x l o = IsPart p plans (with_entry x (entry_of_op x.thread l o))
+abbrev pub AsksToMake : Source → Plans → Own → ℕ → Operation → Type 0
+AsksToMake p plans x l o = IsPart p plans (with_entry x (entry_of_operation x.thread l o))
 
 -- a new version, with `Cross`
 abbrev pub AsksToCross : Source → Plans → Own → ℕ → ℕ → ℕ → Version → Type 0
 AsksToCross p plans x l y n v =
-    IsPart p plans (record x { versions = x.versions ++ v ∷ []; entries = x.entries ++ entry_of_op x.thread l (cross y v.number n) ∷ [] })
+    IsPart p plans (record x { versions = x.versions ++ v ∷ []; entries = x.entries ++ entry_of_operation x.thread l (cross y v.number n) ∷ [] })
 
 -- an act: nothing is owed, and each answer goes on the trace
 abbrev pub GoesOn : Source → Own → List Step → Option Deed → Type 0

@@ -10,7 +10,7 @@ use Rattle.loom_lang.specs.Places.{Place, places, line_of_place, line_of_functio
 use Rattle.loom_lang.specs.Places as place
 use Rattle.loom_lang.specs.Trace.{Locals, Act, begin, trap, lock, down, join, Item, made, begins, done, edge, enter, out}
 use Rattle.loom_event.specs.Event.{entry_by}
-use Rattle.loom_law.specs.Filter.{Site, statement, function, Range, Ruling, Plan, matching, has, share, entries_of, exits_of, ranges_of, waits, posts, clauses}
+use Rattle.loom_law.specs.Filter.{Site, statement, function, Range, Ruling, Plan, matching, has, share, entry_events, exit_events, ranges_of, waits, posts, clauses}
 use Rattle.std.specs.Prelude.{slice_get}
 
 -- Versions
@@ -27,41 +27,41 @@ Plans = ℕ → Plan
 -- Steps
 
 -- what a filter, a version or a limit makes a thread do
-pub data Op : Type 0 where
-  wait : ℕ → ℕ → Op
-  enters : ℕ → ℕ → Op
-  at : ℕ → List ℕ → Op
-  past : ℕ → List ℕ → Op
-  post : ℕ → ℕ → Op
-  leave : ℕ → ℕ → Op
-  back : Op
+pub data Operation : Type 0 where
+  wait : ℕ → ℕ → Operation
+  enters : ℕ → ℕ → Operation
+  at : ℕ → List ℕ → Operation
+  past : ℕ → List ℕ → Operation
+  post : ℕ → ℕ → Operation
+  leave : ℕ → ℕ → Operation
+  back : Operation
   -- the number of the place
-  tick : ℕ → Op
+  tick : ℕ → Operation
   -- the number of the place, the version, and how many places were passed
-  cross : ℕ → ℕ → ℕ → Op
-  blocked : What → Op
+  cross : ℕ → ℕ → ℕ → Operation
+  blocked : What → Operation
 
 -- an item of the trace, or an operation with its line
 pub data Step : Type 0 where
   goes : Item → Step
-  makes : ℕ → Op → Step
+  makes : ℕ → Operation → Step
 
 abbrev pub items : List Step → List Item
 items [] = []
 items (goes i ∷ ss) = i ∷ items ss
 items (makes l o ∷ ss) = items ss
 
-abbrev pub entry_of_op : ℕ → ℕ → Op → Entry
-entry_of_op t l (wait k n) = e.Wait t l k n
-entry_of_op t l (enters k c) = e.Enter t l k c
-entry_of_op t l (at k ns) = e.At t l k ns
-entry_of_op t l (past k ns) = e.Past t l k ns
-entry_of_op t l (post k n) = e.Post t l k n
-entry_of_op t l (leave k c) = e.Leave t l k c
-entry_of_op t l back = e.Back t l
-entry_of_op t l (tick x) = e.Tick t l x
-entry_of_op t l (cross x v n) = e.Cross t l x v n
-entry_of_op t l (blocked what) = e.Blocked t l what
+abbrev pub entry_of_operation : ℕ → ℕ → Operation → Entry
+entry_of_operation t l (wait k n) = e.Wait t l k n
+entry_of_operation t l (enters k c) = e.Enter t l k c
+entry_of_operation t l (at k ns) = e.At t l k ns
+entry_of_operation t l (past k ns) = e.Past t l k ns
+entry_of_operation t l (post k n) = e.Post t l k n
+entry_of_operation t l (leave k c) = e.Leave t l k c
+entry_of_operation t l back = e.Back t l
+entry_of_operation t l (tick x) = e.Tick t l x
+entry_of_operation t l (cross x v n) = e.Cross t l x v n
+entry_of_operation t l (blocked what) = e.Blocked t l what
 
 -- the entries of a thread that tell these steps
 abbrev pub told_item : ℕ → Item → List Entry → List Entry
@@ -71,12 +71,12 @@ told_item t _ es = es
 abbrev pub told : ℕ → List Step → List Entry
 told t [] = []
 told t (goes i ∷ ss) = told_item t i (told t ss)
-told t (makes l o ∷ ss) = entry_of_op t l o ∷ told t ss
+told t (makes l o ∷ ss) = entry_of_operation t l o ∷ told t ss
 
 -- Where a thread is
 
 -- a statement that has begun and isn't complete: its line, and the events of each filter that began with it
-pub record Begun : Type 0 where
+pub record OpenStatement : Type 0 where
   pub line : ℕ
   pub events : List (ℕ × List ℕ)
 
@@ -87,9 +87,9 @@ pub record Inside : Type 0 where
   pub range : Range
 
 -- an open frame: its function, its statements, the innermost first, and the regions that were entered in it
-pub record Frame : Type 0 where
+pub record OpenFrame : Type 0 where
   pub func : ℕ
-  pub statements : List Begun
+  pub statements : List OpenStatement
   pub inside : List Inside
 
 -- the mark, or the trap, directly behind which the thread is, but for what it owes there
@@ -104,8 +104,8 @@ pub data Spot : Type 0 where
   trapped : ℕ → Spot
 
 -- lines and operations
-abbrev pub Owed : Type 0
-Owed = List (ℕ × Op)
+abbrev pub Queue : Type 0
+Queue = List (ℕ × Operation)
 
 pub record Walk : Type 0 where
   -- the versions that it is still to take, and the filters of the one it has
@@ -114,10 +114,10 @@ pub record Walk : Type 0 where
   -- the clauses that it holds: filter and number
   pub held : List (ℕ × ℕ)
   -- the open frames, the innermost first
-  pub frames : List Frame
+  pub frames : List OpenFrame
   pub spot : Spot
   -- what it is to make here, before it goes on
-  pub owed : Owed
+  pub owed : Queue
   -- the entry and back-edge places passed since its last entry, the latest first
   pub passed : List Place
   -- its last entry is `Blocked`
@@ -133,25 +133,25 @@ abbrev pub holds : List (ℕ × ℕ) → ℕ → ℕ → Bool
 holds hs k c = list_any (λ (h : ℕ × ℕ). (h.0 == k) && (h.1 == c)) hs
 
 -- a wait for each event that stands in an order and isn't its first
-abbrev pub owed_waits : Plan → ℕ → ℕ → List ℕ → Owed → Owed
+abbrev pub owed_waits : Plan → ℕ → ℕ → List ℕ → Queue → Queue
 owed_waits f k l [] more = more
 owed_waits f k l (n ∷ ns) more = if waits f n then (l, wait k n) ∷ owed_waits f k l ns more else owed_waits f k l ns more
 
 abbrev pub begins_in : Ruling → List ℕ → Bool
-begins_in r ns = list_any (λ (x : Range). share (entries_of x) ns) (ranges_of r)
+begins_in r ns = list_any (λ (x : Range). share (entry_events x) ns) (ranges_of r)
 
 -- an enter for each clause of which one is an entry event, and which the thread doesn't hold
-abbrev pub owed_enters : List (ℕ × ℕ) → ℕ → ℕ → List ℕ → List (ℕ × Ruling) → Owed → Owed
+abbrev pub owed_enters : List (ℕ × ℕ) → ℕ → ℕ → List ℕ → List (ℕ × Ruling) → Queue → Queue
 owed_enters hs k l ns [] more = more
 owed_enters hs k l ns (c ∷ cs) more =
     if begins_in c.1 ns && not (holds hs k c.0) then (l, enters k c.0) ∷ owed_enters hs k l ns cs more else owed_enters hs k l ns cs more
 
-abbrev pub owed_by : Plan → ℕ → List (ℕ × ℕ) → ℕ → List ℕ → Owed → Owed
+abbrev pub owed_by : Plan → ℕ → List (ℕ × ℕ) → ℕ → List ℕ → Queue → Queue
 owed_by f k hs l [] more = more
 owed_by f k hs l (n ∷ ns) more = owed_waits f k l (n ∷ ns) (owed_enters hs k l (n ∷ ns) (clauses f) ((l, at k (n ∷ ns)) ∷ more))
 
 -- of these filters, in their order
-abbrev pub owed_at : Plans → List (ℕ × ℕ) → ℕ → Site → Locals → List ℕ → Owed
+abbrev pub owed_at : Plans → List (ℕ × ℕ) → ℕ → Site → Locals → List ℕ → Queue
 owed_at plans hs l site env [] = []
 owed_at plans hs l site env (k ∷ ks) = owed_by (plans k) k hs l (matching (plans k) site env) (owed_at plans hs l site env ks)
 
@@ -161,26 +161,26 @@ owed_at plans hs l site env (k ∷ ks) = owed_by (plans k) k hs l (matching (pla
 abbrev pub is_among : List Inside → ℕ → ℕ → Bool
 is_among is k c = list_any (λ (i : Inside). (i.filter == k) && (i.clause == c)) is
 
-abbrev pub all_inside : List Frame → List Inside
-all_inside fs = flat_map (λ (f : Frame). f.inside) fs
+abbrev pub all_inside : List OpenFrame → List Inside
+all_inside fs = flat_map (λ (f : OpenFrame). f.inside) fs
 
 -- a region is left with one of its exit events, in the frame in which it was entered
 abbrev pub is_left_with : ℕ → List ℕ → Inside → Bool
-is_left_with k ns i = (i.filter == k) && share (exits_of i.range) ns
+is_left_with k ns i = (i.filter == k) && share (exit_events i.range) ns
 
-abbrev pub completed : ℕ → List ℕ → Frame → Frame
+abbrev pub completed : ℕ → List ℕ → OpenFrame → OpenFrame
 completed k ns x = record x { inside = filter (λ (i : Inside). not (is_left_with k ns i)) x.inside }
 
-abbrev pub in_frame : (Frame → Frame) → List Frame → List Frame
+abbrev pub in_frame : (OpenFrame → OpenFrame) → List OpenFrame → List OpenFrame
 in_frame f [] = []
 in_frame f (x ∷ xs) = f x ∷ xs
 
-abbrev pub owed_posts : Plan → ℕ → ℕ → List ℕ → Owed → Owed
+abbrev pub owed_posts : Plan → ℕ → ℕ → List ℕ → Queue → Queue
 owed_posts f k l [] more = more
 owed_posts f k l (n ∷ ns) more = if posts f n then (l, post k n) ∷ owed_posts f k l ns more else owed_posts f k l ns more
 
 -- a leave for each clause that it holds and whose regions it is inside no more
-abbrev pub owed_leaves : List (ℕ × ℕ) → List Inside → ℕ → ℕ → List (ℕ × Ruling) → Owed → Owed
+abbrev pub owed_leaves : List (ℕ × ℕ) → List Inside → ℕ → ℕ → List (ℕ × Ruling) → Queue → Queue
 owed_leaves hs is k l [] more = more
 owed_leaves hs is k l (c ∷ cs) more =
     if holds hs k c.0 && not (is_among is k c.0) then (l, leave k c.0) ∷ owed_leaves hs is k l cs more else owed_leaves hs is k l cs more
@@ -189,29 +189,29 @@ abbrev pub events_of : ℕ → List (ℕ × List ℕ) → List ℕ
 events_of k [] = []
 events_of k (x ∷ xs) = if x.0 == k then x.1 else events_of k xs
 
-abbrev pub owed_past : Plan → ℕ → List (ℕ × ℕ) → List Frame → ℕ → List ℕ → Owed → Owed
+abbrev pub owed_past : Plan → ℕ → List (ℕ × ℕ) → List OpenFrame → ℕ → List ℕ → Queue → Queue
 owed_past f k hs fs l [] more = more
 owed_past f k hs fs l (n ∷ ns) more =
     (l, past k (n ∷ ns)) ∷ owed_posts f k l (n ∷ ns) (owed_leaves hs (all_inside (in_frame (completed k (n ∷ ns)) fs)) k l (clauses f) more)
 
-abbrev pub owed_behind : Plans → List (ℕ × ℕ) → List Frame → ℕ → List (ℕ × List ℕ) → List ℕ → Owed
+abbrev pub owed_behind : Plans → List (ℕ × ℕ) → List OpenFrame → ℕ → List (ℕ × List ℕ) → List ℕ → Queue
 owed_behind plans hs fs l xs [] = []
 owed_behind plans hs fs l xs (k ∷ ks) = owed_past (plans k) k hs fs l (events_of k xs) (owed_behind plans hs fs l xs ks)
 
 -- What is owed behind a frame, and behind a trap: in order of filters and clauses
 
-abbrev pub all_leaves : Plans → List (ℕ × ℕ) → List Inside → ℕ → List ℕ → Owed
+abbrev pub all_leaves : Plans → List (ℕ × ℕ) → List Inside → ℕ → List ℕ → Queue
 all_leaves plans hs is l [] = []
 all_leaves plans hs is l (k ∷ ks) = owed_leaves hs is k l (clauses (plans k)) (all_leaves plans hs is l ks)
 
-abbrev pub with_back : ℕ → Owed → Owed
+abbrev pub with_back : ℕ → Queue → Queue
 with_back l [] = []
 with_back l (o ∷ os) = (l, back) ∷ (o ∷ os)
 
-abbrev pub owed_out : Plans → List (ℕ × ℕ) → List Frame → ℕ → List ℕ → Owed
+abbrev pub owed_out : Plans → List (ℕ × ℕ) → List OpenFrame → ℕ → List ℕ → Queue
 owed_out plans hs fs l ks = with_back l (all_leaves plans hs (all_inside fs) l ks)
 
-abbrev pub owed_trap : Plans → List (ℕ × ℕ) → ℕ → List ℕ → Owed
+abbrev pub owed_trap : Plans → List (ℕ × ℕ) → ℕ → List ℕ → Queue
 owed_trap plans hs l ks = all_leaves plans hs [] l ks
 
 -- Ticks
@@ -239,31 +239,31 @@ abbrev pub tick_after : ℕ
 tick_after = 1000
 
 -- a tick at the thousandth place, before the operations there
-abbrev pub with_tick : Source → Place → ℕ → Owed → Owed
+abbrev pub with_tick : Source → Place → ℕ → Queue → Queue
 with_tick p x n os = if n == tick_after then (line_of_place p x, tick (place_number p x)) ∷ os else os
 
 -- What comes of each item
 
-abbrev pub opened : ℕ → Frame → Frame
+abbrev pub opened : ℕ → OpenFrame → OpenFrame
 opened l x = record x { statements = record { line = l; events = [] } ∷ x.statements }
 
 abbrev pub without_first : {A : Type 0} → List A → List A
 without_first [] = []
 without_first (x ∷ xs) = xs
 
-abbrev pub closed : Frame → Frame
+abbrev pub closed : OpenFrame → OpenFrame
 closed x = record x { statements = without_first x.statements }
 
 -- the events that began with the innermost statement
-abbrev pub begun_with : List Frame → List (ℕ × List ℕ)
+abbrev pub begun_with : List OpenFrame → List (ℕ × List ℕ)
 begun_with [] = []
 begun_with (x ∷ xs) = of_first x.statements
   where
-    of_first : List Begun → List (ℕ × List ℕ)
+    of_first : List OpenStatement → List (ℕ × List ℕ)
     of_first [] = []
     of_first (s ∷ ss) = s.events
 
-abbrev pub inside_first : List Frame → List Inside
+abbrev pub inside_first : List OpenFrame → List Inside
 inside_first [] = []
 inside_first (x ∷ xs) = x.inside
 
@@ -272,13 +272,13 @@ taking z [] = z
 taking z (v ∷ vs) = record z { coming = vs; active = v.active }
 
 -- behind an entry of its own
-abbrev pub entered_journal : Walk → Walk
-entered_journal z = record z { passed = []; is_blocked = false; spot = elsewhere }
+abbrev pub behind_entry : Walk → Walk
+behind_entry z = record z { passed = []; is_blocked = false; spot = elsewhere }
 
 abbrev pub after_item : Source → Plans → Walk → Item → Walk
-after_item p plans z (made l begin) = taking (entered_journal z) z.coming
+after_item p plans z (made l begin) = taking (behind_entry z) z.coming
 after_item p plans z (made l (trap c)) = record z { frames = []; spot = trapped l; owed = owed_trap plans z.held l z.active; passed = []; is_blocked = false }
-after_item p plans z (made l a) = entered_journal z
+after_item p plans z (made l a) = behind_entry z
 after_item p plans z (begins l env) =
     record z { frames = in_frame (opened l) z.frames; spot = beginning l env; owed = owed_at plans z.held l (statement l) env z.active }
 after_item p plans z (done l) =
@@ -305,21 +305,21 @@ after_item p plans z (out f) =
 abbrev pub entered_ranges : ℕ → List ℕ → ℕ → List Range → List Inside
 entered_ranges k ns c [] = []
 entered_ranges k ns c (x ∷ xs) =
-    if share (entries_of x) ns then record { filter = k; clause = c; range = x } ∷ entered_ranges k ns c xs else entered_ranges k ns c xs
+    if share (entry_events x) ns then record { filter = k; clause = c; range = x } ∷ entered_ranges k ns c xs else entered_ranges k ns c xs
 
 abbrev pub entered_regions : Plan → ℕ → List ℕ → List Inside
 entered_regions f k ns = flat_map (λ (c : ℕ × Ruling). entered_ranges k ns c.0 (ranges_of c.1)) (clauses f)
 
-abbrev pub noted : ℕ → List ℕ → List Begun → List Begun
+abbrev pub noted : ℕ → List ℕ → List OpenStatement → List OpenStatement
 noted k ns [] = []
 noted k ns (s ∷ ss) = record s { events = (k, ns) ∷ s.events } ∷ ss
 
 -- an event of a statement is noted with it; that of a function has no completion
-abbrev pub noted_at : Spot → ℕ → List ℕ → Frame → Frame
+abbrev pub noted_at : Spot → ℕ → List ℕ → OpenFrame → OpenFrame
 noted_at (beginning l env) k ns x = record x { statements = noted k ns x.statements }
 noted_at _ k ns x = x
 
-abbrev pub begun_at : Plan → Spot → ℕ → List ℕ → Frame → Frame
+abbrev pub begun_at : Plan → Spot → ℕ → List ℕ → OpenFrame → OpenFrame
 begun_at f s k ns x = noted_at s k ns (record x { inside = entered_regions f k ns ++ x.inside })
 
 abbrev pub without_clause : ℕ → ℕ → List (ℕ × ℕ) → List (ℕ × ℕ)
@@ -330,7 +330,7 @@ left_behind (left f is) = left f []
 left_behind s = s
 
 -- the filter of an operation
-abbrev pub filter_of : Op → Option ℕ
+abbrev pub filter_of : Operation → Option ℕ
 filter_of (wait k n) = Some k
 filter_of (enters k c) = Some k
 filter_of (at k ns) = Some k
@@ -339,35 +339,35 @@ filter_of (post k n) = Some k
 filter_of (leave k c) = Some k
 filter_of _ = None
 
--- What is still owed where these filters are left: a tick is, and `Back` where it has a leave behind it.
+-- What is still owed where these filters alone stay: their operations, a tick, and `Back` where a leave stands behind it.
 abbrev pub is_kept : List ℕ → Option ℕ → Bool
 is_kept ks None = true
 is_kept ks (Some k) = has ks k
 
-abbrev pub kept : List ℕ → Owed → Owed
-kept ks [] = []
-kept ks ((l, back) ∷ os) = with_back l (kept ks os)
-kept ks ((l, o) ∷ os) = if is_kept ks (filter_of o) then (l, o) ∷ kept ks os else kept ks os
+abbrev pub still_owed : List ℕ → Queue → Queue
+still_owed ks [] = []
+still_owed ks ((l, back) ∷ os) = with_back l (still_owed ks os)
+still_owed ks ((l, o) ∷ os) = if is_kept ks (filter_of o) then (l, o) ∷ still_owed ks os else still_owed ks os
 
--- what the filters that are new in a version have at the same beginning; of these it holds nothing
-abbrev pub fresh : List ℕ → List ℕ → List ℕ
-fresh old ks = filter (λ k. not (has old k)) ks
+-- the filters that are new in a version, and what they owe at the same beginning, where the thread holds nothing of them
+abbrev pub new_filters : List ℕ → List ℕ → List ℕ
+new_filters old ks = filter (λ k. not (has old k)) ks
 
-abbrev pub owed_fresh : Source → Plans → Spot → List ℕ → Owed
+abbrev pub owed_fresh : Source → Plans → Spot → List ℕ → Queue
 owed_fresh p plans (beginning l env) ks = owed_at plans [] l (statement l) env ks
 owed_fresh p plans (entered f env) ks = owed_at plans [] (function_line p f) (function (Some f)) env ks
 owed_fresh p plans _ ks = []
 
 -- What is left to be made here in a new version. Where all was made, the thread has gone on, and nothing is added.
-abbrev pub crossed : Source → Plans → Spot → List ℕ → List ℕ → Owed → Owed
-crossed p plans s old ks [] = []
-crossed p plans s old ks (o ∷ os) = kept ks (o ∷ os) ++ owed_fresh p plans s (fresh old ks)
+abbrev pub owed_behind_cross : Source → Plans → Spot → List ℕ → List ℕ → Queue → Queue
+owed_behind_cross p plans s old ks [] = []
+owed_behind_cross p plans s old ks (o ∷ os) = still_owed ks (o ∷ os) ++ owed_fresh p plans s (new_filters old ks)
 
 -- what it holds by filters that are left behind, and is inside by them, is forgotten
 abbrev pub without_filters : List ℕ → List Inside → List Inside
 without_filters ks is = filter (λ (i : Inside). has ks i.filter) is
 
-abbrev pub frames_without : List ℕ → List Frame → List Frame
+abbrev pub frames_without : List ℕ → List OpenFrame → List OpenFrame
 frames_without ks [] = []
 frames_without ks (x ∷ xs) = record x { inside = without_filters ks x.inside } ∷ frames_without ks xs
 
@@ -384,7 +384,7 @@ crossing p plans z (v ∷ vs) =
       held = filter (λ (h : ℕ × ℕ). has v.active h.0) z.held;
       frames = frames_without v.active z.frames;
       spot = spot_without v.active z.spot;
-      owed = crossed p plans z.spot z.active v.active z.owed;
+      owed = owed_behind_cross p plans z.spot z.active v.active z.owed;
       passed = [];
       is_blocked = false;
     }
@@ -393,21 +393,21 @@ crossing p plans z (v ∷ vs) =
 abbrev pub made_one : Walk → Walk
 made_one z = record z { owed = without_first z.owed; passed = []; is_blocked = false }
 
-abbrev pub after_op : Source → Plans → Walk → Op → Walk
-after_op p plans z (wait k n) = made_one z
-after_op p plans z (enters k c) = record (made_one z) { held = (k, c) ∷ z.held }
-after_op p plans z (at k ns) = record (made_one z) { frames = in_frame (begun_at (plans k) z.spot k ns) z.frames }
-after_op p plans z (past k ns) = record (made_one z) { frames = in_frame (completed k ns) z.frames }
-after_op p plans z (post k n) = made_one z
-after_op p plans z (leave k c) = record (made_one z) { held = without_clause k c z.held }
-after_op p plans z back = record (made_one z) { spot = left_behind z.spot }
-after_op p plans z (tick x) = made_one z
-after_op p plans z (cross x v n) = crossing p plans z z.coming
-after_op p plans z (blocked what) = record z { passed = []; is_blocked = true }
+abbrev pub after_operation : Source → Plans → Walk → Operation → Walk
+after_operation p plans z (wait k n) = made_one z
+after_operation p plans z (enters k c) = record (made_one z) { held = (k, c) ∷ z.held }
+after_operation p plans z (at k ns) = record (made_one z) { frames = in_frame (begun_at (plans k) z.spot k ns) z.frames }
+after_operation p plans z (past k ns) = record (made_one z) { frames = in_frame (completed k ns) z.frames }
+after_operation p plans z (post k n) = made_one z
+after_operation p plans z (leave k c) = record (made_one z) { held = without_clause k c z.held }
+after_operation p plans z back = record (made_one z) { spot = left_behind z.spot }
+after_operation p plans z (tick x) = made_one z
+after_operation p plans z (cross x v n) = crossing p plans z z.coming
+after_operation p plans z (blocked what) = record z { passed = []; is_blocked = true }
 
 abbrev pub after : Source → Plans → Walk → Step → Walk
 after p plans z (goes i) = after_item p plans z i
-after p plans z (makes l o) = after_op p plans z o
+after p plans z (makes l o) = after_operation p plans z o
 
 abbrev pub walked : Source → Plans → Walk → List Step → Walk
 walked p plans z [] = z
@@ -416,21 +416,28 @@ walked p plans z (s ∷ ss) = walked p plans (after p plans z s) ss
 -- What comes next
 
 -- the in place of the innermost statement of the top frame, or its entry place before the first
-abbrev pub innermost : ℕ → List Begun → Place
+abbrev pub innermost : ℕ → List OpenStatement → Place
 innermost f [] = place.entry f
 innermost f (s ∷ ss) = place.inside s.line
 
--- the place of a request: behind a frame, until all that is owed there is made, it is that of the frame
-abbrev pub resting : Spot → Owed → List Frame → Place
-resting (trapped l) os fs = place.inside l
-resting (complete l) os fs = place.inside l
-resting (left f is) (o ∷ os) fs = place.out f
-resting (left f is) [] [] = place.out f
-resting s os [] = place.nowhere
-resting s os (x ∷ xs) = innermost x.func x.statements
+abbrev pub place_in_top : List OpenFrame → Place
+place_in_top [] = place.nowhere
+place_in_top (x ∷ xs) = innermost x.func x.statements
+
+-- The place of a request: behind a statement and behind a trap it is that of the statement, behind a frame that of the frame until all that is
+-- owed there is made, and behind the last frame always.
+abbrev pub place_of_request : Spot → Queue → List OpenFrame → Place
+place_of_request elsewhere os fs = place_in_top fs
+place_of_request (beginning l env) os fs = place_in_top fs
+place_of_request (entered f env) os fs = place_in_top fs
+place_of_request (complete l) os fs = place.inside l
+place_of_request (trapped l) os fs = place.inside l
+place_of_request (left f is) (o ∷ os) fs = place.out f
+place_of_request (left f is) [] [] = place.out f
+place_of_request (left f is) [] (x ∷ xs) = place_in_top (x ∷ xs)
 
 abbrev pub request_place : Walk → Place
-request_place z = resting z.spot z.owed z.frames
+request_place z = place_of_request z.spot z.owed z.frames
 
 -- The place of what comes next: of the mark `enter` or `edge`, or of the request. `rest` is what the tree gives.
 abbrev pub place_of_item : Walk → List Item → Option Place
@@ -443,16 +450,16 @@ place_of_item z (begins l env ∷ is) = None
 place_of_item z (done l ∷ is) = None
 place_of_item z (out f ∷ is) = None
 
-abbrev pub place_of_next : Walk → Owed → List Item → Option Place
+abbrev pub place_of_next : Walk → Queue → List Item → Option Place
 place_of_next z [] rest = place_of_item z rest
 place_of_next z (o ∷ os) rest = Some (request_place z)
 
 -- the next request is one that can be disabled: an act, where nothing is owed, or what is owed first
-abbrev pub Owes : Owed → ℕ → Op → Type 0
+abbrev pub Owes : Queue → ℕ → Operation → Type 0
 Owes [] l o = ⊥
 Owes (x ∷ os) l o = x ≡ (l, o)
 
-abbrev pub Acts : Owed → List Item → ℕ → Act → Type 0
+abbrev pub Acts : Queue → List Item → ℕ → Act → Type 0
 Acts (o ∷ os) rest l a = ⊥
 Acts [] [] l a = ⊥
 Acts [] (i ∷ is) l a = i ≡ made l a

@@ -1,107 +1,127 @@
-//! Laws of full parts and of journals, stated as the contracts of functions that do nothing.
-ghost use Rattle.loom_law.specs.Laws.{HasHeldRegions, HasOnePart, HasOneMove, HasOneMade, HasBalance, HasExclusion, IsAlwaysObeyed, HasNewest, HasOwedActive, HasOwedInstalled, HasHeldLeaves, HasRightLeaves, HasFronts, HasEmptyEnds, HasBeginning, HasEventTurns, HasOperationTurns, HasControlTurns, HasEnough, HasSoundPlaces, IsOutsideWhereFlagged};
+//! Laws of full parts and of lawful journals, each the contract of a function that does nothing. Their statements stand in `specs/Laws.antt`.
+ghost use Rattle.loom_law.specs.Promises.{AlwaysPromises};
+ghost use Rattle.loom_law.specs.Laws.{HasHeldRegions, HasOnePart, HasOneMove, HasOneMade, HasBalance, IsAlwaysBalanced, HasNewInstalls, HasExclusion, IsAlwaysObeyed, HasNewest, HasOwedActive, HasOwedInstalled, HasHeldLeaves, HasRightLeaves, HasFronts, HasEmptyEnds, HasBeginning, HasEventTurns, HasOperationTurns, HasControlTurns, HasSoundPlaces, IsOutsideWhereFlagged};
 
-/// A thread holds each clause whose regions it is inside.
+/// At each point of its full part a thread holds each clause whose regions it is inside.
 pub fn held_regions()
     ensures { HasHeldRegions }
 {}
 
-/// A thread has at most one full part.
+/// A thread has at most one full part: two parts whose last steps tell an entry are the same, step by step.
 pub fn one_part()
     ensures { HasOnePart }
 {}
 
-/// One list of steps stands before a thread's last entry.
+/// The steps that a thread made before its last entry are determined by its entries. So "which places did it pass" has one answer.
 pub fn one_move()
     ensures { HasOneMove }
 {}
 
-/// All parts of a thread have the same steps up to its last entry, and marks alone behind.
+/// All parts of a thread have the same steps up to its last entry, and behind it marks alone, of which there may be more or fewer.
 pub fn one_made()
     ensures { HasOneMade }
 {}
 
-/// What a thread holds of installed filters is what the journal says.
+/// What a thread holds of an installed filter, by its own part, is what the `Enter`, `Leave` and `Removed` entries of the journal say.
 pub fn balance()
     ensures { HasBalance }
 {}
 
-/// At most one thread is inside the regions of a clause.
+/// Locks balance in each lawful journal: operations name installed filters, a clause is left by its holder alone, `Cross` takes the newest version, and a
+/// thread that ends holds nothing.
+pub fn always_balanced()
+    ensures { IsAlwaysBalanced }
+{}
+
+/// An install begins anew: nobody holds a clause of its filter, and none of its events was posted or complete before.
+pub fn new_installs()
+    ensures { HasNewInstalls }
+{}
+
+/// At each front of a lawful journal at most one thread is inside the regions of a clause of an installed filter.
 pub fn exclusion()
     ensures { HasExclusion }
 {}
 
-/// Installed filters are obeyed in each lawful journal.
+/// Filters are obeyed from their install to their removal: at each entry of a lawful journal at most one thread is inside the regions of a clause, and
+/// where the region excludes everything no other thread makes the entry.
 pub fn always_obeyed()
     ensures { IsAlwaysObeyed }
 {}
 
-/// A begun thread for which no new version is listed has the newest one.
+/// A thread that has begun, and for which nothing is listed behind its last entry, has the newest version.
 pub fn newest()
     ensures { HasNewest }
 {}
 
-/// What a thread owes is of filters of its version.
+/// What a thread owes first is of a filter of its version.
 pub fn owed_active()
     ensures { HasOwedActive }
 {}
 
-/// What a thread owes is of installed filters, unless it owes a new version.
+/// What a thread owes first is of an installed filter, unless a new version is listed for it.
 pub fn owed_installed()
     ensures { HasOwedInstalled }
 {}
 
-/// A thread leaves clauses that it holds.
+/// A thread that owes a `Leave` holds the clause by its own part.
 pub fn held_leaves()
     ensures { HasHeldLeaves }
 {}
 
-/// The journal says so too.
+/// A thread that owes a `Leave` holds the clause by the journal too, unless a new version is listed for it.
 pub fn right_leaves()
     ensures { HasRightLeaves }
 {}
 
-/// What stands before an entry of a lawful journal is lawful.
+/// What stands before an entry of a lawful journal is a lawful journal.
 pub fn fronts()
     ensures { HasFronts }
 {}
 
-/// A thread that ends holds nothing.
+/// Where the last step of a thread's part is `End`, the thread holds no clause before it.
 pub fn empty_ends()
     ensures { HasEmptyEnds }
 {}
 
-/// A journal with no entry is lawful.
+/// The journal with no entry is lawful, and tells no event.
 pub fn beginning()
     ensures { HasBeginning }
 {}
 
-/// A lawful journal with one more event of a thread is lawful.
+/// A lawful and unfinished journal with one more event of a thread is lawful, where the thread's part goes on with it and the store allows it.
 pub fn event_turns()
     ensures { HasEventTurns }
 {}
 
-/// A lawful journal with one more operation of a thread is lawful.
+/// So it is with one more operation of a thread, a tick, a `Blocked` and a `Cross` among them.
 pub fn operation_turns()
     ensures { HasOperationTurns }
 {}
 
-/// A lawful journal with one more control entry is lawful.
+/// So it is with one more control entry that may follow.
 pub fn control_turns()
     ensures { HasControlTurns }
 {}
 
-/// A journal is lawful where threads' entries show no more than a turn does.
-pub fn enough()
-    ensures { HasEnough }
-{}
-
-/// The unsafe places of a filter are sound.
+/// The unsafe places of a filter are sound: a thread that comes to a safe place, while the filter isn't active, is inside none of its regions, and no
+/// event of it is under way.
 pub fn sound_places()
     ensures { HasSoundPlaces }
 {}
 
-/// So a filter sees nothing of a thread that stands at a flagged place.
+/// So the filter of an install sees nothing of a thread that stands at a flagged place.
 pub fn outside_where_flagged()
     ensures { IsOutsideWhereFlagged }
+{}
+
+/// A place has one number.
+pub fn one_number()
+    ensures { HasOneNumber }
+{}
+
+/// Each lawful journal keeps what is promised to an operator: it is a run of the program, filters are obeyed, nobody is inside at an
+/// installation, locks balance, and what is refused changes nothing.
+pub fn always_promises()
+    ensures { AlwaysPromises }
 {}

@@ -1,5 +1,6 @@
 pub mod Small
-pub mod Spelled
+pub mod Front
 pub mod Unique
-pub mod Told
+pub mod TokenList
 pub mod Words
+pub mod Proper

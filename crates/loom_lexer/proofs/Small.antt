@@ -7,9 +7,10 @@ use Rattle.loom_tree.specs.declared.token.TokenKind.{TokenKind}
 use Rattle.loom_tree.specs.declared.token.TokenKind.TheVariants as t
 use Rattle.loom_tree.specs.declared.token.Token as rust
 use Rattle.loom_tree.specs.Token.{IsSmall}
-use Rattle.loom_lexer.specs.declared.lexeme.Kind.{Kind}
-use Rattle.loom_lexer.specs.declared.lexeme.Kind.TheVariants as k
-use Rattle.loom_lexer.specs.Tokens.{keyword_of, word_of, value_from, number_of, signs, beside, kind_of, made, IsWithin}
+use Rattle.loom_lexer.specs.declared.lexeme.LexemeKind.{LexemeKind}
+use Rattle.loom_lexer.specs.declared.lexeme.LexemeKind.TheVariants as k
+use Rattle.loom_tree.specs.Token.{IsWithin}
+use Rattle.loom_lexer.specs.Tokens.{keyword_of, word_of, value_from, number_of, signs, beside, kind_of, made}
 
 pub word_small : (o : Option Keyword) → IsSmall (word_of o)
 word_small None = tt
@@ -37,7 +38,7 @@ abbrev pub OptionSmall : Option TokenKind → Type 0
 OptionSmall None = Unit {0}
 OptionSmall (Some kind) = IsSmall kind
 
-pub kind_small : (kind : Kind) (text : List ℕ) → OptionSmall (kind_of kind text)
+pub kind_small : (kind : LexemeKind) (text : List ℕ) → OptionSmall (kind_of kind text)
 kind_small k.White text = tt
 kind_small k.Comment text = tt
 kind_small k.Name text = word_small (keyword_of text)

@@ -2,14 +2,14 @@
 use Rattle.std.proofs.Common.{ℕ, ◌≡◌, Bool, false, List, [], ◌∷◌, ◌++◌, refl, sym, ap, subst, ◌∙◌}
 use Rattle.loom_lexer.specs.declared.lexeme.Class.{Class}
 use Rattle.loom_lexer.specs.declared.lexeme.Class.TheVariants as c
-use Rattle.loom_lexer.specs.declared.lexeme.Kind.{Kind}
-use Rattle.loom_lexer.specs.declared.lexeme.Kind.TheVariants as k
-use Rattle.loom_lexer.specs.Lexeme.{is, is_digit, is_part, is_inside_comment, class_of, Each, Stops, IsSign, IsPair, IsBad, IsComment, Spells, Lexeme, IsLexed}
+use Rattle.loom_lexer.specs.declared.lexeme.LexemeKind.{LexemeKind}
+use Rattle.loom_lexer.specs.declared.lexeme.LexemeKind.TheVariants as k
+use Rattle.loom_lexer.specs.Lexeme.{is, is_digit, is_part, is_inside_comment, class_of, Each, BeginsWithout, IsSign, IsPair, IsBad, IsComment, Spells, Lexeme, IsLexed}
 use Rattle.loom_lexer.specs.Scan.{begins, kind_by, kind_at}
-use Rattle.loom_lexer.proofs.Spelled.{lexeme}
+use Rattle.loom_lexer.proofs.Front.{lexeme}
 
 -- where two cuts are behind bytes that meet a test and before one that doesn't, they are one
-pub one_cut : (p : ℕ → Bool) (ks bs xs ys : List ℕ) → Each p ks → Each p bs → Stops p xs → Stops p ys → ks ++ xs ≡ bs ++ ys → ks ≡ bs
+pub one_cut : (p : ℕ → Bool) (ks bs xs ys : List ℕ) → Each p ks → Each p bs → BeginsWithout p xs → BeginsWithout p ys → ks ++ xs ≡ bs ++ ys → ks ≡ bs
 one_cut p [] [] xs ys ha hb hx hy e = refl
 one_cut p [] (b ∷ bs) [] ys ha hb hx hy e = cc
 one_cut p [] (b ∷ bs) (x ∷ xs) ys ha hb hx hy e = let f : x ≡ b = cc in let g : p x ≡ p b = ap p f in let h = hb.0 in cc
@@ -19,7 +19,7 @@ one_cut p (a ∷ ks) (b ∷ bs) xs ys ha hb hx hy e =
     let i = one_cut p ks bs xs ys ha.1 hb.1 hx hy (let t : ks ++ xs ≡ bs ++ ys = cc in t) in
     cc
 
-pub begins_not : (p : ℕ → Bool) (rest : List ℕ) → Stops p rest → begins p rest ≡ false
+pub begins_not : (p : ℕ → Bool) (rest : List ℕ) → BeginsWithout p rest → begins p rest ≡ false
 begins_not p [] h = refl
 begins_not p (b ∷ bs) h = h
 
@@ -69,7 +69,7 @@ comment_told c.Ampersand bs rest h = absurd h
 comment_told c.Bar bs rest h = absurd h
 comment_told c.Other bs rest h = absurd h
 
-pub kind_told : (kind : Kind) (text rest : List ℕ) → Spells kind text rest → kind_at (text ++ rest) ≡ kind
+pub kind_told : (kind : LexemeKind) (text rest : List ℕ) → Spells kind text rest → kind_at (text ++ rest) ≡ kind
 kind_told kind [] rest h = absurd h
 kind_told k.White (b ∷ bs) rest h = rw h.0 refl
 kind_told k.Comment (b ∷ bs) rest h = comment_told (class_of b) bs rest h.0
@@ -92,7 +92,7 @@ one_pair c.Single s t h i = absurd h
 one_pair c.Slash s t h i = absurd h
 one_pair c.Other s t h i = absurd h
 
-pub one_comment : (c : Class) (s t xs ys : List ℕ) → IsComment c s → IsComment c t → Stops is_inside_comment xs → Stops is_inside_comment ys → s ++ xs ≡ t ++ ys → s ≡ t
+pub one_comment : (c : Class) (s t xs ys : List ℕ) → IsComment c s → IsComment c t → BeginsWithout is_inside_comment xs → BeginsWithout is_inside_comment ys → s ++ xs ≡ t ++ ys → s ≡ t
 one_comment c.Slash s t xs ys h i x y r =
     let r' : (47 ∷ h.0) ++ xs ≡ (47 ∷ i.0) ++ ys = sym (ap (λ z. z ++ xs) h.1) ∙ r ∙ ap (λ z. z ++ ys) i.1 in
     let q : h.0 ++ xs ≡ i.0 ++ ys = cc in
@@ -107,7 +107,7 @@ one_comment c.Ampersand s t xs ys h i x y r = absurd h
 one_comment c.Bar s t xs ys h i x y r = absurd h
 one_comment c.Other s t xs ys h i x y r = absurd h
 
-pub text_told : (kind : Kind) (s t xs ys : List ℕ) → Spells kind s xs → Spells kind t ys → s ++ xs ≡ t ++ ys → s ≡ t
+pub text_told : (kind : LexemeKind) (s t xs ys : List ℕ) → Spells kind s xs → Spells kind t ys → s ++ xs ≡ t ++ ys → s ≡ t
 text_told kind [] t xs ys h i e = absurd h
 text_told kind (a ∷ s) [] xs ys h i e = absurd i
 text_told k.Name (a ∷ s) (b ∷ t) xs ys h i e = let f = one_cut is_part s t xs ys h.1 i.1 h.2 i.2 (let r : s ++ xs ≡ t ++ ys = cc in r) in cc
@@ -133,7 +133,7 @@ same_rest [] (b ∷ t) xs ys f e = cc
 same_rest (a ∷ s) [] xs ys f e = cc
 same_rest (a ∷ s) (b ∷ t) xs ys f e = same_rest s t xs ys (let g : s ≡ t = cc in g) (let r : s ++ xs ≡ t ++ ys = cc in r)
 
-pub some_text : (kind : Kind) (s xs : List ℕ) → Spells kind s xs → s ++ xs ≡ [] → ⊥
+pub some_text : (kind : LexemeKind) (s xs : List ℕ) → Spells kind s xs → s ++ xs ≡ [] → ⊥
 some_text kind [] xs h e = h
 some_text kind (a ∷ s) xs h e = cc
 
@@ -144,10 +144,10 @@ one_lexing (p ∷ ps) [] bytes h i = absurd (some_text p.kind p.text h.0 h.2 (sy
 one_lexing (p ∷ ps) (q ∷ qs) bytes h i =
     let e : p.text ++ h.0 ≡ q.text ++ i.0 = sym h.1 ∙ i.1 in
     let same_kind : p.kind ≡ q.kind = sym (kind_told p.kind p.text h.0 h.2) ∙ ap kind_at e ∙ kind_told q.kind q.text i.0 i.2 in
-    let P : Kind → Type 0 = λ z. Spells z p.text h.0 in
+    let P : LexemeKind → Type 0 = λ z. Spells z p.text h.0 in
     let same_text : p.text ≡ q.text = text_told q.kind p.text q.text h.0 i.0 (subst P same_kind h.2) i.2 e in
     let r : h.0 ≡ i.0 = same_rest p.text q.text h.0 i.0 same_text e in
     let Q : List ℕ → Type 0 = λ z. IsLexed ps z in
     let rest = one_lexing ps qs i.0 (subst Q r h.3) i.3 in
-    let same : p ≡ q = ap (λ (z : Kind). lexeme z p.text) same_kind ∙ ap (λ (z : List ℕ). lexeme q.kind z) same_text in
+    let same : p ≡ q = ap (λ (z : LexemeKind). lexeme z p.text) same_kind ∙ ap (λ (z : List ℕ). lexeme q.kind z) same_text in
     cc

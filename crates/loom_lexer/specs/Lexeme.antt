@@ -3,8 +3,8 @@ use Rattle.std.specs.Prelude.{ℕ, ◌≡◌, Bool, true, false, not, ◌||◌, 
 use Rattle.std.specs.List.{list_any}
 use Rattle.loom_lexer.specs.declared.lexeme.Class.{Class}
 use Rattle.loom_lexer.specs.declared.lexeme.Class.TheVariants as c
-use Rattle.loom_lexer.specs.declared.lexeme.Kind.{Kind}
-use Rattle.loom_lexer.specs.declared.lexeme.Kind.TheVariants as k
+use Rattle.loom_lexer.specs.declared.lexeme.LexemeKind.{LexemeKind}
+use Rattle.loom_lexer.specs.declared.lexeme.LexemeKind.TheVariants as k
 
 -- the byte is x
 abbrev pub is : ℕ → ℕ → Bool
@@ -61,16 +61,16 @@ Each p [] = Unit {0}
 Each p (b ∷ bs) = (p b ≡ true) × Each p bs
 
 -- the text doesn't begin with a byte that meets the test
-abbrev pub Stops : (ℕ → Bool) → List ℕ → Type 0
-Stops p [] = Unit {0}
-Stops p (b ∷ bs) = p b ≡ false
+abbrev pub BeginsWithout : (ℕ → Bool) → List ℕ → Type 0
+BeginsWithout p [] = Unit {0}
+BeginsWithout p (b ∷ bs) = p b ≡ false
 
 -- A byte of this class is a sign by itself, where this is behind it: no longer sign and no comment begins there.
 -- (61 is `=`)
 abbrev pub IsSign : Class → List ℕ → Type 0
 IsSign c.Single rest = Unit {0}
-IsSign c.Comparison rest = Stops (is 61) rest
-IsSign c.Slash rest = Stops (is 47) rest
+IsSign c.Comparison rest = BeginsWithout (is 61) rest
+IsSign c.Slash rest = BeginsWithout (is 47) rest
 IsSign _ rest = ⊥
 
 -- a byte of this class and these bytes behind it are a sign: `==`, `!=`, `<=`, `>=`, `&&` or `||`
@@ -82,8 +82,8 @@ IsPair _ bs = ⊥
 
 -- a byte of this class begins nothing, where this is behind it
 abbrev pub IsBad : Class → List ℕ → Type 0
-IsBad c.Ampersand rest = Stops (is 38) rest
-IsBad c.Bar rest = Stops (is 124) rest
+IsBad c.Ampersand rest = BeginsWithout (is 38) rest
+IsBad c.Bar rest = BeginsWithout (is 124) rest
 IsBad c.Other rest = Unit {0}
 IsBad _ rest = ⊥
 
@@ -93,18 +93,18 @@ IsComment c.Slash bs = (inside : List ℕ) × (bs ≡ 47 ∷ inside) × Each is_
 IsComment _ bs = ⊥
 
 -- these bytes are a lexeme of the kind, and it can't go on in the rest
-abbrev pub Spells : Kind → List ℕ → List ℕ → Type 0
+abbrev pub Spells : LexemeKind → List ℕ → List ℕ → Type 0
 Spells kind [] rest = ⊥
 Spells k.White (b ∷ bs) rest = (class_of b ≡ c.White) × (bs ≡ [])
-Spells k.Comment (b ∷ bs) rest = IsComment (class_of b) bs × Stops is_inside_comment rest
-Spells k.Name (b ∷ bs) rest = (class_of b ≡ c.Letter) × Each is_part bs × Stops is_part rest
-Spells k.Number (b ∷ bs) rest = (class_of b ≡ c.Digit) × Each is_digit bs × Stops is_digit rest
+Spells k.Comment (b ∷ bs) rest = IsComment (class_of b) bs × BeginsWithout is_inside_comment rest
+Spells k.Name (b ∷ bs) rest = (class_of b ≡ c.Letter) × Each is_part bs × BeginsWithout is_part rest
+Spells k.Number (b ∷ bs) rest = (class_of b ≡ c.Digit) × Each is_digit bs × BeginsWithout is_digit rest
 Spells k.Sign (b ∷ bs) rest = (bs ≡ []) × IsSign (class_of b) rest
 Spells k.Pair (b ∷ bs) rest = IsPair (class_of b) bs
 Spells k.Bad (b ∷ bs) rest = (bs ≡ []) × IsBad (class_of b) rest
 
 pub record Lexeme : Type 0 where
-  pub kind : Kind
+  pub kind : LexemeKind
   pub text : List ℕ
 
 -- the bytes are these lexemes, one behind the other

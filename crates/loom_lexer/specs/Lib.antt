@@ -1,3 +1,4 @@
 pub mod Lexeme
 pub mod Scan
 pub mod Tokens
+pub mod Name

@@ -2,8 +2,8 @@
 use Rattle.std.specs.Prelude.{ℕ, suc, Bool, false, List, [], ◌∷◌, if◌then◌else◌}
 use Rattle.loom_lexer.specs.declared.lexeme.Class.{Class}
 use Rattle.loom_lexer.specs.declared.lexeme.Class.TheVariants as c
-use Rattle.loom_lexer.specs.declared.lexeme.Kind.{Kind}
-use Rattle.loom_lexer.specs.declared.lexeme.Kind.TheVariants as k
+use Rattle.loom_lexer.specs.declared.lexeme.LexemeKind.{LexemeKind}
+use Rattle.loom_lexer.specs.declared.lexeme.LexemeKind.TheVariants as k
 use Rattle.loom_lexer.specs.Lexeme.{is, is_digit, is_part, is_inside_comment, class_of}
 
 abbrev pub begins : (ℕ → Bool) → List ℕ → Bool
@@ -15,7 +15,7 @@ abbrev pub run_len : (ℕ → Bool) → List ℕ → ℕ
 run_len p [] = 0
 run_len p (b ∷ bs) = if p b then suc (run_len p bs) else 0
 
-abbrev pub kind_by : Class → List ℕ → Kind
+abbrev pub kind_by : Class → List ℕ → LexemeKind
 kind_by c.Letter bs = k.Name
 kind_by c.Digit bs = k.Number
 kind_by c.White bs = k.White
@@ -26,7 +26,7 @@ kind_by c.Bar bs = if begins (is 124) bs then k.Pair else k.Bad
 kind_by c.Slash bs = if begins (is 47) bs then k.Comment else k.Sign
 kind_by c.Other bs = k.Bad
 
-abbrev pub kind_at : List ℕ → Kind
+abbrev pub kind_at : List ℕ → LexemeKind
 kind_at [] = k.Bad
 kind_at (b ∷ bs) = kind_by (class_of b) bs
 

@@ -1,5 +1,5 @@
 -- The tokens of a text, and their lines.
-use Rattle.std.specs.Prelude.{ℕ, ◌+◌, ◌-◌, ◌*◌, ◌≡◌, ◌≤◌, nat_le, nat_eq, List, [], ◌∷◌, ◌++◌, length, count_by, find, bytes_eq, codes, if◌then◌else◌, Option, Some, None}
+use Rattle.std.specs.Prelude.{ℕ, ◌+◌, ◌-◌, ◌*◌, ◌≡◌, nat_le, nat_eq, List, [], ◌∷◌, ◌++◌, count_by, find, bytes_eq, codes, if◌then◌else◌, Option, Some, None}
 use Rattle.loom_tree.specs.declared.expression.Op.TheVariants as o
 use Rattle.loom_tree.specs.declared.token.Keyword.{Keyword}
 use Rattle.loom_tree.specs.declared.token.Keyword.TheVariants as w
@@ -7,9 +7,9 @@ use Rattle.loom_tree.specs.declared.token.Sign.TheVariants as s
 use Rattle.loom_tree.specs.declared.token.TokenKind.{TokenKind}
 use Rattle.loom_tree.specs.declared.token.TokenKind.TheVariants as t
 use Rattle.loom_tree.specs.declared.token.Token as rust
-use Rattle.loom_tree.specs.Token.{Placed, token_by}
-use Rattle.loom_lexer.specs.declared.lexeme.Kind.{Kind}
-use Rattle.loom_lexer.specs.declared.lexeme.Kind.TheVariants as k
+use Rattle.loom_tree.specs.Token.{LineToken, token_by}
+use Rattle.loom_lexer.specs.declared.lexeme.LexemeKind.{LexemeKind}
+use Rattle.loom_lexer.specs.declared.lexeme.LexemeKind.TheVariants as k
 use Rattle.loom_lexer.specs.Lexeme.{Lexeme, IsLexed}
 
 -- how a word is written
@@ -48,9 +48,12 @@ abbrev pub value_from : ℕ → List ℕ → ℕ
 value_from v [] = v
 value_from v (d ∷ ds) = value_from (10 * v + (d - 48)) ds
 
+abbrev pub largest_number : ℕ
+largest_number = 9223372036854775807
+
 -- a number, or nothing where it is too large
 abbrev pub number_of : ℕ → TokenKind
-number_of v = if nat_le v 9223372036854775807 then t.Number v else t.Bad
+number_of v = if nat_le v largest_number then t.Number v else t.Bad
 
 abbrev pub signs : List (List ℕ × TokenKind)
 signs =
@@ -73,7 +76,7 @@ beside [] text = t.Bad
 beside (e ∷ es) text = if bytes_eq e.0 text then e.1 else beside es text
 
 -- what a lexeme is as a token: white space and comments are none
-abbrev pub kind_of : Kind → List ℕ → Option TokenKind
+abbrev pub kind_of : LexemeKind → List ℕ → Option TokenKind
 kind_of k.White text = None
 kind_of k.Comment text = None
 kind_of k.Name text = Some (word_of (keyword_of text))
@@ -82,7 +85,7 @@ kind_of k.Sign text = Some (beside signs text)
 kind_of k.Pair text = Some (beside signs text)
 kind_of k.Bad text = Some t.Bad
 
-abbrev pub placed : Option TokenKind → List ℕ → ℕ → List Placed
+abbrev pub placed : Option TokenKind → List ℕ → ℕ → List LineToken
 placed None text line = []
 placed (Some kind) text line = (record { token = token_by kind text; line = line }) ∷ []
 
@@ -96,12 +99,12 @@ abbrev pub line_ends : List ℕ → ℕ
 line_ends bytes = count_by (λ b. nat_eq b 10) bytes
 
 -- the tokens of lexemes of which the first stands on this line
-abbrev pub tokens_from : ℕ → List Lexeme → List Placed
+abbrev pub tokens_from : ℕ → List Lexeme → List LineToken
 tokens_from line [] = []
 tokens_from line (p ∷ ps) = placed (kind_of p.kind p.text) p.text line ++ tokens_from (line + line_ends p.text) ps
 
 -- the bytes have these tokens
-pub record AreTokens (bytes : List ℕ) (tokens : List Placed) : Type 0 where
+pub record AreTokens (bytes : List ℕ) (tokens : List LineToken) : Type 0 where
   pub lexemes : List Lexeme
   pub lexed : IsLexed lexemes bytes
   pub theirs : tokens ≡ tokens_from 1 lexemes
@@ -110,14 +113,10 @@ pub record AreTokens (bytes : List ℕ) (tokens : List Placed) : Type 0 where
 abbrev pub last_line : List ℕ → ℕ
 last_line bytes = 1 + line_ends bytes
 
--- its places lie within the text
-abbrev pub IsWithin : List ℕ → rust.Token → Type 0
-IsWithin bytes t = (t.start ≤ t.end) × (t.end ≤ length bytes)
-
 -- the same bytes have one list of tokens
 abbrev pub OneListOfTokens : Type 0
-OneListOfTokens = (bytes : List ℕ) (ps qs : List Placed) → AreTokens bytes ps → AreTokens bytes qs → ps ≡ qs
+OneListOfTokens = (bytes : List ℕ) (ps qs : List LineToken) → AreTokens bytes ps → AreTokens bytes qs → ps ≡ qs
 
 -- all bytes have tokens
 abbrev pub HaveTokens : Type 0
-HaveTokens = (bytes : List ℕ) → (ps : List Placed) × AreTokens bytes ps
+HaveTokens = (bytes : List ℕ) → (ps : List LineToken) × AreTokens bytes ps

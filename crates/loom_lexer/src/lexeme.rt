@@ -21,7 +21,7 @@ pub enum Class {
 
 /// What a lexeme is.
 #[derive(Clone, Copy, Debug, Drop)]
-pub enum Kind {
+pub enum LexemeKind {
     /// A space, a tab, a CR or an LF.
     White,
     Comment,
@@ -39,8 +39,8 @@ pub enum Kind {
 
 /// The lexeme at a place.
 #[derive(Clone, Copy, Debug, Drop)]
-pub struct Scanned {
-    pub kind: Kind,
+pub struct Span {
+    pub kind: LexemeKind,
     /// The place behind its last byte.
     pub end: usize,
 }
@@ -154,7 +154,7 @@ fn next_is(bytes: &[u8], at: usize, b: u8) -> bool
 }
 
 /// The lexeme that begins at a place.
-pub fn scan(bytes: &[u8], at: usize) -> Scanned
+pub fn scan(bytes: &[u8], at: usize) -> Span
     requires { at < length bytes.now }
     ensures kind { result.kind ≡ kind_at (drop at bytes.now) }
     ensures end { result.end ≡ at + len_at (drop at bytes.now) }
@@ -162,17 +162,20 @@ pub fn scan(bytes: &[u8], at: usize) -> Scanned
 {
     let next = at + 1;
     let (kind, end) = match class_of(bytes[at]) {
-        Class::Letter => (Kind::Name, part_end(bytes, next)),
-        Class::Digit => (Kind::Number, digits_end(bytes, next)),
-        Class::White => (Kind::White, next),
-        Class::Single => (Kind::Sign, next),
-        Class::Comparison if next_is(bytes, next, b'=') => (Kind::Pair, next + 1),
-        Class::Comparison => (Kind::Sign, next),
-        Class::Ampersand if next_is(bytes, next, b'&') => (Kind::Pair, next + 1),
-        Class::Bar if next_is(bytes, next, b'|') => (Kind::Pair, next + 1),
-        Class::Slash if next_is(bytes, next, b'/') => (Kind::Comment, comment_end(bytes, next)),
-        Class::Slash => (Kind::Sign, next),
-        Class::Ampersand | Class::Bar | Class::Other => (Kind::Bad, next),
+        Class::Letter => (LexemeKind::Name, part_end(bytes, next)),
+        Class::Digit => (LexemeKind::Number, digits_end(bytes, next)),
+        Class::White => (LexemeKind::White, next),
+        Class::Single => (LexemeKind::Sign, next),
+        Class::Comparison if next_is(bytes, next, b'=') => (LexemeKind::Pair, next + 1),
+        Class::Comparison => (LexemeKind::Sign, next),
+        Class::Ampersand if next_is(bytes, next, b'&') => (LexemeKind::Pair, next + 1),
+        Class::Bar if next_is(bytes, next, b'|') => (LexemeKind::Pair, next + 1),
+        Class::Slash if next_is(bytes, next, b'/') => (
+            LexemeKind::Comment,
+            comment_end(bytes, next),
+        ),
+        Class::Slash => (LexemeKind::Sign, next),
+        Class::Ampersand | Class::Bar | Class::Other => (LexemeKind::Bad, next),
     };
-    Scanned { kind, end }
+    Span { kind, end }
 }

@@ -1,7 +1,7 @@
 //! From the bytes of a text to its tokens.
 #![tactic(auto)]
 
-pub mod lexeme;
+mod lexeme;
 #[cfg(test)]
 mod tests;
 pub mod text;

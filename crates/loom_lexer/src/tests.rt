@@ -17,9 +17,9 @@ fn expect(
     assert!(rt; text.len() < 1000);
     let tokens = tokenize(alloc, text)?;
     assert_eq!(rt; tokens.0.len(), expected.len());
-    for (token, wanted) in tokens.0.iter().zip(expected) {
-        assert_eq!(rt; token.kind, wanted.0);
-        assert_eq!(rt; token.line, wanted.1);
+    for (row, (token, wanted)) in tokens.0.iter().zip(expected).enumerate() {
+        assert_eq!(rt; token.kind, wanted.0, "token {row}");
+        assert_eq!(rt; token.line, wanted.1, "token {row}");
     }
     Ok(())
 }

@@ -1,7 +1,8 @@
 //! The tokens and the lines of a text.
 ghost use Rattle.std.specs.Prelude.{◌≡◌, ◌≤◌, ◌<◌, ◌+◌, ◌++◌, ◌^◌, length, map, All, IfOk};
-ghost use Rattle.loom_tree.specs.Token.{placed_of, IsSmall};
-ghost use Rattle.loom_lexer.specs.Tokens.{made, line_ends, AreTokens, last_line, IsWithin, OneListOfTokens, HaveTokens};
+ghost use Rattle.loom_tree.specs.Token.{line_token_of, IsSmall};
+ghost use Rattle.loom_tree.specs.Token.{IsWithin};
+ghost use Rattle.loom_lexer.specs.Tokens.{made, line_ends, AreTokens, last_line, OneListOfTokens, HaveTokens};
 
 use crate::lexeme::scan;
 use crate::token::kind_of;
@@ -67,7 +68,7 @@ fn put(
 /// The tokens of a text, in the order of the text. An `Err` is want of memory.
 pub fn tokenize(alloc: Global, bytes: &[u8]) -> Result<Tokens, NoMemory>
     requires { length bytes.now + 1 < 2 ^ 32 }
-    ensures tokens { IfOk result (λ ts. AreTokens bytes.now (map (placed_of bytes.now) ts)) }
+    ensures tokens { IfOk result (λ ts. AreTokens bytes.now (map (line_token_of bytes.now) ts)) }
     ensures small { IfOk result (λ ts. All (λ t. IsSmall t.kind) ts) }
     ensures within { IfOk result (λ ts. All (IsWithin bytes.now) ts) }
 {
@@ -75,17 +76,11 @@ pub fn tokenize(alloc: Global, bytes: &[u8]) -> Result<Tokens, NoMemory>
     let mut at = 0;
     let mut line = 1;
     'all: while at < bytes.len() {
-        let scanned = scan(bytes, at);
-        let text = &bytes[at..scanned.end];
-        put(
-            &mut tokens,
-            kind_of(scanned.kind, text),
-            at,
-            scanned.end,
-            line,
-        )?;
+        let span = scan(bytes, at);
+        let text = &bytes[at..span.end];
+        put(&mut tokens, kind_of(span.kind, text), at, span.end, line)?;
         line += line_ends(text);
-        at = scanned.end;
+        at = span.end;
     }
     Ok(Tokens(tokens))
 }

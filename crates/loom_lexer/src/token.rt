@@ -2,7 +2,7 @@
 ghost use Rattle.std.specs.Prelude.{◌≡◌, ◌-◌, length};
 ghost use Rattle.loom_lexer.specs.Tokens.{spelling, keyword_of, word_of, value_from, number_of, signs, beside, kind_of};
 
-use crate::lexeme::Kind;
+use crate::lexeme::LexemeKind;
 use loom_tree::expression::Op;
 use loom_tree::token::{Keyword, Sign, TokenKind};
 
@@ -27,7 +27,7 @@ const KEYWORDS: [Keyword; 17] = [
 ];
 
 /// The largest number of the language.
-const LARGEST: u64 = 9223372036854775807;
+const LARGEST_NUMBER: u64 = 9223372036854775807;
 
 fn spelling(word: Keyword) -> &'static [u8]
     ensures { result.now ≡ spelling word }
@@ -70,7 +70,7 @@ fn number(digits: &[u8]) -> TokenKind
     let mut value: u64 = 0;
     for b in digits {
         let digit = b.saturating_sub(b'0') as u64;
-        if value > (LARGEST - digit) / 10 {
+        if value > (LARGEST_NUMBER - digit) / 10 {
             return TokenKind::Bad;
         }
         value = 10 * value + digit;
@@ -109,14 +109,14 @@ fn sign(text: &[u8]) -> TokenKind
     }
 }
 
-pub(crate) fn kind_of(kind: Kind, text: &[u8]) -> Option<TokenKind>
+pub(crate) fn kind_of(kind: LexemeKind, text: &[u8]) -> Option<TokenKind>
     ensures { result ≡ kind_of kind text.now }
 {
     match kind {
-        Kind::White | Kind::Comment => None,
-        Kind::Name => Some(word(text)),
-        Kind::Number => Some(number(text)),
-        Kind::Sign | Kind::Pair => Some(sign(text)),
-        Kind::Bad => Some(TokenKind::Bad),
+        LexemeKind::White | LexemeKind::Comment => None,
+        LexemeKind::Name => Some(word(text)),
+        LexemeKind::Number => Some(number(text)),
+        LexemeKind::Sign | LexemeKind::Pair => Some(sign(text)),
+        LexemeKind::Bad => Some(TokenKind::Bad),
     }
 }

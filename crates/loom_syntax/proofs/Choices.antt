@@ -7,7 +7,7 @@ use Rattle.loom_tree.specs.declared.token.Keyword.TheVariants as w
 use Rattle.loom_tree.specs.declared.token.Sign.{Sign}
 use Rattle.loom_tree.specs.declared.token.Sign.TheVariants as g
 use Rattle.loom_tree.specs.Token.{Token}
-use Rattle.loom_expression.specs.Machine.{after}
+use Rattle.loom_expression.specs.Reader.{after}
 use Rattle.loom_syntax.specs.Tests.{keyword_number, sign_number, is_keyword, is_sign, is_minus, name_of, number_of}
 
 -- keywords and signs by their numbers

@@ -6,13 +6,13 @@ use Rattle.loom_tree.specs.declared.token.Keyword.TheVariants as w
 use Rattle.loom_tree.specs.declared.token.Sign.TheVariants as g
 use Rattle.loom_tree.specs.Token.{Token}
 use Rattle.loom_tree.specs.Tree.{Expression, Right}
-use Rattle.loom_expression.specs.Written.{Text, tree}
-use Rattle.loom_expression.specs.Machine as expression
-use Rattle.loom_expression.specs.Machine.{after, is_whole, written, plain}
+use Rattle.loom_expression.specs.Text.{Text, tree}
+use Rattle.loom_expression.specs.Reader as expression
+use Rattle.loom_expression.specs.Reader.{after, is_whole, written, plain}
 use Rattle.loom_expression.proofs.Natural as natural
-use Rattle.loom_syntax.specs.Written.{right_tree, simple_tree}
+use Rattle.loom_syntax.specs.File.{right_tree, simple_tree}
 use Rattle.loom_syntax.specs.Tests.{is_keyword, is_sign, name_of}
-use Rattle.loom_syntax.specs.Part.{Target, Let, Set, Goal, Call, RightCall, RightSpawn, Sync, Lock, Unlock, Down, Up, Test, If, While, Purpose, Value, Argument, Index, CellValue, Condition, Return, Join, Print, Part, LetName, LetAssign, Started, RightOf, RightNamed, SpawnName, SpawnOpen, SyncName, TestOpen, Arguments, Returned, SetAssign, Reading, Ending, TestBrace, PartNext, Goes, Ends, Opens, assigned, applied, synced, closes, argued, closed, ends_here, read_step, begin_test, begin_keyword, begin_part, right_value, part_step}
+use Rattle.loom_syntax.specs.Part.{Assignee, Let, Set, Goal, Call, RightCall, RightSpawn, Sync, Lock, Unlock, Down, Up, Test, If, While, Purpose, Value, Argument, Index, CellValue, Condition, Return, Join, Print, Part, LetName, LetAssign, Started, RightOf, RightNamed, SpawnName, SpawnOpen, SyncName, TestOpen, Arguments, Returned, SetAssign, Reading, Ending, TestBrace, PartNext, Goes, Ends, Opens, assigned, applied, synced, closes, argued, closed, ends_here, read_step, begin_test, begin_keyword, begin_part, right_value, part_step}
 
 abbrev pub over : {A B : Type 0} → (A → B) → Option A → Option B
 over f None = None
@@ -49,7 +49,7 @@ part_map (TestOpen test) = TestOpen test
 part_map (Arguments goal) = Arguments goal
 part_map Returned = Returned
 part_map (SetAssign x i) = SetAssign x (tree i)
-part_map (Reading p s) = Reading (purpose_map p) (natural.state_map s)
+part_map (Reading p s) = Reading (purpose_map p) (natural.reader_map s)
 part_map (Ending s) = Ending (simple_tree s)
 part_map (TestBrace test e) = TestBrace test (tree e)
 
@@ -60,7 +60,7 @@ next_map (Opens test e) = Opens test (tree e)
 
 -- statements from their parts
 
-pub assigned_map : (target : Target) (r : Right Text) → assigned target (right_tree r) ≡ simple_tree (assigned target r)
+pub assigned_map : (target : Assignee) (r : Right Text) → assigned target (right_tree r) ≡ simple_tree (assigned target r)
 assigned_map (Let x) r = refl
 assigned_map (Set x) r = refl
 
@@ -89,7 +89,7 @@ closes_map Print t = refl
 
 pub argued_map : (goal : Goal) (es : List Text) (t : Token) → argued goal (map tree es) t ≡ next_map (argued goal es t)
 argued_map goal es t =
-    elim (is_sign g.Comma t) as (λ v. (if v then Goes (Reading (Argument goal (map tree es)) expression.start) else Goes (Ending (applied goal (map tree es)))) ≡ next_map (if v then Goes (Reading (Argument goal es) expression.start) else Goes (Ending (applied goal es))))
+    elim (is_sign g.Comma t) as (λ v. (if v then Goes (Reading (Argument goal (map tree es)) expression.fresh) else Goes (Ending (applied goal (map tree es)))) ≡ next_map (if v then Goes (Reading (Argument goal es) expression.fresh) else Goes (Ending (applied goal es))))
     [ true ↦ refl | false ↦ ap (λ z. Goes (Ending z)) (applied_map goal es) ]
 
 pub closed_map : (p : Purpose Text) (e : Text) (t : Token) → closed (purpose_map p) (tree e) t ≡ next_map (closed p e t)
@@ -102,26 +102,26 @@ closed_map Return e t = refl
 closed_map Join e t = refl
 closed_map Print e t = refl
 
-pub here_map : (p : Purpose Text) (s : expression.State Text) (t : Token) → ends_here (purpose_map p) (natural.state_map s) t ≡ ends_here p s t
+pub here_map : (p : Purpose Text) (s : expression.Reader Text) (t : Token) → ends_here (purpose_map p) (natural.reader_map s) t ≡ ends_here p s t
 here_map p s t = rw (natural.whole_state s, closes_map p t) refl
 
-pub finish_map : (p : Purpose Text) (s : expression.State Text) (t : Token)
-    → after (expression.finish plain (natural.state_map s)) (λ e. Some (closed (purpose_map p) e t)) ≡ over next_map (after (expression.finish written s) (λ e. Some (closed p e t)))
+pub finish_map : (p : Purpose Text) (s : expression.Reader Text) (t : Token)
+    → after (expression.finish plain (natural.reader_map s)) (λ e. Some (closed (purpose_map p) e t)) ≡ over next_map (after (expression.finish written s) (λ e. Some (closed p e t)))
 finish_map p s t = rw (natural.finish_state s) (go (expression.finish written s))
   where
     go : (o : Option Text) → after (natural.tree_if o) (λ e. Some (closed (purpose_map p) e t)) ≡ over next_map (after o (λ e. Some (closed p e t)))
     go None = refl
     go (Some e) = ap Some (closed_map p e t)
 
-pub fed_map : (p : Purpose Text) (s : expression.State Text) (t : Token)
-    → after (expression.step plain (natural.state_map s) t) (λ s'. Some (Goes (Reading (purpose_map p) s'))) ≡ over next_map (after (expression.step written s t) (λ s'. Some (Goes (Reading p s'))))
-fed_map p s t = rw (natural.step_state s t) (go (expression.step written s t))
+pub fed_map : (p : Purpose Text) (s : expression.Reader Text) (t : Token)
+    → after (expression.feed plain (natural.reader_map s) t) (λ s'. Some (Goes (Reading (purpose_map p) s'))) ≡ over next_map (after (expression.feed written s t) (λ s'. Some (Goes (Reading p s'))))
+fed_map p s t = rw (natural.step_state s t) (go (expression.feed written s t))
   where
-    go : (o : Option (expression.State Text)) → after (natural.state_if o) (λ s'. Some (Goes (Reading (purpose_map p) s'))) ≡ over next_map (after o (λ s'. Some (Goes (Reading p s'))))
+    go : (o : Option (expression.Reader Text)) → after (natural.reader_if o) (λ s'. Some (Goes (Reading (purpose_map p) s'))) ≡ over next_map (after o (λ s'. Some (Goes (Reading p s'))))
     go None = refl
     go (Some s') = refl
 
-pub read_map : (p : Purpose Text) (s : expression.State Text) (t : Token) → read_step plain (purpose_map p) (natural.state_map s) t ≡ over next_map (read_step written p s t)
+pub read_map : (p : Purpose Text) (s : expression.Reader Text) (t : Token) → read_step plain (purpose_map p) (natural.reader_map s) t ≡ over next_map (read_step written p s t)
 read_map p s t = rw (here_map p s t) (over_if next_map (ends_here p s t) _ _ _ _ (finish_map p s t) (fed_map p s t))
 
 -- the first token of a statement
@@ -159,8 +159,8 @@ begin_map room Token.bad = refl
 
 -- a token behind a part
 
-pub value_map : (target : Target) (t : Token) (o : Option (List ℕ)) → right_value plain target t o ≡ over next_map (right_value written target t o)
-value_map target t None = read_map (Value target) expression.start t
+pub value_map : (target : Assignee) (t : Token) (o : Option (List ℕ)) → right_value plain target t o ≡ over next_map (right_value written target t o)
+value_map target t None = read_map (Value target) expression.fresh t
 value_map target t (Some f) = refl
 
 pub part_state : (q : Part Text) (t : Token) → part_step plain (part_map q) t ≡ over next_map (part_step written q t)
@@ -177,8 +177,8 @@ part_state (SpawnName target) t = over_after next_map (name_of t) _ _ (λ f. ref
 part_state (SpawnOpen target f) t = over_if next_map (is_sign g.ParenOpen t) _ _ _ _ refl refl
 part_state (SyncName sync) t = over_after next_map (name_of t) _ _ (λ x. ap (λ z. Some (Goes (Ending z))) (synced_map sync x))
 part_state (TestOpen test) t = over_if next_map (is_sign g.ParenOpen t) _ _ _ _ refl refl
-part_state (Arguments goal) t = over_if next_map (is_sign g.ParenClose t) _ _ _ _ (ap (λ z. Some (Goes (Ending z))) (applied_map goal [])) (read_map (Argument goal []) expression.start t)
-part_state Returned t = over_if next_map (is_sign g.Semicolon t) _ _ _ _ refl (read_map Return expression.start t)
+part_state (Arguments goal) t = over_if next_map (is_sign g.ParenClose t) _ _ _ _ (ap (λ z. Some (Goes (Ending z))) (applied_map goal [])) (read_map (Argument goal []) expression.fresh t)
+part_state Returned t = over_if next_map (is_sign g.Semicolon t) _ _ _ _ refl (read_map Return expression.fresh t)
 part_state (SetAssign x i) t = over_if next_map (is_sign g.Assign t) _ _ _ _ refl refl
 part_state (Reading p s) t = read_map p s t
 part_state (Ending s) t = over_if next_map (is_sign g.Semicolon t) _ _ _ _ refl refl

@@ -7,19 +7,19 @@ use Rattle.loom_tree.specs.declared.token.Keyword.TheVariants as w
 use Rattle.loom_tree.specs.declared.token.Sign.TheVariants as g
 use Rattle.loom_tree.specs.Token.{Token}
 use Rattle.loom_tree.specs.Tree.{Right, Simple}
-use Rattle.loom_expression.specs.Written.{Text, tokens, IsWritten}
-use Rattle.loom_expression.specs.Machine as expression
-use Rattle.loom_expression.specs.Machine.{after, is_whole, written}
+use Rattle.loom_expression.specs.Text.{Text, tokens, IsWritten}
+use Rattle.loom_expression.specs.Reader as expression
+use Rattle.loom_expression.specs.Reader.{after, is_whole, written}
 use Rattle.loom_expression.proofs.Sound as sound
-use Rattle.loom_syntax.specs.Written.{with_commas, arguments, right_tokens, simple_tokens, test_tokens, ended, IsRight, IsSimple, deepest_block}
+use Rattle.loom_syntax.specs.File.{with_commas, arguments, right_tokens, simple_tokens, test_tokens, ended, IsRight, IsSimple, block_limit}
 use Rattle.loom_syntax.specs.Tests.{is_sign, name_of}
-use Rattle.loom_syntax.specs.Part.{Target, Let, Set, Goal, Call, RightCall, RightSpawn, Sync, Lock, Unlock, Down, Up, Test, If, While, Purpose, Value, Argument, Index, CellValue, Condition, Return, Join, Print, Part, LetName, LetAssign, Started, RightOf, RightNamed, SpawnName, SpawnOpen, SyncName, TestOpen, Arguments, Returned, SetAssign, Reading, Ending, TestBrace, PartNext, Goes, Ends, Opens, assigned, applied, synced, closes, argued, closed, ends_here, read_step, begin_test, begin_keyword, begin_part, right_value, arguments_step, part_step}
+use Rattle.loom_syntax.specs.Part.{Assignee, Let, Set, Goal, Call, RightCall, RightSpawn, Sync, Lock, Unlock, Down, Up, Test, If, While, Purpose, Value, Argument, Index, CellValue, Condition, Return, Join, Print, Part, LetName, LetAssign, Started, RightOf, RightNamed, SpawnName, SpawnOpen, SyncName, TestOpen, Arguments, Returned, SetAssign, Reading, Ending, TestBrace, PartNext, Goes, Ends, Opens, assigned, applied, synced, closes, argued, closed, ends_here, read_step, begin_test, begin_keyword, begin_part, right_value, arguments_step, part_step}
 use Rattle.loom_syntax.proofs.Choices.{sign_is, choose, if_keyword, if_sign, if_name}
 use Rattle.loom_syntax.proofs.HeadSound.{before_comma, commas_more, before_more}
 
 -- the tokens that were read
 
-abbrev pub target_read : Target → List Token
+abbrev pub target_read : Assignee → List Token
 target_read (Let x) = Token.word w.Let ∷ Token.name x ∷ Token.sign g.Assign ∷ []
 target_read (Set x) = Token.name x ∷ Token.sign g.Assign ∷ []
 
@@ -80,23 +80,23 @@ GoodPurpose n (Value target) = Unit {0}
 GoodPurpose n (Argument goal before) = AllByRecursion IsWritten before
 GoodPurpose n (Index x) = Unit {0}
 GoodPurpose n (CellValue x i) = IsWritten i
-GoodPurpose n (Condition test) = n < deepest_block
+GoodPurpose n (Condition test) = n < block_limit
 GoodPurpose n Return = Unit {0}
 GoodPurpose n Join = Unit {0}
 GoodPurpose n Print = Unit {0}
 
 abbrev pub Good : ℕ → Part Text → Type 0
-Good n (TestOpen test) = n < deepest_block
+Good n (TestOpen test) = n < block_limit
 Good n (SetAssign x i) = IsWritten i
-Good n (Reading p s) = GoodPurpose n p × sound.GoodState s
+Good n (Reading p s) = GoodPurpose n p × sound.GoodReader s
 Good n (Ending s) = IsSimple s
-Good n (TestBrace test e) = IsWritten e × (n < deepest_block)
+Good n (TestBrace test e) = IsWritten e × (n < block_limit)
 Good n _ = Unit {0}
 
 abbrev pub GoodNext : ℕ → PartNext Text → Type 0
 GoodNext n (Goes q) = Good n q
 GoodNext n (Ends s) = IsSimple s
-GoodNext n (Opens test e) = IsWritten e × (n < deepest_block)
+GoodNext n (Opens test e) = IsWritten e × (n < block_limit)
 
 -- what is good, where the token was read behind ts
 abbrev pub Reads : ℕ → List Token → Token → PartNext Text → Type 0
@@ -112,11 +112,11 @@ all_more P (y ∷ xs) x h k = (h.0, all_more P xs x h.1 k)
 
 -- statements from their parts
 
-pub assigned_tokens : (target : Target) (r : Right Text) → simple_tokens (assigned target r) ≡ target_read target ++ right_tokens r
+pub assigned_tokens : (target : Assignee) (r : Right Text) → simple_tokens (assigned target r) ≡ target_read target ++ right_tokens r
 assigned_tokens (Let x) r = refl
 assigned_tokens (Set x) r = refl
 
-pub assigned_good : (target : Target) (r : Right Text) → IsRight r → IsSimple (assigned target r)
+pub assigned_good : (target : Assignee) (r : Right Text) → IsRight r → IsSimple (assigned target r)
 assigned_good (Let x) r h = h
 assigned_good (Set x) r h = h
 
@@ -161,9 +161,9 @@ argued_good n goal before e t all ok = go (is_sign g.Comma t) refl
     more = all_more IsWritten before e all ok
 
     go : (v : Bool) → is_sign g.Comma t ≡ v → (if v then true else is_sign g.ParenClose t) ≡ true
-        → Reads n (closed_read (Argument goal before) e) t (if v then Goes (Reading (Argument goal (before ++ e ∷ [])) expression.start) else Goes (Ending (applied goal (before ++ e ∷ []))))
+        → Reads n (closed_read (Argument goal before) e) t (if v then Goes (Reading (Argument goal (before ++ e ∷ [])) expression.fresh) else Goes (Ending (applied goal (before ++ e ∷ []))))
     go true is c =
-        subst (λ z. Reads n (closed_read (Argument goal before) e) z (Goes (Reading (Argument goal (before ++ e ∷ [])) expression.start))) (sym (sign_is g.Comma t is))
+        subst (λ z. Reads n (closed_read (Argument goal before) e) z (Goes (Reading (Argument goal (before ++ e ∷ [])) expression.fresh))) (sym (sign_is g.Comma t is))
         ((more, sound.start_good), rw (before_tokens before e) (simp (append_assoc, append-nil)))
     go false is c =
         subst (λ z. Reads n (closed_read (Argument goal before) e) z (Goes (Ending (applied goal (before ++ e ∷ []))))) (sym (sign_is g.ParenClose t c))
@@ -184,7 +184,7 @@ closed_good n Return e t ok good is = subst (λ z. Reads n (closed_read Return e
 closed_good n Join e t ok good is = subst (λ z. Reads n (closed_read Join e) z (Ends (Simple.join e))) (sym (sign_is g.Semicolon t is)) (good, refl)
 closed_good n Print e t ok good is = subst (λ z. Reads n (closed_read Print e) z (Ends (Simple.print e))) (sym (sign_is g.Semicolon t is)) (good, refl)
 
-pub ends_closes : (p : Purpose Text) (s : expression.State Text) (t : Token) → ends_here p s t ≡ true → closes p t ≡ true
+pub ends_closes : (p : Purpose Text) (s : expression.Reader Text) (t : Token) → ends_here p s t ≡ true → closes p t ≡ true
 ends_closes p s t is = go (is_whole s) is
   where
     go : (v : Bool) → (if v then closes p t else false) ≡ true → closes p t ≡ true
@@ -192,25 +192,25 @@ ends_closes p s t is = go (is_whole s) is
     go false is = cc
 
 -- a token in an expression, or behind it
-pub read_good : (n : ℕ) (p : Purpose Text) (s : expression.State Text) (t : Token) → GoodPurpose n p → sound.GoodState s → IfSome (read_step written p s t) (Reads n (read (Reading p s)) t)
+pub read_good : (n : ℕ) (p : Purpose Text) (s : expression.Reader Text) (t : Token) → GoodPurpose n p → sound.GoodReader s → IfSome (read_step written p s t) (Reads n (read (Reading p s)) t)
 read_good n p s t ok good =
     choose (ends_here p s t) _ _ (Reads n (read (Reading p s)) t)
     (λ is. after_good (expression.finish written s) (λ e. closed p e t) (sound.Spells (sound.read s)) (Reads n (read (Reading p s)) t) (sound.finish_good s good)
     (λ e spells. subst (λ ts. Reads n (purpose_read p ++ ts) t (closed p e t)) spells.1 (closed_good n p e t ok spells.0 (ends_closes p s t is))))
-    (λ is. after_good (expression.step written s t) (λ s'. Goes (Reading p s')) (sound.Reads (sound.read s) t) (Reads n (read (Reading p s)) t) (sound.step_good s t good)
+    (λ is. after_good (expression.feed written s t) (λ s'. Goes (Reading p s')) (sound.Reads (sound.read s) t) (Reads n (read (Reading p s)) t) (sound.step_good s t good)
     (λ s' reads. ((ok, reads.0), ap (λ ts. purpose_read p ++ ts) reads.1 ∙ sym (append_assoc (purpose_read p) (sound.read s) (t ∷ [])))))
 
 -- the first token of an expression
-pub first_good : (n : ℕ) (p : Purpose Text) (t : Token) → GoodPurpose n p → IfSome (read_step written p expression.start t) (Reads n (purpose_read p) t)
-first_good n p t ok = subst (λ ts. IfSome (read_step written p expression.start t) (Reads n ts t)) (append-nil (purpose_read p)) (read_good n p expression.start t ok sound.start_good)
+pub first_good : (n : ℕ) (p : Purpose Text) (t : Token) → GoodPurpose n p → IfSome (read_step written p expression.fresh t) (Reads n (purpose_read p) t)
+first_good n p t ok = subst (λ ts. IfSome (read_step written p expression.fresh t) (Reads n ts t)) (append-nil (purpose_read p)) (read_good n p expression.fresh t ok sound.start_good)
 
 -- the first token of a statement
 
-pub test_good : (n : ℕ) (room : Bool) (test : Test) → (room ≡ true → n < deepest_block) → IfSome (begin_test room test) (λ q. Good n q × (read q ≡ Token.word (test_word test) ∷ []))
+pub test_good : (n : ℕ) (room : Bool) (test : Test) → (room ≡ true → n < block_limit) → IfSome (begin_test room test) (λ q. Good n q × (read q ≡ Token.word (test_word test) ∷ []))
 test_good n true test h = (h refl, refl)
 test_good n false test h = tt
 
-pub keyword_good : (n : ℕ) (room : Bool) (k : Keyword) → (room ≡ true → n < deepest_block) → IfSome (begin_keyword room k) (λ q. Good n q × (read q ≡ Token.word k ∷ []))
+pub keyword_good : (n : ℕ) (room : Bool) (k : Keyword) → (room ≡ true → n < block_limit) → IfSome (begin_keyword room k) (λ q. Good n q × (read q ≡ Token.word k ∷ []))
 keyword_good n room w.Shared h = tt
 keyword_good n room w.Mutex h = tt
 keyword_good n room w.Sema h = tt
@@ -229,7 +229,7 @@ keyword_good n room w.Join h = ((tt, sound.start_good), refl)
 keyword_good n room w.Print h = ((tt, sound.start_good), refl)
 keyword_good n room w.Skip h = (tt, refl)
 
-pub begin_good : (n : ℕ) (room : Bool) (t : Token) → (room ≡ true → n < deepest_block) → IfSome (begin_part room t) (λ q. Good n q × (read q ≡ t ∷ []))
+pub begin_good : (n : ℕ) (room : Bool) (t : Token) → (room ≡ true → n < block_limit) → IfSome (begin_part room t) (λ q. Good n q × (read q ≡ t ∷ []))
 begin_good n room (Token.name x) h = (tt, refl)
 begin_good n room (Token.num v) h = tt
 begin_good n room (Token.word k) h = keyword_good n room k h
@@ -239,7 +239,7 @@ begin_good n room Token.bad h = tt
 
 -- a token behind a part
 
-pub value_good : (n : ℕ) (target : Target) (t : Token) → IfSome (right_value written target t (name_of t)) (Reads n (target_read target) t)
+pub value_good : (n : ℕ) (target : Assignee) (t : Token) → IfSome (right_value written target t (name_of t)) (Reads n (target_read target) t)
 value_good n target (Token.name f) = (tt, refl)
 value_good n target (Token.num v) = first_good n (Value target) (Token.num v) tt
 value_good n target (Token.word k) = first_good n (Value target) (Token.word k) tt

@@ -5,15 +5,15 @@ use Rattle.loom_tree.specs.declared.token.Sign.{Sign}
 use Rattle.loom_tree.specs.declared.token.Sign.TheVariants as g
 use Rattle.loom_tree.specs.Token.{Token}
 use Rattle.loom_tree.specs.Tree.{Right, Simple}
-use Rattle.loom_expression.specs.Written.{Text, tokens, IsWritten}
-use Rattle.loom_expression.specs.Machine as expression
-use Rattle.loom_expression.specs.Machine.{after, is_whole, written}
+use Rattle.loom_expression.specs.Text.{Text, tokens, IsWritten}
+use Rattle.loom_expression.specs.Reader as expression
+use Rattle.loom_expression.specs.Reader.{after, is_whole, written}
 use Rattle.loom_expression.proofs.Sound as sound
 use Rattle.loom_expression.proofs.Whole.{completes}
 use Rattle.loom_expression.proofs.Viable.{completion, whole_paren, whole_bracket, outside_none}
-use Rattle.loom_syntax.specs.Written.{behind_commas, with_commas, simple_tokens, ended, IsSimple}
+use Rattle.loom_syntax.specs.File.{behind_commas, with_commas, simple_tokens, ended, IsSimple}
 use Rattle.loom_syntax.specs.Tests.{is_sign}
-use Rattle.loom_syntax.specs.Part.{Target, Let, Set, Goal, Call, RightCall, RightSpawn, Sync, Lock, Test, Purpose, Value, Argument, Index, CellValue, Condition, Return, Join, Print, Part, LetName, LetAssign, Started, RightOf, RightNamed, SpawnName, SpawnOpen, SyncName, TestOpen, Arguments, Returned, SetAssign, Reading, Ending, TestBrace, PartNext, Goes, Ends, Opens, assigned, applied, synced, closes, closed, ends_here, read_step, begin_part, part_step}
+use Rattle.loom_syntax.specs.Part.{Assignee, Let, Set, Goal, Call, RightCall, RightSpawn, Sync, Lock, Test, Purpose, Value, Argument, Index, CellValue, Condition, Return, Join, Print, Part, LetName, LetAssign, Started, RightOf, RightNamed, SpawnName, SpawnOpen, SyncName, TestOpen, Arguments, Returned, SetAssign, Reading, Ending, TestBrace, PartNext, Goes, Ends, Opens, assigned, applied, synced, closes, closed, ends_here, read_step, begin_part, part_step}
 use Rattle.loom_syntax.proofs.Choices.{sign_is}
 use Rattle.loom_syntax.proofs.PartSound.{Good}
 
@@ -22,33 +22,33 @@ next_step (Goes q) t = part_step written q t
 next_step (Ends s) t = None
 next_step (Opens test e) t = None
 
-abbrev pub run : PartNext Text → List Token → Option (PartNext Text)
-run n [] = Some n
-run n (t ∷ ts) = after (next_step n t) (λ m. run m ts)
+abbrev pub feed_all : PartNext Text → List Token → Option (PartNext Text)
+feed_all n [] = Some n
+feed_all n (t ∷ ts) = after (next_step n t) (λ m. feed_all m ts)
 
-pub run_append : (n : PartNext Text) (a b : List Token) → run n (a ++ b) ≡ after (run n a) (λ m. run m b)
+pub run_append : (n : PartNext Text) (a b : List Token) → feed_all n (a ++ b) ≡ after (feed_all n a) (λ m. feed_all m b)
 run_append n [] b = refl
 run_append n (t ∷ a) b = go (next_step n t) (λ m. run_append m a b)
   where
-    go : (o : Option (PartNext Text)) → ((m : PartNext Text) → run m (a ++ b) ≡ after (run m a) (λ m'. run m' b))
-        → after o (λ m. run m (a ++ b)) ≡ after (after o (λ m. run m a)) (λ m'. run m' b)
+    go : (o : Option (PartNext Text)) → ((m : PartNext Text) → feed_all m (a ++ b) ≡ after (feed_all m a) (λ m'. feed_all m' b))
+        → after o (λ m. feed_all m (a ++ b)) ≡ after (after o (λ m. feed_all m a)) (λ m'. feed_all m' b)
     go None h = refl
     go (Some m) h = h m
 
 -- expressions
 
-pub sign_none : (g : Sign) (s : expression.State Text) (t : Token) → expression.step written s (Token.sign g) ≡ None → is_sign g t ≡ true → expression.step written s t ≡ None
-sign_none g s t none is = ap (expression.step written s) (sign_is g t is) ∙ none
+pub sign_none : (g : Sign) (s : expression.Reader Text) (t : Token) → expression.feed written s (Token.sign g) ≡ None → is_sign g t ≡ true → expression.feed written s t ≡ None
+sign_none g s t none is = ap (expression.feed written s) (sign_is g t is) ∙ none
 
-pub argument_none : (s : expression.State Text) (t : Token) → sound.GoodState s → is_whole s ≡ true → (if is_sign g.Comma t then true else is_sign g.ParenClose t) ≡ true → expression.step written s t ≡ None
+pub argument_none : (s : expression.Reader Text) (t : Token) → sound.GoodReader s → is_whole s ≡ true → (if is_sign g.Comma t then true else is_sign g.ParenClose t) ≡ true → expression.feed written s t ≡ None
 argument_none s t good whole is = go (is_sign g.Comma t) refl is
   where
-    go : (v : Bool) → is_sign g.Comma t ≡ v → (if v then true else is_sign g.ParenClose t) ≡ true → expression.step written s t ≡ None
+    go : (v : Bool) → is_sign g.Comma t ≡ v → (if v then true else is_sign g.ParenClose t) ≡ true → expression.feed written s t ≡ None
     go true was is = sign_none g.Comma s t (outside_none written s (Token.sign g.Comma) tt) was
     go false was is = sign_none g.ParenClose s t (whole_paren s good whole) is
 
 -- What ends an expression can't go on in it.
-pub closer_none : (p : Purpose Text) (s : expression.State Text) (t : Token) → sound.GoodState s → is_whole s ≡ true → closes p t ≡ true → expression.step written s t ≡ None
+pub closer_none : (p : Purpose Text) (s : expression.Reader Text) (t : Token) → sound.GoodReader s → is_whole s ≡ true → closes p t ≡ true → expression.feed written s t ≡ None
 closer_none (Value target) s t good whole is = sign_none g.Semicolon s t (outside_none written s (Token.sign g.Semicolon) tt) is
 closer_none (Argument goal before) s t good whole is = argument_none s t good whole is
 closer_none (Index x) s t good whole is = sign_none g.BracketClose s t (whole_bracket s good whole) is
@@ -58,94 +58,94 @@ closer_none Return s t good whole is = sign_none g.Semicolon s t (outside_none w
 closer_none Join s t good whole is = sign_none g.Semicolon s t (outside_none written s (Token.sign g.Semicolon) tt) is
 closer_none Print s t good whole is = sign_none g.Semicolon s t (outside_none written s (Token.sign g.Semicolon) tt) is
 
-pub goes_on : (p : Purpose Text) (s s' : expression.State Text) (t : Token) → sound.GoodState s → expression.step written s t ≡ Some s' → ends_here p s t ≡ false
+pub goes_on : (p : Purpose Text) (s s' : expression.Reader Text) (t : Token) → sound.GoodReader s → expression.feed written s t ≡ Some s' → ends_here p s t ≡ false
 goes_on p s s' t good is = go (is_whole s) refl
   where
     last : (v : Bool) → closes p t ≡ v → is_whole s ≡ true → v ≡ false
-    last true c whole = let none : expression.step written s t ≡ None = closer_none p s t good whole c in cc
+    last true c whole = let none : expression.feed written s t ≡ None = closer_none p s t good whole c in cc
     last false c whole = refl
 
     go : (v : Bool) → is_whole s ≡ v → (if v then closes p t else false) ≡ false
     go true whole = last (closes p t) refl whole
     go false whole = refl
 
-pub fed : (p : Purpose Text) (s s' : expression.State Text) (t : Token) → sound.GoodState s → expression.step written s t ≡ Some s' → read_step written p s t ≡ Some (Goes (Reading p s'))
+pub fed : (p : Purpose Text) (s s' : expression.Reader Text) (t : Token) → sound.GoodReader s → expression.feed written s t ≡ Some s' → read_step written p s t ≡ Some (Goes (Reading p s'))
 fed p s s' t good is = rw (goes_on p s s' t good is, is) refl
 
-pub fed_run : (p : Purpose Text) (s s' : expression.State Text) (ts : List Token) → sound.GoodState s → expression.run written s ts ≡ Some s' → run (Goes (Reading p s)) ts ≡ Some (Goes (Reading p s'))
+pub fed_run : (p : Purpose Text) (s s' : expression.Reader Text) (ts : List Token) → sound.GoodReader s → expression.feed_all written s ts ≡ Some s' → feed_all (Goes (Reading p s)) ts ≡ Some (Goes (Reading p s'))
 fed_run p s s' [] good is = let same : s ≡ s' = cc in ap (λ z. Some (Goes (Reading p z))) same
-fed_run p s s' (t ∷ ts) good is = go (expression.step written s t) refl (sound.step_good s t good) is (λ s1 good1 is1. fed_run p s1 s' ts good1 is1)
+fed_run p s s' (t ∷ ts) good is = go (expression.feed written s t) refl (sound.step_good s t good) is (λ s1 good1 is1. fed_run p s1 s' ts good1 is1)
   where
-    go : (o : Option (expression.State Text)) → expression.step written s t ≡ o → IfSome o (sound.Reads (sound.read s) t) → after o (λ s1. expression.run written s1 ts) ≡ Some s'
-        → ((s1 : expression.State Text) → sound.GoodState s1 → expression.run written s1 ts ≡ Some s' → run (Goes (Reading p s1)) ts ≡ Some (Goes (Reading p s')))
-        → run (Goes (Reading p s)) (t ∷ ts) ≡ Some (Goes (Reading p s'))
+    go : (o : Option (expression.Reader Text)) → expression.feed written s t ≡ o → IfSome o (sound.Reads (sound.read s) t) → after o (λ s1. expression.feed_all written s1 ts) ≡ Some s'
+        → ((s1 : expression.Reader Text) → sound.GoodReader s1 → expression.feed_all written s1 ts ≡ Some s' → feed_all (Goes (Reading p s1)) ts ≡ Some (Goes (Reading p s')))
+        → feed_all (Goes (Reading p s)) (t ∷ ts) ≡ Some (Goes (Reading p s'))
     go None was reads is more = cc
     go (Some s1) was reads is more = rw (fed p s s1 t good was) (more s1 reads.0 is)
 
-pub read_to : (p : Purpose Text) (s : expression.State Text) (e : Text) (t : Token) → is_whole s ≡ true → expression.finish written s ≡ Some e → closes p t ≡ true → read_step written p s t ≡ Some (closed p e t)
+pub read_to : (p : Purpose Text) (s : expression.Reader Text) (e : Text) (t : Token) → is_whole s ≡ true → expression.finish written s ≡ Some e → closes p t ≡ true → read_step written p s t ≡ Some (closed p e t)
 read_to p s e t whole done is = rw (whole, is, done) refl
 
-pub expression_run : (p : Purpose Text) (e : Text) (t : Token) (rest : List Token) → IsWritten e → closes p t ≡ true → run (Goes (Reading p expression.start)) (tokens e ++ t ∷ rest) ≡ run (closed p e t) rest
+pub expression_run : (p : Purpose Text) (e : Text) (t : Token) (rest : List Token) → IsWritten e → closes p t ≡ true → feed_all (Goes (Reading p expression.fresh)) (tokens e ++ t ∷ rest) ≡ feed_all (closed p e t) rest
 expression_run p e t rest ok is =
     let c = completes e ok in
-    run_append (Goes (Reading p expression.start)) (tokens e) (t ∷ rest)
-    ∙ rw (fed_run p expression.start c.last (tokens e) sound.start_good c.is.runs) (ap (λ o. after o (λ m. run m rest)) (read_to p c.last e t c.is.whole c.is.done is))
+    run_append (Goes (Reading p expression.fresh)) (tokens e) (t ∷ rest)
+    ∙ rw (fed_run p expression.fresh c.last (tokens e) sound.start_good c.is.runs) (ap (λ o. after o (λ m. feed_all m rest)) (read_to p c.last e t c.is.whole c.is.done is))
 
 -- the first token of an expression
 pub record Front (e : Text) : Type 0 where
   pub first : Token
   pub rest : List Token
-  pub next : expression.State Text
-  pub last : expression.State Text
+  pub next : expression.Reader Text
+  pub last : expression.Reader Text
   pub is : tokens e ≡ first ∷ rest
-  pub steps : expression.step written expression.start first ≡ Some next
-  pub runs : expression.run written next rest ≡ Some last
+  pub steps : expression.feed written expression.fresh first ≡ Some next
+  pub runs : expression.feed_all written next rest ≡ Some last
 
 pub front : (e : Text) → IsWritten e → Front e
 front e ok = let c = completes e ok in go (tokens e) refl c.last c.is.runs c.is.done
   where
-    step : (t : Token) (ts : List Token) (last : expression.State Text) (o : Option (expression.State Text)) → tokens e ≡ t ∷ ts → expression.step written expression.start t ≡ o → after o (λ s. expression.run written s ts) ≡ Some last → Front e
-    step t ts last None is was runs = cc
-    step t ts last (Some s) is was runs = record { first = t; rest = ts; next = s; last = last; is = is; steps = was; runs = runs }
+    feed : (t : Token) (ts : List Token) (last : expression.Reader Text) (o : Option (expression.Reader Text)) → tokens e ≡ t ∷ ts → expression.feed written expression.fresh t ≡ o → after o (λ s. expression.feed_all written s ts) ≡ Some last → Front e
+    feed t ts last None is was runs = cc
+    feed t ts last (Some s) is was runs = record { first = t; rest = ts; next = s; last = last; is = is; steps = was; runs = runs }
 
-    go : (ts : List Token) → tokens e ≡ ts → (last : expression.State Text) → expression.run written expression.start ts ≡ Some last → expression.finish written last ≡ Some e → Front e
-    go [] is last runs done = let same : expression.start ≡ last = cc in let none : expression.finish written last ≡ None = ap (expression.finish written) (sym same) in cc
-    go (t ∷ ts) is last runs done = step t ts last (expression.step written expression.start t) is refl runs
+    go : (ts : List Token) → tokens e ≡ ts → (last : expression.Reader Text) → expression.feed_all written expression.fresh ts ≡ Some last → expression.finish written last ≡ Some e → Front e
+    go [] is last runs done = let same : expression.fresh ≡ last = cc in let none : expression.finish written last ≡ None = ap (expression.finish written) (sym same) in cc
+    go (t ∷ ts) is last runs done = feed t ts last (expression.feed written expression.fresh t) is refl runs
 
 -- what begins an expression isn't this sign
-pub begins_not : (g : Sign) (t : Token) (s s' : expression.State Text) → expression.step written s (Token.sign g) ≡ None → expression.step written s t ≡ Some s' → is_sign g t ≡ false
+pub begins_not : (g : Sign) (t : Token) (s s' : expression.Reader Text) → expression.feed written s (Token.sign g) ≡ None → expression.feed written s t ≡ Some s' → is_sign g t ≡ false
 begins_not g t s s' none is = go (is_sign g t) refl
   where
     go : (v : Bool) → is_sign g t ≡ v → v ≡ false
-    go true was = let f : expression.step written s t ≡ None = sign_none g s t none was in cc
+    go true was = let f : expression.feed written s t ≡ None = sign_none g s t none was in cc
     go false was = refl
 
 -- a part that reads an expression from its first token on
-pub first_same : (q : Part Text) (p : Purpose Text) (e : Text) (rest : List Token) → IsWritten e → ((t : Token) (s : expression.State Text) → expression.step written expression.start t ≡ Some s → part_step written q t ≡ read_step written p expression.start t)
-    → run (Goes q) (tokens e ++ rest) ≡ run (Goes (Reading p expression.start)) (tokens e ++ rest)
+pub first_same : (q : Part Text) (p : Purpose Text) (e : Text) (rest : List Token) → IsWritten e → ((t : Token) (s : expression.Reader Text) → expression.feed written expression.fresh t ≡ Some s → part_step written q t ≡ read_step written p expression.fresh t)
+    → feed_all (Goes q) (tokens e ++ rest) ≡ feed_all (Goes (Reading p expression.fresh)) (tokens e ++ rest)
 first_same q p e rest ok same =
     let f = front e ok in
-    rw f.is (ap (λ o. after o (λ m. run m (f.rest ++ rest))) (same f.first f.next f.steps))
+    rw f.is (ap (λ o. after o (λ m. feed_all m (f.rest ++ rest))) (same f.first f.next f.steps))
 
 -- arguments
 
 pub later_run : (goal : Goal) (before : List Text) (e : Text) (es : List Text) → IsWritten e → AllByRecursion IsWritten es
-    → run (Goes (Reading (Argument goal before) expression.start)) (tokens e ++ (behind_commas (map tokens es) ++ Token.sign g.ParenClose ∷ [])) ≡ Some (Goes (Ending (applied goal (before ++ e ∷ es))))
+    → feed_all (Goes (Reading (Argument goal before) expression.fresh)) (tokens e ++ (behind_commas (map tokens es) ++ Token.sign g.ParenClose ∷ [])) ≡ Some (Goes (Ending (applied goal (before ++ e ∷ es))))
 later_run goal before e [] ok all = expression_run (Argument goal before) e (Token.sign g.ParenClose) [] ok refl
 later_run goal before e (e' ∷ es) ok all =
     expression_run (Argument goal before) e (Token.sign g.Comma) ((tokens e' ++ behind_commas (map tokens es)) ++ Token.sign g.ParenClose ∷ []) ok refl
-    ∙ ap (run (Goes (Reading (Argument goal (before ++ e ∷ [])) expression.start))) (append_assoc (tokens e') (behind_commas (map tokens es)) (Token.sign g.ParenClose ∷ []))
+    ∙ ap (feed_all (Goes (Reading (Argument goal (before ++ e ∷ [])) expression.fresh))) (append_assoc (tokens e') (behind_commas (map tokens es)) (Token.sign g.ParenClose ∷ []))
     ∙ later_run goal (before ++ e ∷ []) e' es all.0 all.1
     ∙ ap (λ z. Some (Goes (Ending (applied goal z)))) (append_assoc before (e ∷ []) (e' ∷ es))
 
-pub arguments_run : (goal : Goal) (es : List Text) → AllByRecursion IsWritten es → run (Goes (Arguments goal)) (with_commas (map tokens es) ++ Token.sign g.ParenClose ∷ []) ≡ Some (Goes (Ending (applied goal es)))
+pub arguments_run : (goal : Goal) (es : List Text) → AllByRecursion IsWritten es → feed_all (Goes (Arguments goal)) (with_commas (map tokens es) ++ Token.sign g.ParenClose ∷ []) ≡ Some (Goes (Ending (applied goal es)))
 arguments_run goal [] all = refl
 arguments_run goal (e ∷ es) all =
-    ap (run (Goes (Arguments goal))) (append_assoc (tokens e) (behind_commas (map tokens es)) (Token.sign g.ParenClose ∷ []))
-    ∙ first_same (Arguments goal) (Argument goal []) e (behind_commas (map tokens es) ++ Token.sign g.ParenClose ∷ []) all.0 (λ t s is. rw (begins_not g.ParenClose t expression.start s refl is) refl)
+    ap (feed_all (Goes (Arguments goal))) (append_assoc (tokens e) (behind_commas (map tokens es)) (Token.sign g.ParenClose ∷ []))
+    ∙ first_same (Arguments goal) (Argument goal []) e (behind_commas (map tokens es) ++ Token.sign g.ParenClose ∷ []) all.0 (λ t s is. rw (begins_not g.ParenClose t expression.fresh s refl is) refl)
     ∙ later_run goal [] e es all.0 all.1
 
-pub goal_run : (goal : Goal) (es : List Text) → AllByRecursion IsWritten es → run (Goes (Arguments goal)) (ended (with_commas (map tokens es) ++ Token.sign g.ParenClose ∷ [])) ≡ Some (Ends (applied goal es))
+pub goal_run : (goal : Goal) (es : List Text) → AllByRecursion IsWritten es → feed_all (Goes (Arguments goal)) (ended (with_commas (map tokens es) ++ Token.sign g.ParenClose ∷ [])) ≡ Some (Ends (applied goal es))
 goal_run goal es all =
     run_append (Goes (Arguments goal)) (with_commas (map tokens es) ++ Token.sign g.ParenClose ∷ []) (Token.sign g.Semicolon ∷ [])
     ∙ rw (arguments_run goal es all) refl
@@ -153,35 +153,35 @@ goal_run goal es all =
 -- the right of `=`
 
 -- a name behind `=` that no `(` follows
-pub named_same : (target : Target) (f : List ℕ) (t : Token) → is_sign g.ParenOpen t ≡ false
+pub named_same : (target : Assignee) (f : List ℕ) (t : Token) → is_sign g.ParenOpen t ≡ false
     → part_step written (RightNamed target f) t ≡ part_step written (Reading (Value target) (expression.Named f (record { nodes = 1; unary = 0; brackets = 0 }) [])) t
 named_same target f t is = rw is refl
 
-pub named_run : (target : Target) (f : List ℕ) (ts : List Token) (last : expression.State Text) → expression.run written (expression.Named f (record { nodes = 1; unary = 0; brackets = 0 }) []) ts ≡ Some last
-    → run (Goes (RightNamed target f)) (ended ts) ≡ run (Goes (Reading (Value target) (expression.Named f (record { nodes = 1; unary = 0; brackets = 0 }) []))) (ended ts)
+pub named_run : (target : Assignee) (f : List ℕ) (ts : List Token) (last : expression.Reader Text) → expression.feed_all written (expression.Named f (record { nodes = 1; unary = 0; brackets = 0 }) []) ts ≡ Some last
+    → feed_all (Goes (RightNamed target f)) (ended ts) ≡ feed_all (Goes (Reading (Value target) (expression.Named f (record { nodes = 1; unary = 0; brackets = 0 }) []))) (ended ts)
 named_run target f [] last is = refl
-named_run target f (t ∷ ts) last is = go (expression.step written (expression.Named f (record { nodes = 1; unary = 0; brackets = 0 }) []) t) refl is
+named_run target f (t ∷ ts) last is = go (expression.feed written (expression.Named f (record { nodes = 1; unary = 0; brackets = 0 }) []) t) refl is
   where
-    go : (o : Option (expression.State Text)) → expression.step written (expression.Named f (record { nodes = 1; unary = 0; brackets = 0 }) []) t ≡ o → after o (λ s. expression.run written s ts) ≡ Some last
-        → run (Goes (RightNamed target f)) (ended (t ∷ ts)) ≡ run (Goes (Reading (Value target) (expression.Named f (record { nodes = 1; unary = 0; brackets = 0 }) []))) (ended (t ∷ ts))
+    go : (o : Option (expression.Reader Text)) → expression.feed written (expression.Named f (record { nodes = 1; unary = 0; brackets = 0 }) []) t ≡ o → after o (λ s. expression.feed_all written s ts) ≡ Some last
+        → feed_all (Goes (RightNamed target f)) (ended (t ∷ ts)) ≡ feed_all (Goes (Reading (Value target) (expression.Named f (record { nodes = 1; unary = 0; brackets = 0 }) []))) (ended (t ∷ ts))
     go None was runs = cc
-    go (Some s) was runs = ap (λ o. after o (λ m. run m (ended ts))) (named_same target f t (begins_not g.ParenOpen t (expression.Named f (record { nodes = 1; unary = 0; brackets = 0 }) []) s refl was))
+    go (Some s) was runs = ap (λ o. after o (λ m. feed_all m (ended ts))) (named_same target f t (begins_not g.ParenOpen t (expression.Named f (record { nodes = 1; unary = 0; brackets = 0 }) []) s refl was))
 
-pub right_first : (target : Target) (t : Token) (ts : List Token) (s last : expression.State Text) → expression.step written expression.start t ≡ Some s → expression.run written s ts ≡ Some last
-    → run (Goes (RightOf target)) (ended (t ∷ ts)) ≡ run (Goes (Reading (Value target) expression.start)) (ended (t ∷ ts))
+pub right_first : (target : Assignee) (t : Token) (ts : List Token) (s last : expression.Reader Text) → expression.feed written expression.fresh t ≡ Some s → expression.feed_all written s ts ≡ Some last
+    → feed_all (Goes (RightOf target)) (ended (t ∷ ts)) ≡ feed_all (Goes (Reading (Value target) expression.fresh)) (ended (t ∷ ts))
 right_first target (Token.name f) ts s last is runs =
     let same : expression.Named f (record { nodes = 1; unary = 0; brackets = 0 }) [] ≡ s = cc in
-    named_run target f ts last (ap (λ z. expression.run written z ts) same ∙ runs)
+    named_run target f ts last (ap (λ z. expression.feed_all written z ts) same ∙ runs)
 right_first target (Token.num n) ts s last is runs = refl
 right_first target (Token.word k) ts s last is runs = cc
 right_first target (Token.op o) ts s last is runs = refl
 right_first target (Token.sign g) ts s last is runs = refl
 right_first target Token.bad ts s last is runs = refl
 
-pub right_run : (target : Target) (e : Text) → IsWritten e → run (Goes (RightOf target)) (ended (tokens e)) ≡ Some (Ends (assigned target (Right.value e)))
+pub right_run : (target : Assignee) (e : Text) → IsWritten e → feed_all (Goes (RightOf target)) (ended (tokens e)) ≡ Some (Ends (assigned target (Right.value e)))
 right_run target e ok =
     let f = front e ok in
-    let same : run (Goes (RightOf target)) (ended (tokens e)) ≡ run (Goes (Reading (Value target) expression.start)) (ended (tokens e)) = rw f.is (right_first target f.first f.rest f.next f.last f.steps f.runs) in
+    let same : feed_all (Goes (RightOf target)) (ended (tokens e)) ≡ feed_all (Goes (Reading (Value target) expression.fresh)) (ended (tokens e)) = rw f.is (right_first target f.first f.rest f.next f.last f.steps f.runs) in
     same ∙ expression_run (Value target) e (Token.sign g.Semicolon) [] ok refl
 
 -- whole statements
@@ -193,18 +193,18 @@ pub record IsReadable (s : Simple Text) : Type 0 where
   pub part : Part Text
   pub is : simple_tokens s ≡ first ∷ rest
   pub begins : (room : Bool) → begin_part room first ≡ Some part
-  pub runs : run (Goes part) (ended rest) ≡ Some (Ends s)
+  pub runs : feed_all (Goes part) (ended rest) ≡ Some (Ends s)
 
 pub cell_run : (x : List ℕ) (i e : Text) → IsWritten i → IsWritten e
-    → run (Goes (Reading (Index x) expression.start)) (ended (tokens i ++ Token.sign g.BracketClose ∷ Token.sign g.Assign ∷ tokens e)) ≡ Some (Ends (Simple.set_cell x i e))
+    → feed_all (Goes (Reading (Index x) expression.fresh)) (ended (tokens i ++ Token.sign g.BracketClose ∷ Token.sign g.Assign ∷ tokens e)) ≡ Some (Ends (Simple.set_cell x i e))
 cell_run x i e oki oke =
-    ap (run (Goes (Reading (Index x) expression.start))) (append_assoc (tokens i) (Token.sign g.BracketClose ∷ Token.sign g.Assign ∷ tokens e) (Token.sign g.Semicolon ∷ []))
+    ap (feed_all (Goes (Reading (Index x) expression.fresh))) (append_assoc (tokens i) (Token.sign g.BracketClose ∷ Token.sign g.Assign ∷ tokens e) (Token.sign g.Semicolon ∷ []))
     ∙ expression_run (Index x) i (Token.sign g.BracketClose) (Token.sign g.Assign ∷ ended (tokens e)) oki refl
     ∙ expression_run (CellValue x i) e (Token.sign g.Semicolon) [] oke refl
 
-pub return_run : (e : Text) → IsWritten e → run (Goes Returned) (ended (tokens e)) ≡ Some (Ends (Simple.return (Some e)))
+pub return_run : (e : Text) → IsWritten e → feed_all (Goes Returned) (ended (tokens e)) ≡ Some (Ends (Simple.return (Some e)))
 return_run e ok =
-    first_same Returned Return e (Token.sign g.Semicolon ∷ []) ok (λ t s is. rw (begins_not g.Semicolon t expression.start s refl is) refl)
+    first_same Returned Return e (Token.sign g.Semicolon ∷ []) ok (λ t s is. rw (begins_not g.Semicolon t expression.fresh s refl is) refl)
     ∙ expression_run Return e (Token.sign g.Semicolon) [] ok refl
 
 pub readable : (s : Simple Text) → IsSimple s → IsReadable s
@@ -222,12 +222,12 @@ readable (Simple.lock x) ok = record { first = _; rest = _; part = SyncName Lock
 readable (Simple.unlock x) ok = record { first = _; rest = _; part = SyncName Sync.Unlock; is = refl; begins = λ room. refl; runs = refl }
 readable (Simple.down x) ok = record { first = _; rest = _; part = SyncName Sync.Down; is = refl; begins = λ room. refl; runs = refl }
 readable (Simple.up x) ok = record { first = _; rest = _; part = SyncName Sync.Up; is = refl; begins = λ room. refl; runs = refl }
-readable (Simple.join e) ok = record { first = _; rest = _; part = Reading Join expression.start; is = refl; begins = λ room. refl; runs = expression_run Join e (Token.sign g.Semicolon) [] ok refl }
-readable (Simple.print e) ok = record { first = _; rest = _; part = Reading Print expression.start; is = refl; begins = λ room. refl; runs = expression_run Print e (Token.sign g.Semicolon) [] ok refl }
+readable (Simple.join e) ok = record { first = _; rest = _; part = Reading Join expression.fresh; is = refl; begins = λ room. refl; runs = expression_run Join e (Token.sign g.Semicolon) [] ok refl }
+readable (Simple.print e) ok = record { first = _; rest = _; part = Reading Print expression.fresh; is = refl; begins = λ room. refl; runs = expression_run Print e (Token.sign g.Semicolon) [] ok refl }
 readable Simple.skip ok = record { first = _; rest = _; part = Ending Simple.skip; is = refl; begins = λ room. refl; runs = refl }
 
 -- a condition, and the `{` behind it
-pub test_run : (test : Test) (e : Text) → IsWritten e → run (Goes (TestOpen test)) (Token.sign g.ParenOpen ∷ (tokens e ++ Token.sign g.ParenClose ∷ Token.sign g.BraceOpen ∷ [])) ≡ Some (Opens test e)
+pub test_run : (test : Test) (e : Text) → IsWritten e → feed_all (Goes (TestOpen test)) (Token.sign g.ParenOpen ∷ (tokens e ++ Token.sign g.ParenClose ∷ Token.sign g.BraceOpen ∷ [])) ≡ Some (Opens test e)
 test_run test e ok = expression_run (Condition test) e (Token.sign g.ParenClose) (Token.sign g.BraceOpen ∷ []) ok refl
 
 -- ends of good parts
@@ -241,7 +241,7 @@ pub record Settled (n : PartNext Text) : Type 0 where
   pub more : List Token
   pub last : PartNext Text
   pub final : IsFinal last
-  pub runs : run n more ≡ Some last
+  pub runs : feed_all n more ≡ Some last
 
 pub at_end : (n : PartNext Text) → IsFinal n → Settled n
 at_end n h = record { more = []; last = n; final = h; runs = refl }
@@ -249,7 +249,7 @@ at_end n h = record { more = []; last = n; final = h; runs = refl }
 pub behind : (q : Part Text) (t : Token) (n : PartNext Text) → part_step written q t ≡ Some n → Settled n → Settled (Goes q)
 behind q t n is s = record { more = t ∷ s.more; last = s.last; final = s.final; runs = rw is s.runs }
 
-pub reading_settled : (p : Purpose Text) (s : expression.State Text) (t : Token) → sound.GoodState s → closes p t ≡ true → ((e : Text) → Settled (closed p e t)) → Settled (Goes (Reading p s))
+pub reading_settled : (p : Purpose Text) (s : expression.Reader Text) (t : Token) → sound.GoodReader s → closes p t ≡ true → ((e : Text) → Settled (closed p e t)) → Settled (Goes (Reading p s))
 reading_settled p s t good is ends =
     let c = completion s good in
     let z = ends c.text in
@@ -257,7 +257,7 @@ reading_settled p s t good is ends =
       more = c.more ++ t ∷ z.more;
       last = z.last;
       final = z.final;
-      runs = run_append (Goes (Reading p s)) c.more (t ∷ z.more) ∙ rw (fed_run p s c.last c.more good c.runs) (ap (λ o. after o (λ m. run m z.more)) (read_to p c.last c.text t c.whole c.done is) ∙ z.runs);
+      runs = run_append (Goes (Reading p s)) c.more (t ∷ z.more) ∙ rw (fed_run p s c.last c.more good c.runs) (ap (λ o. after o (λ m. feed_all m z.more)) (read_to p c.last c.text t c.whole c.done is) ∙ z.runs);
     }
 
 pub ending_settled : (s : Simple Text) → Settled (Goes (Ending s))
@@ -265,13 +265,13 @@ ending_settled s = behind (Ending s) (Token.sign g.Semicolon) (Ends s) refl (at_
 
 pub cell_settled : (x : List ℕ) (i : Text) → Settled (Goes (SetAssign x i))
 cell_settled x i =
-    behind (SetAssign x i) (Token.sign g.Assign) (Goes (Reading (CellValue x i) expression.start)) refl
-    (reading_settled (CellValue x i) expression.start (Token.sign g.Semicolon) sound.start_good refl (λ e. at_end (Ends (Simple.set_cell x i e)) tt))
+    behind (SetAssign x i) (Token.sign g.Assign) (Goes (Reading (CellValue x i) expression.fresh)) refl
+    (reading_settled (CellValue x i) expression.fresh (Token.sign g.Semicolon) sound.start_good refl (λ e. at_end (Ends (Simple.set_cell x i e)) tt))
 
 pub brace_settled : (test : Test) (e : Text) → Settled (Goes (TestBrace test e))
 brace_settled test e = behind (TestBrace test e) (Token.sign g.BraceOpen) (Opens test e) refl (at_end (Opens test e) tt)
 
-pub purpose_settled : (p : Purpose Text) (s : expression.State Text) → sound.GoodState s → Settled (Goes (Reading p s))
+pub purpose_settled : (p : Purpose Text) (s : expression.Reader Text) → sound.GoodReader s → Settled (Goes (Reading p s))
 purpose_settled (Value target) s good = reading_settled (Value target) s (Token.sign g.Semicolon) good refl (λ e. at_end (Ends (assigned target (Right.value e))) tt)
 purpose_settled (Argument goal before) s good = reading_settled (Argument goal before) s (Token.sign g.ParenClose) good refl (λ e. ending_settled (applied goal (before ++ e ∷ [])))
 purpose_settled (Index x) s good = reading_settled (Index x) s (Token.sign g.BracketClose) good refl (λ e. cell_settled x e)
@@ -281,16 +281,16 @@ purpose_settled Return s good = reading_settled Return s (Token.sign g.Semicolon
 purpose_settled Join s good = reading_settled Join s (Token.sign g.Semicolon) good refl (λ e. at_end (Ends (Simple.join e)) tt)
 purpose_settled Print s good = reading_settled Print s (Token.sign g.Semicolon) good refl (λ e. at_end (Ends (Simple.print e)) tt)
 
-pub right_named_settled : (target : Target) (f : List ℕ) → Settled (Goes (RightNamed target f))
+pub right_named_settled : (target : Assignee) (f : List ℕ) → Settled (Goes (RightNamed target f))
 right_named_settled target f = behind (RightNamed target f) (Token.sign g.Semicolon) (Ends (assigned target (Right.value (Text.var f)))) refl (at_end (Ends (assigned target (Right.value (Text.var f)))) tt)
 
-pub right_settled : (target : Target) → Settled (Goes (RightOf target))
+pub right_settled : (target : Assignee) → Settled (Goes (RightOf target))
 right_settled target = behind (RightOf target) (Token.name (97 ∷ [])) (Goes (RightNamed target (97 ∷ []))) refl (right_named_settled target (97 ∷ []))
 
 pub arguments_settled : (goal : Goal) → Settled (Goes (Arguments goal))
 arguments_settled goal = behind (Arguments goal) (Token.sign g.ParenClose) (Goes (Ending (applied goal []))) refl (ending_settled (applied goal []))
 
-pub spawn_settled : (target : Target) (f : List ℕ) → Settled (Goes (SpawnOpen target f))
+pub spawn_settled : (target : Assignee) (f : List ℕ) → Settled (Goes (SpawnOpen target f))
 spawn_settled target f = behind (SpawnOpen target f) (Token.sign g.ParenOpen) (Goes (Arguments (RightSpawn target f))) refl (arguments_settled (RightSpawn target f))
 
 pub let_settled : (x : List ℕ) → Settled (Goes (LetAssign x))
@@ -305,7 +305,7 @@ settled n (RightNamed target f) ok = right_named_settled target f
 settled n (SpawnName target) ok = behind (SpawnName target) (Token.name (97 ∷ [])) (Goes (SpawnOpen target (97 ∷ []))) refl (spawn_settled target (97 ∷ []))
 settled n (SpawnOpen target f) ok = spawn_settled target f
 settled n (SyncName sync) ok = behind (SyncName sync) (Token.name (97 ∷ [])) (Goes (Ending (synced sync (97 ∷ [])))) refl (ending_settled (synced sync (97 ∷ [])))
-settled n (TestOpen test) ok = behind (TestOpen test) (Token.sign g.ParenOpen) (Goes (Reading (Condition test) expression.start)) refl (purpose_settled (Condition test) expression.start sound.start_good)
+settled n (TestOpen test) ok = behind (TestOpen test) (Token.sign g.ParenOpen) (Goes (Reading (Condition test) expression.fresh)) refl (purpose_settled (Condition test) expression.fresh sound.start_good)
 settled n (Arguments goal) ok = arguments_settled goal
 settled n Returned ok = behind Returned (Token.sign g.Semicolon) (Ends (Simple.return None)) refl (at_end (Ends (Simple.return None)) tt)
 settled n (SetAssign x i) ok = cell_settled x i

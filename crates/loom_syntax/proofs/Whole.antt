@@ -5,16 +5,16 @@ use Rattle.std.proofs.lemmas.Bool.{lt-ltb, le-leb}
 use Rattle.loom_tree.specs.declared.expression.Op.TheVariants as o
 use Rattle.loom_tree.specs.declared.token.Keyword.TheVariants as w
 use Rattle.loom_tree.specs.declared.token.Sign.TheVariants as g
-use Rattle.loom_tree.specs.Token.{Token, Placed}
+use Rattle.loom_tree.specs.Token.{Token, LineToken}
 use Rattle.loom_tree.specs.Tree.{Simple}
-use Rattle.loom_expression.specs.Written.{Text, tokens, IsWritten}
-use Rattle.loom_expression.specs.Machine as expression
-use Rattle.loom_expression.specs.Machine.{after}
-use Rattle.loom_syntax.specs.Written.{Mark, on, at, Spells, Block, none, plus, minus, Declaration, word, array, mutex, sema, Item, declared, func, behind_commas, with_commas, simple_tokens, test_tokens, declaration_tokens, head_tokens, begun, ended, in_braces, block_marks, item_marks, deepest_block, largest_count, IsSimple, IsBlock, IsDeclaration, IsItem}
+use Rattle.loom_expression.specs.Text.{Text, tokens, IsWritten}
+use Rattle.loom_expression.specs.Reader as expression
+use Rattle.loom_expression.specs.Reader.{after}
+use Rattle.loom_syntax.specs.File.{Mark, on, at, FitMarks, Block, none, plus, minus, Declaration, word, array, mutex, sema, ItemForm, declared, func, behind_commas, with_commas, simple_tokens, test_tokens, declaration_tokens, head_tokens, begun, ended, in_braces, block_marks, item_marks, block_limit, largest_count, IsSimple, IsBlock, IsDeclaration, IsItem}
 use Rattle.loom_syntax.specs.Tests.{is_keyword, is_sign}
 use Rattle.loom_syntax.specs.Head.{Head, SharedName, MutexName, SemaName, FnName, FnFirst, FnNext, HeadNext, Declares, Begins, begin_item, head_step}
 use Rattle.loom_syntax.specs.Part.{Test, If, While, Part, TestOpen, PartNext, begin_part, part_step}
-use Rattle.loom_syntax.specs.Machine.{Around, Then, Else, Loop, Opened, Start, AfterIf, ElseBrace, Within, At, Header, State, Between, Heading, InFunction, start, close, room, around, parted, headed, step, run, Piece, simple, if_, if_else, while_, written}
+use Rattle.loom_syntax.specs.FileReader.{Around, Then, Else, Loop, OpenBlock, Start, AfterIf, ElseBrace, Within, At, Header, FileReader, Between, Heading, InFunction, fresh, close, room, around, parted, headed, feed, feed_all, Piece, simple, if_, if_else, while_, written}
 use Rattle.loom_syntax.proofs.Choices.{keyword_is, sign_is}
 use Rattle.loom_syntax.proofs.HeadSound.{named}
 use Rattle.loom_syntax.proofs.PartSound.{test_word}
@@ -22,64 +22,64 @@ use Rattle.loom_syntax.proofs.PartWhole as in_part
 use Rattle.loom_syntax.proofs.PartWhole.{readable, test_run}
 use Rattle.loom_syntax.proofs.Sound.{begun_more}
 
-pub run_append : (s : State Text Piece Block Item) (a b : List Placed) → run written s (a ++ b) ≡ after (run written s a) (λ s'. run written s' b)
+pub run_append : (s : FileReader Text Piece Block ItemForm) (a b : List LineToken) → feed_all written s (a ++ b) ≡ after (feed_all written s a) (λ s'. feed_all written s' b)
 run_append s [] b = refl
-run_append s (p ∷ a) b = go (step written s p) (λ s'. run_append s' a b)
+run_append s (p ∷ a) b = go (feed written s p) (λ s'. run_append s' a b)
   where
-    go : (o : Option (State Text Piece Block Item)) → ((s' : State Text Piece Block Item) → run written s' (a ++ b) ≡ after (run written s' a) (λ s''. run written s'' b))
-        → after o (λ s'. run written s' (a ++ b)) ≡ after (after o (λ s'. run written s' a)) (λ s''. run written s'' b)
+    go : (o : Option (FileReader Text Piece Block ItemForm)) → ((s' : FileReader Text Piece Block ItemForm) → feed_all written s' (a ++ b) ≡ after (feed_all written s' a) (λ s''. feed_all written s'' b))
+        → after o (λ s'. feed_all written s' (a ++ b)) ≡ after (after o (λ s'. feed_all written s' a)) (λ s''. feed_all written s'' b)
     go None h = refl
     go (Some s') h = h s'
 
 -- By tokens with these marks the reader comes from s to s'.
-abbrev pub Takes : State Text Piece Block Item → List Mark → State Text Piece Block Item → Type 0
-Takes s ms s' = (ps : List Placed) → Spells ms ps → run written s ps ≡ Some s'
+abbrev pub Takes : FileReader Text Piece Block ItemForm → List Mark → FileReader Text Piece Block ItemForm → Type 0
+Takes s ms s' = (ps : List LineToken) → FitMarks ms ps → feed_all written s ps ≡ Some s'
 
-pub record Split (ms ns : List Mark) (ps : List Placed) : Type 0 where
-  pub front : List Placed
-  pub rest : List Placed
+pub record Split (ms ns : List Mark) (ps : List LineToken) : Type 0 where
+  pub front : List LineToken
+  pub rest : List LineToken
   pub is : ps ≡ front ++ rest
-  pub first : Spells ms front
-  pub second : Spells ns rest
+  pub first : FitMarks ms front
+  pub second : FitMarks ns rest
 
-pub split : (ms ns : List Mark) (ps : List Placed) → Spells (ms ++ ns) ps → Split ms ns ps
+pub split : (ms ns : List Mark) (ps : List LineToken) → FitMarks (ms ++ ns) ps → Split ms ns ps
 split [] ns ps h = record { front = []; rest = ps; is = refl; first = tt; second = h }
 split (m ∷ ms) ns [] h = absurd h
 split (m ∷ ms) ns (p ∷ ps) h =
     let s = split ms ns ps h.1 in
     record { front = p ∷ s.front; rest = s.rest; is = ap (λ z. p ∷ z) s.is; first = (h.0, s.first); second = s.second }
 
-pub takes_append : (s s' s'' : State Text Piece Block Item) (ms ns : List Mark) → Takes s ms s' → Takes s' ns s'' → Takes s (ms ++ ns) s''
+pub takes_append : (s s' s'' : FileReader Text Piece Block ItemForm) (ms ns : List Mark) → Takes s ms s' → Takes s' ns s'' → Takes s (ms ++ ns) s''
 takes_append s s' s'' ms ns h k ps spelled =
     let c = split ms ns ps spelled in
-    ap (run written s) c.is ∙ run_append s c.front c.rest ∙ rw (h c.front c.first) (k c.rest c.second)
+    ap (feed_all written s) c.is ∙ run_append s c.front c.rest ∙ rw (h c.front c.first) (k c.rest c.second)
 
-pub takes_is : (s s' : State Text Piece Block Item) (ms ns : List Mark) → ms ≡ ns → Takes s ms s' → Takes s ns s'
+pub takes_is : (s s' : FileReader Text Piece Block ItemForm) (ms ns : List Mark) → ms ≡ ns → Takes s ms s' → Takes s ns s'
 takes_is s s' ms ns is h = subst (λ z. Takes s z s') is h
 
-pub takes_to : (s s' s'' : State Text Piece Block Item) (ms : List Mark) → s' ≡ s'' → Takes s ms s' → Takes s ms s''
+pub takes_to : (s s' s'' : FileReader Text Piece Block ItemForm) (ms : List Mark) → s' ≡ s'' → Takes s ms s' → Takes s ms s''
 takes_to s s' s'' ms is h = subst (λ z. Takes s ms z) is h
 
-pub takes_from : (s s' s'' : State Text Piece Block Item) (ms : List Mark) → s ≡ s' → Takes s ms s'' → Takes s' ms s''
+pub takes_from : (s s' s'' : FileReader Text Piece Block ItemForm) (ms : List Mark) → s ≡ s' → Takes s ms s'' → Takes s' ms s''
 takes_from s s' s'' ms is h = subst (λ z. Takes z ms s'') is h
 
-pub takes_none : (s : State Text Piece Block Item) → Takes s [] s
+pub takes_none : (s : FileReader Text Piece Block ItemForm) → Takes s [] s
 takes_none s [] h = refl
 takes_none s (p ∷ ps) h = absurd h
 
-pub placed_is : (p : Placed) (t : Token) → p.token ≡ t → p ≡ record { token = t; line = p.line }
+pub placed_is : (p : LineToken) (t : Token) → p.token ≡ t → p ≡ record { token = t; line = p.line }
 placed_is p t is = ap (λ z. record { token = z; line = p.line }) is
 
-pub takes_on : (s s' s'' : State Text Piece Block Item) (t : Token) (ms : List Mark) → ((l : ℕ) → step written s (record { token = t; line = l }) ≡ Some s') → Takes s' ms s'' → Takes s (on t ∷ ms) s''
+pub takes_on : (s s' s'' : FileReader Text Piece Block ItemForm) (t : Token) (ms : List Mark) → ((l : ℕ) → feed written s (record { token = t; line = l }) ≡ Some s') → Takes s' ms s'' → Takes s (on t ∷ ms) s''
 takes_on s s' s'' t ms h k [] spelled = absurd spelled
 takes_on s s' s'' t ms h k (p ∷ ps) spelled =
-    let first : step written s p ≡ Some s' = ap (step written s) (placed_is p t spelled.0) ∙ h p.line in
+    let first : feed written s p ≡ Some s' = ap (feed written s) (placed_is p t spelled.0) ∙ h p.line in
     rw first (k ps spelled.1)
 
-pub takes_at : (s s' s'' : State Text Piece Block Item) (l : ℕ) (t : Token) (ms : List Mark) → step written s (record { token = t; line = l }) ≡ Some s' → Takes s' ms s'' → Takes s (at l t ∷ ms) s''
+pub takes_at : (s s' s'' : FileReader Text Piece Block ItemForm) (l : ℕ) (t : Token) (ms : List Mark) → feed written s (record { token = t; line = l }) ≡ Some s' → Takes s' ms s'' → Takes s (at l t ∷ ms) s''
 takes_at s s' s'' l t ms h k [] spelled = absurd spelled
 takes_at s s' s'' l t ms h k (p ∷ ps) spelled =
-    let first : step written s p ≡ Some s' = ap (step written s) (placed_is p t spelled.0.0 ∙ ap (λ z. record { token = t; line = z }) spelled.0.1) ∙ h in
+    let first : feed written s p ≡ Some s' = ap (feed written s) (placed_is p t spelled.0.0 ∙ ap (λ z. record { token = t; line = z }) spelled.0.1) ∙ h in
     rw first (k ps spelled.1)
 
 -- declarations, and functions up to their block
@@ -93,7 +93,7 @@ abbrev pub head_run : HeadNext → List Token → Option HeadNext
 head_run n [] = Some n
 head_run n (t ∷ ts) = after (head_next n t) (λ m. head_run m ts)
 
-pub head_takes : (is : List Item) (l : ℕ) (n m : HeadNext) (ts : List Token) → head_run n ts ≡ Some m → Takes (headed written is l n) (map on ts) (headed written is l m)
+pub head_takes : (is : List ItemForm) (l : ℕ) (n m : HeadNext) (ts : List Token) → head_run n ts ≡ Some m → Takes (headed written is l n) (map on ts) (headed written is l m)
 head_takes is l n m [] h = let same : n ≡ m = cc in takes_to (headed written is l n) (headed written is l n) (headed written is l m) [] (ap (headed written is l) same) (takes_none (headed written is l n))
 head_takes is l (HeadNext.Goes d) m (t ∷ ts) h = go (head_step d t) refl h (λ n'. head_takes is l n' m ts)
   where
@@ -104,11 +104,11 @@ head_takes is l (HeadNext.Goes d) m (t ∷ ts) h = go (head_step d t) refl h (λ
 head_takes is l (Declares d) m (t ∷ ts) h = cc
 head_takes is l (Begins f params) m (t ∷ ts) h = cc
 
-pub item_takes : (is : List Item) (l : ℕ) (t : Token) (d : Head) (m : HeadNext) (ts : List Token) → begin_item t ≡ Some d → head_run (HeadNext.Goes d) ts ≡ Some m → Takes (Between is) (begun l (t ∷ ts)) (headed written is l m)
+pub item_takes : (is : List ItemForm) (l : ℕ) (t : Token) (d : Head) (m : HeadNext) (ts : List Token) → begin_item t ≡ Some d → head_run (HeadNext.Goes d) ts ≡ Some m → Takes (Between is) (begun l (t ∷ ts)) (headed written is l m)
 item_takes is l t d m ts h k =
     takes_at (Between is) (Heading is l d) (headed written is l m) l t (map on ts) (rw h refl) (head_takes is l (HeadNext.Goes d) m ts k)
 
-pub declared_takes : (is : List Item) (l : ℕ) (d : Declaration) → IsDeclaration d → Takes (Between is) (begun l (ended (declaration_tokens d))) (Between (is ++ declared l d ∷ []))
+pub declared_takes : (is : List ItemForm) (l : ℕ) (d : Declaration) → IsDeclaration d → Takes (Between is) (begun l (ended (declaration_tokens d))) (Between (is ++ declared l d ∷ []))
 declared_takes is l (word x none) h = item_takes is l (Token.word w.Shared) SharedName (Declares (word x none)) (Token.name x ∷ Token.sign g.Semicolon ∷ []) refl refl
 declared_takes is l (word x (plus n)) h = item_takes is l (Token.word w.Shared) SharedName (Declares (word x (plus n))) (Token.name x ∷ Token.sign g.Assign ∷ Token.num n ∷ Token.sign g.Semicolon ∷ []) refl refl
 declared_takes is l (word x (minus n)) h = item_takes is l (Token.word w.Shared) SharedName (Declares (word x (minus n))) (Token.name x ∷ Token.sign g.Assign ∷ Token.op o.Sub ∷ Token.num n ∷ Token.sign g.Semicolon ∷ []) refl refl
@@ -125,7 +125,7 @@ pub params_run : (f : List ℕ) (params : List (List ℕ)) → head_run (HeadNex
 params_run f [] = refl
 params_run f (x ∷ params) = next_run f (x ∷ []) params
 
-pub function_takes : (is : List Item) (l : ℕ) (f : List ℕ) (params : List (List ℕ))
+pub function_takes : (is : List ItemForm) (l : ℕ) (f : List ℕ) (params : List (List ℕ))
     → Takes (Between is) (begun l (head_tokens f params) ++ on (Token.sign g.BraceOpen) ∷ []) (InFunction is (record { line = l; name = f; params = params }) (At [] [] Start))
 function_takes is l f params =
     let rest : List Token = Token.name f ∷ Token.sign g.ParenOpen ∷ (with_commas (map named params) ++ Token.sign g.ParenClose ∷ Token.sign g.BraceOpen ∷ []) in
@@ -137,15 +137,15 @@ function_takes is l f params =
 
 -- statements up to their blocks
 
-pub part_takes : (is : List Item) (f : Header) (os : List (Opened Text Piece Block)) (ss : List Piece) (l : ℕ) (n m : PartNext Text) (ts : List Token) → in_part.run n ts ≡ Some m
+pub part_takes : (is : List ItemForm) (f : Header) (os : List (OpenBlock Text Piece Block)) (ss : List Piece) (l : ℕ) (n m : PartNext Text) (ts : List Token) → in_part.feed_all n ts ≡ Some m
     → Takes (InFunction is f (parted written os ss l n)) (map on ts) (InFunction is f (parted written os ss l m))
 part_takes is f os ss l n m [] h =
     let same : n ≡ m = cc in
     takes_to (InFunction is f (parted written os ss l n)) (InFunction is f (parted written os ss l n)) (InFunction is f (parted written os ss l m)) [] (ap (λ z. InFunction is f (parted written os ss l z)) same) (takes_none (InFunction is f (parted written os ss l n)))
 part_takes is f os ss l (PartNext.Goes q) m (t ∷ ts) h = go (part_step expression.written q t) refl h (λ n'. part_takes is f os ss l n' m ts)
   where
-    go : (o : Option (PartNext Text)) → part_step expression.written q t ≡ o → after o (λ n'. in_part.run n' ts) ≡ Some m
-        → ((n' : PartNext Text) → in_part.run n' ts ≡ Some m → Takes (InFunction is f (parted written os ss l n')) (map on ts) (InFunction is f (parted written os ss l m)))
+    go : (o : Option (PartNext Text)) → part_step expression.written q t ≡ o → after o (λ n'. in_part.feed_all n' ts) ≡ Some m
+        → ((n' : PartNext Text) → in_part.feed_all n' ts ≡ Some m → Takes (InFunction is f (parted written os ss l n')) (map on ts) (InFunction is f (parted written os ss l m)))
         → Takes (InFunction is f (At os ss (Within l q))) (on t ∷ map on ts) (InFunction is f (parted written os ss l m))
     go None was k more = cc
     go (Some n') was k more =
@@ -169,28 +169,28 @@ begins_no_else v t q is = go (is_keyword w.Else t) refl
     go true was = let same : begin_part {A = Text} v t ≡ None = ap (λ z. begin_part v z) (keyword_is w.Else t was) in cc
     go false was = refl
 
-pub begins : (is : List Item) (f : Header) (os : List (Opened Text Piece Block)) (ss : List Piece) (l : ℕ) (t : Token) (q : Part Text) → begin_part (room os) t ≡ Some q
-    → step written (InFunction is f (At os ss Start)) (record { token = t; line = l }) ≡ Some (InFunction is f (At os ss (Within l q)))
+pub begins : (is : List ItemForm) (f : Header) (os : List (OpenBlock Text Piece Block)) (ss : List Piece) (l : ℕ) (t : Token) (q : Part Text) → begin_part (room os) t ≡ Some q
+    → feed written (InFunction is f (At os ss Start)) (record { token = t; line = l }) ≡ Some (InFunction is f (At os ss (Within l q)))
 begins is f os ss l t q h = rw (begins_no_brace (room os) t q h, h) refl
 
-pub statement_takes : (is : List Item) (f : Header) (os : List (Opened Text Piece Block)) (ss : List Piece) (l : ℕ) (t : Token) (q : Part Text) (m : PartNext Text) (ts : List Token) → begin_part (room os) t ≡ Some q → in_part.run (PartNext.Goes q) ts ≡ Some m
+pub statement_takes : (is : List ItemForm) (f : Header) (os : List (OpenBlock Text Piece Block)) (ss : List Piece) (l : ℕ) (t : Token) (q : Part Text) (m : PartNext Text) (ts : List Token) → begin_part (room os) t ≡ Some q → in_part.feed_all (PartNext.Goes q) ts ≡ Some m
     → Takes (InFunction is f (At os ss Start)) (begun l (t ∷ ts)) (InFunction is f (parted written os ss l m))
 statement_takes is f os ss l t q m ts h k =
     takes_at (InFunction is f (At os ss Start)) (InFunction is f (At os ss (Within l q))) (InFunction is f (parted written os ss l m)) l t (map on ts) (begins is f os ss l t q h)
     (part_takes is f os ss l (PartNext.Goes q) m ts k)
 
-pub simple_takes : (is : List Item) (f : Header) (os : List (Opened Text Piece Block)) (ss : List Piece) (l : ℕ) (s : Simple Text) → IsSimple s
+pub simple_takes : (is : List ItemForm) (f : Header) (os : List (OpenBlock Text Piece Block)) (ss : List Piece) (l : ℕ) (s : Simple Text) → IsSimple s
     → Takes (InFunction is f (At os ss Start)) (begun l (ended (simple_tokens s))) (InFunction is f (At os (ss ++ simple l s ∷ []) Start))
 simple_takes is f os ss l s ok =
     let r = readable s ok in
     takes_is (InFunction is f (At os ss Start)) (InFunction is f (At os (ss ++ simple l s ∷ []) Start)) (begun l (ended (r.first ∷ r.rest))) (begun l (ended (simple_tokens s))) (ap (λ z. begun l (ended z)) (sym r.is))
     (statement_takes is f os ss l r.first r.part (PartNext.Ends s) (ended r.rest) (r.begins (room os)) r.runs)
 
-pub test_begins : (os : List (Opened Text Piece Block)) (test : Test) → suc (length os) < deepest_block → begin_part {A = Text} (room os) (Token.word (test_word test)) ≡ Some (TestOpen test)
-test_begins os If h = rw (lt-ltb (suc (length os)) deepest_block h) refl
-test_begins os While h = rw (lt-ltb (suc (length os)) deepest_block h) refl
+pub test_begins : (os : List (OpenBlock Text Piece Block)) (test : Test) → suc (length os) < block_limit → begin_part {A = Text} (room os) (Token.word (test_word test)) ≡ Some (TestOpen test)
+test_begins os If h = rw (lt-ltb (suc (length os)) block_limit h) refl
+test_begins os While h = rw (lt-ltb (suc (length os)) block_limit h) refl
 
-pub test_takes : (is : List Item) (f : Header) (os : List (Opened Text Piece Block)) (ss : List Piece) (l : ℕ) (test : Test) (e : Text) → IsWritten e → suc (length os) < deepest_block
+pub test_takes : (is : List ItemForm) (f : Header) (os : List (OpenBlock Text Piece Block)) (ss : List Piece) (l : ℕ) (test : Test) (e : Text) → IsWritten e → suc (length os) < block_limit
     → Takes (InFunction is f (At os ss Start)) (begun l (test_tokens (test_word test) e) ++ on (Token.sign g.BraceOpen) ∷ []) (InFunction is f (At (record { line = l; around = around test e; before = ss } ∷ os) [] Start))
 test_takes is f os ss l test e ok h =
     let rest : List Token = Token.sign g.ParenOpen ∷ (tokens e ++ Token.sign g.ParenClose ∷ Token.sign g.BraceOpen ∷ []) in
@@ -234,7 +234,7 @@ block_no_else n (Block.if_ l e a rest) ms h k = refl
 block_no_else n (Block.if_else l e a b rest) ms h k = refl
 block_no_else n (Block.while_ l e a rest) ms h k = refl
 
-pub if_takes : (is : List Item) (f : Header) (os : List (Opened Text Piece Block)) (ss : List Piece) (l : ℕ) (e : Text) (a : Block) (ms : List Mark) (s' : State Text Piece Block Item) → NoElse ms
+pub if_takes : (is : List ItemForm) (f : Header) (os : List (OpenBlock Text Piece Block)) (ss : List Piece) (l : ℕ) (e : Text) (a : Block) (ms : List Mark) (s' : FileReader Text Piece Block ItemForm) → NoElse ms
     → Takes (InFunction is f (At os (ss ++ if_ l e a ∷ []) Start)) ms s' → Takes (InFunction is f (At os ss (AfterIf l e a))) ms s'
 if_takes is f os ss l e a [] s' h k ps spelled = absurd h
 if_takes is f os ss l e a (m ∷ ms) s' h k [] spelled = absurd spelled
@@ -271,18 +271,18 @@ else_append head a b rest ms =
 
 -- Where the reader goes on behind a block, it goes on behind it from before it.
 abbrev pub IsTaken : Block → Type 0
-IsTaken b = (is : List Item) (f : Header) (os : List (Opened Text Piece Block)) (ss : List Piece) (ms : List Mark) (s' : State Text Piece Block Item) → IsBlock (suc (length os)) b → NoElse ms
+IsTaken b = (is : List ItemForm) (f : Header) (os : List (OpenBlock Text Piece Block)) (ss : List Piece) (ms : List Mark) (s' : FileReader Text Piece Block ItemForm) → IsBlock (suc (length os)) b → NoElse ms
     → Takes (InFunction is f (At os (ss ++ pieces b) Start)) ms s' → Takes (InFunction is f (At os ss Start)) (block_marks b ++ ms) s'
 
 -- a block in a statement, and the `}` behind it
-pub inner_takes : (a : Block) → IsTaken a → (is : List Item) (f : Header) (l : ℕ) (r : Around Text Block) (before : List Piece) (os : List (Opened Text Piece Block)) (ms : List Mark) (s s' : State Text Piece Block Item) → IsBlock (suc (suc (length os))) a
-    → ((line : ℕ) → step written (InFunction is f (At (record { line = l; around = r; before = before } ∷ os) (pieces a) Start)) (record { token = Token.sign g.BraceClose; line = line }) ≡ Some s) → Takes s ms s'
+pub inner_takes : (a : Block) → IsTaken a → (is : List ItemForm) (f : Header) (l : ℕ) (r : Around Text Block) (before : List Piece) (os : List (OpenBlock Text Piece Block)) (ms : List Mark) (s s' : FileReader Text Piece Block ItemForm) → IsBlock (suc (suc (length os))) a
+    → ((line : ℕ) → feed written (InFunction is f (At (record { line = l; around = r; before = before } ∷ os) (pieces a) Start)) (record { token = Token.sign g.BraceClose; line = line }) ≡ Some s) → Takes s ms s'
     → Takes (InFunction is f (At (record { line = l; around = r; before = before } ∷ os) [] Start)) (block_marks a ++ on (Token.sign g.BraceClose) ∷ ms) s'
 inner_takes a ih is f l r before os ms s s' ok closing more =
     ih is f (record { line = l; around = r; before = before } ∷ os) [] (on (Token.sign g.BraceClose) ∷ ms) s' ok refl
     (takes_on (InFunction is f (At (record { line = l; around = r; before = before } ∷ os) (pieces a) Start)) s s' (Token.sign g.BraceClose) ms closing more)
 
-pub more_pieces : (is : List Item) (f : Header) (os : List (Opened Text Piece Block)) (ss : List Piece) (s : Piece) (rest : Block) (ms : List Mark) (s' : State Text Piece Block Item)
+pub more_pieces : (is : List ItemForm) (f : Header) (os : List (OpenBlock Text Piece Block)) (ss : List Piece) (s : Piece) (rest : Block) (ms : List Mark) (s' : FileReader Text Piece Block ItemForm)
     → Takes (InFunction is f (At os (ss ++ s ∷ pieces rest) Start)) ms s' → Takes (InFunction is f (At os ((ss ++ s ∷ []) ++ pieces rest) Start)) ms s'
 more_pieces is f os ss s rest ms s' h =
     takes_from (InFunction is f (At os (ss ++ s ∷ pieces rest) Start)) (InFunction is f (At os ((ss ++ s ∷ []) ++ pieces rest) Start)) s' ms
@@ -297,7 +297,7 @@ simple_taken l s rest ih is f os ss ms s' ok follows h =
 
 pub while_taken : (l : ℕ) (e : Text) (a rest : Block) → IsTaken a → IsTaken rest → IsTaken (Block.while_ l e a rest)
 while_taken l e a rest iha ih is f os ss ms s' ok follows h =
-    let o : Opened Text Piece Block = record { line = l; around = Loop e; before = ss } in
+    let o : OpenBlock Text Piece Block = record { line = l; around = Loop e; before = ss } in
     takes_is (InFunction is f (At os ss Start)) s' ((begun l (test_tokens w.While e) ++ on (Token.sign g.BraceOpen) ∷ []) ++ (block_marks a ++ on (Token.sign g.BraceClose) ∷ (block_marks rest ++ ms))) (block_marks (Block.while_ l e a rest) ++ ms)
     (loop_append (begun l (test_tokens w.While e)) (block_marks a) (block_marks rest) ms)
     (takes_append (InFunction is f (At os ss Start)) (InFunction is f (At (o ∷ os) [] Start)) s' (begun l (test_tokens w.While e) ++ on (Token.sign g.BraceOpen) ∷ []) (block_marks a ++ on (Token.sign g.BraceClose) ∷ (block_marks rest ++ ms))
@@ -308,7 +308,7 @@ while_taken l e a rest iha ih is f os ss ms s' ok follows h =
 
 pub if_taken : (l : ℕ) (e : Text) (a rest : Block) → IsTaken a → IsTaken rest → IsTaken (Block.if_ l e a rest)
 if_taken l e a rest iha ih is f os ss ms s' ok follows h =
-    let o : Opened Text Piece Block = record { line = l; around = Then e; before = ss } in
+    let o : OpenBlock Text Piece Block = record { line = l; around = Then e; before = ss } in
     takes_is (InFunction is f (At os ss Start)) s' ((begun l (test_tokens w.If e) ++ on (Token.sign g.BraceOpen) ∷ []) ++ (block_marks a ++ on (Token.sign g.BraceClose) ∷ (block_marks rest ++ ms))) (block_marks (Block.if_ l e a rest) ++ ms)
     (loop_append (begun l (test_tokens w.If e)) (block_marks a) (block_marks rest) ms)
     (takes_append (InFunction is f (At os ss Start)) (InFunction is f (At (o ∷ os) [] Start)) s' (begun l (test_tokens w.If e) ++ on (Token.sign g.BraceOpen) ∷ []) (block_marks a ++ on (Token.sign g.BraceClose) ∷ (block_marks rest ++ ms))
@@ -320,7 +320,7 @@ if_taken l e a rest iha ih is f os ss ms s' ok follows h =
 
 pub else_taken : (l : ℕ) (e : Text) (a b rest : Block) → IsTaken a → IsTaken b → IsTaken rest → IsTaken (Block.if_else l e a b rest)
 else_taken l e a b rest iha ihb ih is f os ss ms s' ok follows h =
-    let o : Opened Text Piece Block = record { line = l; around = Then e; before = ss } in
+    let o : OpenBlock Text Piece Block = record { line = l; around = Then e; before = ss } in
     let behind = block_marks rest ++ ms in
     let second = block_marks b ++ on (Token.sign g.BraceClose) ∷ behind in
     let first = on (Token.word w.Else) ∷ on (Token.sign g.BraceOpen) ∷ second in
@@ -345,7 +345,7 @@ taken (Block.while_ l e a rest) = while_taken l e a rest (taken a) (taken rest)
 
 -- files
 
-pub func_takes : (is : List Item) (l : ℕ) (f : List ℕ) (params : List (List ℕ)) (body : Block) → IsBlock 1 body → Takes (Between is) (item_marks (func l f params body)) (Between (is ++ func l f params body ∷ []))
+pub func_takes : (is : List ItemForm) (l : ℕ) (f : List ℕ) (params : List (List ℕ)) (body : Block) → IsBlock 1 body → Takes (Between is) (item_marks (func l f params body)) (Between (is ++ func l f params body ∷ []))
 func_takes is l f params body ok =
     let header : Header = record { line = l; name = f; params = params } in
     let last = Between (is ++ func l f params body ∷ []) in
@@ -356,16 +356,16 @@ func_takes is l f params body ok =
     (taken body is header [] [] (on (Token.sign g.BraceClose) ∷ []) last ok refl
     (takes_on (InFunction is header (At [] (pieces body) Start)) last last (Token.sign g.BraceClose) [] (λ line. ap (λ z. Some (Between (is ++ func l f params z ∷ []))) (pieces_close body)) (takes_none last))))
 
-pub one_takes : (is : List Item) (i : Item) → IsItem i → Takes (Between is) (item_marks i) (Between (is ++ i ∷ []))
+pub one_takes : (is : List ItemForm) (i : ItemForm) → IsItem i → Takes (Between is) (item_marks i) (Between (is ++ i ∷ []))
 one_takes is (declared l d) ok = declared_takes is l d ok
 one_takes is (func l f params body) ok = func_takes is l f params body ok
 
-pub items_take : (is items : List Item) → AllByRecursion IsItem items → Takes (Between is) (flat_map item_marks items) (Between (is ++ items))
+pub items_take : (is items : List ItemForm) → AllByRecursion IsItem items → Takes (Between is) (flat_map item_marks items) (Between (is ++ items))
 items_take is [] all = takes_to (Between is) (Between is) (Between (is ++ [])) [] (ap Between (sym (append-nil is))) (takes_none (Between is))
 items_take is (i ∷ items) all =
     takes_append (Between is) (Between (is ++ i ∷ [])) (Between (is ++ i ∷ items)) (item_marks i) (flat_map item_marks items) (one_takes is i all.0)
     (takes_to (Between (is ++ i ∷ [])) (Between ((is ++ i ∷ []) ++ items)) (Between (is ++ i ∷ items)) (flat_map item_marks items) (ap Between (append_assoc is (i ∷ []) items)) (items_take (is ++ i ∷ []) items all.1))
 
 -- The tokens of a written file lead to its items.
-pub file_read : (items : List Item) (ps : List Placed) → AllByRecursion IsItem items → Spells (flat_map item_marks items) ps → run written start ps ≡ Some (Between items)
+pub file_read : (items : List ItemForm) (ps : List LineToken) → AllByRecursion IsItem items → FitMarks (flat_map item_marks items) ps → feed_all written fresh ps ≡ Some (Between items)
 file_read items ps all spelled = items_take [] items all ps spelled

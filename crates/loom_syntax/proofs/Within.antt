@@ -3,7 +3,7 @@ use Rattle.std.proofs.Common.{ℕ, ◌≡◌, ◌≤◌, refl, nat_le, List, [],
 use Rattle.std.proofs.lemmas.Bool.{leb-true}
 use Rattle.std.proofs.lemmas.List.Elements.{All-nil, All-cons}
 use Rattle.loom_tree.specs.declared.token.Token.{Token}
-use Rattle.loom_syntax.specs.Small.{IsWithin}
+use Rattle.loom_tree.specs.Token.{IsWithin}
 
 abbrev pub each_fits : ℕ → List Token → Bool
 each_fits n [] = true

@@ -7,15 +7,15 @@ use Rattle.loom_tree.specs.Tree as tree
 use Rattle.loom_tree.specs.Tree.{Expression, Body, body_of, expression_of, expressions_of, returned_of, right_of}
 use Rattle.loom_syntax.specs.declared.block.Around as rust_around
 use Rattle.loom_syntax.specs.declared.block.Around.TheVariants as a
-use Rattle.loom_syntax.specs.declared.block.Opened as rust_opened
-use Rattle.loom_syntax.specs.declared.block.Point as rust_point
-use Rattle.loom_syntax.specs.declared.block.Point.TheVariants as p
-use Rattle.loom_syntax.specs.declared.block.Inside as rust_inside
-use Rattle.loom_syntax.specs.declared.block.InsideNext as rust_next
-use Rattle.loom_syntax.specs.declared.block.InsideNext.TheVariants as n
+use Rattle.loom_syntax.specs.declared.block.OpenBlock as rust_open
+use Rattle.loom_syntax.specs.declared.block.BlockPosition as rust_position
+use Rattle.loom_syntax.specs.declared.block.BlockPosition.TheVariants as p
+use Rattle.loom_syntax.specs.declared.block.BlockReader as rust_block
+use Rattle.loom_syntax.specs.declared.block.BlockNext as rust_next
+use Rattle.loom_syntax.specs.declared.block.BlockNext.TheVariants as n
 use Rattle.loom_syntax.specs.View.{Statement, simple, if_, while_}
 use Rattle.loom_syntax.specs.StatementView.{part_of}
-use Rattle.loom_syntax.specs.Machine as m
+use Rattle.loom_syntax.specs.FileReader as m
 
 abbrev pub statement_by : ℕ → Kind → Statement
 statement_by l (k.Let x e) = simple l (tree.Simple.let_ x (right_of e))
@@ -44,30 +44,30 @@ around_of (a.Then e) = m.Then (expression_of e)
 around_of (a.Else e first) = m.Else (expression_of e) (body_of first)
 around_of (a.Loop e) = m.Loop (expression_of e)
 
-abbrev pub opened_of : rust_opened.Opened → m.Opened Expression Statement Body
+abbrev pub opened_of : rust_open.OpenBlock → m.OpenBlock Expression Statement Body
 opened_of o = record { line = o.line; around = around_of o.around; before = statements_of o.before.items }
 
 -- the last block is the innermost
-abbrev pub onto : List rust_opened.Opened → List (m.Opened Expression Statement Body) → List (m.Opened Expression Statement Body)
+abbrev pub onto : List rust_open.OpenBlock → List (m.OpenBlock Expression Statement Body) → List (m.OpenBlock Expression Statement Body)
 onto [] os = os
 onto (o ∷ rest) os = onto rest (opened_of o ∷ os)
 
-abbrev pub stack_of : List rust_opened.Opened → List (m.Opened Expression Statement Body)
+abbrev pub stack_of : List rust_open.OpenBlock → List (m.OpenBlock Expression Statement Body)
 stack_of os = onto os []
 
-abbrev pub point_of : rust_point.Point → m.Point Expression Body
-point_of p.Start = m.Start
-point_of (p.AfterIf i) = m.AfterIf i.line (expression_of i.condition) (body_of i.body)
-point_of (p.ElseBrace i) = m.ElseBrace i.line (expression_of i.condition) (body_of i.body)
-point_of (p.Within l q) = m.Within l (part_of q.value)
+abbrev pub position_of : rust_position.BlockPosition → m.BlockPosition Expression Body
+position_of p.Start = m.Start
+position_of (p.AfterIf i) = m.AfterIf i.line (expression_of i.condition) (body_of i.body)
+position_of (p.ElseBrace i) = m.ElseBrace i.line (expression_of i.condition) (body_of i.body)
+position_of (p.Within l q) = m.Within l (part_of q.value)
 
-abbrev pub inside_of : rust_inside.Inside → m.Inside Expression Statement Body
-inside_of i = m.At (stack_of i.opened.items) (statements_of i.before.items) (point_of i.point)
+abbrev pub block_of : rust_block.BlockReader → m.BlockReader Expression Statement Body
+block_of i = m.At (stack_of i.opened.items) (statements_of i.before.items) (position_of i.point)
 
-abbrev pub next_of : rust_next.InsideNext → m.InsideNext Expression Statement Body
-next_of (n.Goes i) = m.InsideNext.Goes (inside_of i)
-next_of (n.Ends a) = m.InsideNext.Ends (body_of a)
+abbrev pub next_of : rust_next.BlockNext → m.BlockNext Expression Statement Body
+next_of (n.Goes i) = m.BlockNext.Goes (block_of i)
+next_of (n.Ends a) = m.BlockNext.Ends (body_of a)
 
-abbrev pub next_if : Option rust_next.InsideNext → Option (m.InsideNext Expression Statement Body)
+abbrev pub next_if : Option rust_next.BlockNext → Option (m.BlockNext Expression Statement Body)
 next_if None = None
 next_if (Some n) = Some (next_of n)

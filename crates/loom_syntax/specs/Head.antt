@@ -3,8 +3,8 @@ use Rattle.std.specs.Prelude.{ℕ, nat_le, if◌then◌else◌, List, [], ◌∷
 use Rattle.loom_tree.specs.declared.token.Keyword.TheVariants as w
 use Rattle.loom_tree.specs.declared.token.Sign.TheVariants as g
 use Rattle.loom_tree.specs.Token.{Token}
-use Rattle.loom_expression.specs.Machine.{after}
-use Rattle.loom_syntax.specs.Written.{none, plus, minus, Declaration, word, array, mutex, sema, largest_count}
+use Rattle.loom_expression.specs.Reader.{after}
+use Rattle.loom_syntax.specs.File.{none, plus, minus, Declaration, word, array, mutex, sema, largest_count}
 use Rattle.loom_syntax.specs.Tests.{is_keyword, is_sign, is_minus, name_of, number_of}
 
 -- What was read of an item, named by what must follow.

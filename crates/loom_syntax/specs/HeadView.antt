@@ -1,18 +1,18 @@
 -- What the reader's variables stand for, in an item up to its block.
 use Rattle.std.specs.Prelude.{Option, Some, None}
-use Rattle.loom_syntax.specs.declared.item.Given as rust_given
-use Rattle.loom_syntax.specs.declared.item.Given.TheVariants as g
+use Rattle.loom_syntax.specs.declared.item.InitialValue as rust_given
+use Rattle.loom_syntax.specs.declared.item.InitialValue.TheVariants as g
 use Rattle.loom_syntax.specs.declared.item.Declaration as rust_declaration
 use Rattle.loom_syntax.specs.declared.item.Declaration.TheVariants as d
 use Rattle.loom_syntax.specs.declared.item.Head as rust_head
 use Rattle.loom_syntax.specs.declared.item.Head.TheVariants as h
 use Rattle.loom_syntax.specs.declared.item.HeadNext as rust_next
 use Rattle.loom_syntax.specs.declared.item.HeadNext.TheVariants as n
-use Rattle.loom_syntax.specs.Written.{Given, none, plus, minus, Declaration, word, array, mutex, sema}
+use Rattle.loom_syntax.specs.File.{InitialValue, none, plus, minus, Declaration, word, array, mutex, sema}
 use Rattle.loom_syntax.specs.Head as m
 use Rattle.loom_syntax.specs.Head.{Head, HeadNext}
 
-abbrev pub given_of : rust_given.Given → Given
+abbrev pub given_of : rust_given.InitialValue → InitialValue
 given_of g.None = none
 given_of (g.Plus n) = plus n.value
 given_of (g.Minus n) = minus n.value

@@ -1,8 +1,8 @@
-pub mod Written
+pub mod File
 pub mod Tests
 pub mod Head
 pub mod Part
-pub mod Machine
+pub mod FileReader
 pub mod View
 pub mod Laws
 pub mod Small
@@ -11,4 +11,4 @@ pub mod HeadView
 pub mod StatementView
 pub mod BlockView
 pub mod FileView
-pub mod Items
+pub mod SyntaxError

@@ -6,20 +6,20 @@ use Rattle.loom_tree.specs.declared.token.Keyword.TheVariants as w
 use Rattle.loom_tree.specs.declared.token.Sign.TheVariants as g
 use Rattle.loom_tree.specs.Token.{Token}
 use Rattle.loom_tree.specs.Tree.{Right, Simple}
-use Rattle.loom_expression.specs.Machine as expression
-use Rattle.loom_expression.specs.Machine.{after, is_whole}
+use Rattle.loom_expression.specs.Reader as expression
+use Rattle.loom_expression.specs.Reader.{after, is_whole}
 use Rattle.loom_syntax.specs.Tests.{is_keyword, is_sign, name_of}
 
 -- what a value is written to
-pub data Target : Type 0 where
-  Let : List ℕ → Target
-  Set : List ℕ → Target
+pub data Assignee : Type 0 where
+  Let : List ℕ → Assignee
+  Set : List ℕ → Assignee
 
 -- what arguments are for
 pub data Goal : Type 0 where
   Call : List ℕ → Goal
-  RightCall : Target → List ℕ → Goal
-  RightSpawn : Target → List ℕ → Goal
+  RightCall : Assignee → List ℕ → Goal
+  RightSpawn : Assignee → List ℕ → Goal
 
 pub data Sync : Type 0 where
   Lock : Sync
@@ -34,7 +34,7 @@ pub data Test : Type 0 where
 
 -- what an expression is for
 pub data Purpose (A : Type 0) : Type 0 where
-  Value : Target → Purpose A
+  Value : Assignee → Purpose A
   -- behind the arguments before it
   Argument : Goal → List A → Purpose A
   Index : List ℕ → Purpose A
@@ -50,11 +50,11 @@ pub data Part (A : Type 0) : Type 0 where
   LetAssign : List ℕ → Part A
   -- `=`, `[` or `(` behind a name
   Started : List ℕ → Part A
-  RightOf : Target → Part A
+  RightOf : Assignee → Part A
   -- a name was read, of a function if `(` follows, else of an expression
-  RightNamed : Target → List ℕ → Part A
-  SpawnName : Target → Part A
-  SpawnOpen : Target → List ℕ → Part A
+  RightNamed : Assignee → List ℕ → Part A
+  SpawnName : Assignee → Part A
+  SpawnOpen : Assignee → List ℕ → Part A
   SyncName : Sync → Part A
   TestOpen : Test → Part A
   -- the first argument, or `)`
@@ -63,7 +63,7 @@ pub data Part (A : Type 0) : Type 0 where
   Returned : Part A
   SetAssign : List ℕ → A → Part A
   -- the rest of an expression
-  Reading : Purpose A → expression.State A → Part A
+  Reading : Purpose A → expression.Reader A → Part A
   -- the `;` of a statement
   Ending : Simple A → Part A
   TestBrace : Test → A → Part A
@@ -76,7 +76,7 @@ pub data PartNext (A : Type 0) : Type 0 where
 
 -- statements from their parts
 
-abbrev pub assigned : {A : Type 0} → Target → Right A → Simple A
+abbrev pub assigned : {A : Type 0} → Assignee → Right A → Simple A
 assigned (Let x) r = Simple.let_ x r
 assigned (Set x) r = Simple.set x r
 
@@ -103,7 +103,7 @@ closes Join t = is_sign g.Semicolon t
 closes Print t = is_sign g.Semicolon t
 
 abbrev pub argued : {A : Type 0} → Goal → List A → Token → PartNext A
-argued goal es t = if is_sign g.Comma t then Goes (Reading (Argument goal es) expression.start) else Goes (Ending (applied goal es))
+argued goal es t = if is_sign g.Comma t then Goes (Reading (Argument goal es) expression.fresh) else Goes (Ending (applied goal es))
 
 -- what is behind an expression and the token that ends it
 abbrev pub closed : {A : Type 0} → Purpose A → A → Token → PartNext A
@@ -116,14 +116,14 @@ closed Return e t = Ends (Simple.return (Some e))
 closed Join e t = Ends (Simple.join e)
 closed Print e t = Ends (Simple.print e)
 
-abbrev pub ends_here : {A : Type 0} → Purpose A → expression.State A → Token → Bool
+abbrev pub ends_here : {A : Type 0} → Purpose A → expression.Reader A → Token → Bool
 ends_here p s t = if is_whole s then closes p t else false
 
 -- a token in an expression, or behind it
-abbrev pub read_step : {A : Type 0} → expression.Builder A → Purpose A → expression.State A → Token → Option (PartNext A)
+abbrev pub read_step : {A : Type 0} → expression.ExpressionBuilder A → Purpose A → expression.Reader A → Token → Option (PartNext A)
 read_step b p s t =
     if ends_here p s t then after (expression.finish b s) (λ e. Some (closed p e t)) else
-    after (expression.step b s t) (λ s'. Some (Goes (Reading p s')))
+    after (expression.feed b s t) (λ s'. Some (Goes (Reading p s')))
 
 -- the first token of a statement, where a block may open and where none may
 
@@ -145,8 +145,8 @@ begin_keyword room w.Unlock = Some (SyncName Unlock)
 begin_keyword room w.Down = Some (SyncName Down)
 begin_keyword room w.Up = Some (SyncName Up)
 begin_keyword room w.Spawn = None
-begin_keyword room w.Join = Some (Reading Join expression.start)
-begin_keyword room w.Print = Some (Reading Print expression.start)
+begin_keyword room w.Join = Some (Reading Join expression.fresh)
+begin_keyword room w.Print = Some (Reading Print expression.fresh)
 begin_keyword room w.Skip = Some (Ending Simple.skip)
 
 abbrev pub begin_part : {A : Type 0} → Bool → Token → Option (Part A)
@@ -162,31 +162,31 @@ begin_part room Token.bad = None
 abbrev pub started : {A : Type 0} → List ℕ → Token → Option (PartNext A)
 started x t =
     if is_sign g.Assign t then Some (Goes (RightOf (Set x))) else
-    if is_sign g.BracketOpen t then Some (Goes (Reading (Index x) expression.start)) else
+    if is_sign g.BracketOpen t then Some (Goes (Reading (Index x) expression.fresh)) else
     if is_sign g.ParenOpen t then Some (Goes (Arguments (Call x))) else None
 
-abbrev pub right_value : {A : Type 0} → expression.Builder A → Target → Token → Option (List ℕ) → Option (PartNext A)
-right_value b target t None = read_step b (Value target) expression.start t
+abbrev pub right_value : {A : Type 0} → expression.ExpressionBuilder A → Assignee → Token → Option (List ℕ) → Option (PartNext A)
+right_value b target t None = read_step b (Value target) expression.fresh t
 right_value b target t (Some f) = Some (Goes (RightNamed target f))
 
-abbrev pub right_of : {A : Type 0} → expression.Builder A → Target → Token → Option (PartNext A)
+abbrev pub right_of : {A : Type 0} → expression.ExpressionBuilder A → Assignee → Token → Option (PartNext A)
 right_of b target t = if is_keyword w.Spawn t then Some (Goes (SpawnName target)) else right_value b target t (name_of t)
 
-abbrev pub right_named : {A : Type 0} → expression.Builder A → Target → List ℕ → Token → Option (PartNext A)
+abbrev pub right_named : {A : Type 0} → expression.ExpressionBuilder A → Assignee → List ℕ → Token → Option (PartNext A)
 right_named b target f t =
     if is_sign g.ParenOpen t then Some (Goes (Arguments (RightCall target f))) else
-    after (expression.step b expression.start (Token.name f)) (λ s. read_step b (Value target) s t)
+    after (expression.feed b expression.fresh (Token.name f)) (λ s. read_step b (Value target) s t)
 
-abbrev pub arguments_step : {A : Type 0} → expression.Builder A → Goal → Token → Option (PartNext A)
+abbrev pub arguments_step : {A : Type 0} → expression.ExpressionBuilder A → Goal → Token → Option (PartNext A)
 arguments_step b goal t =
     if is_sign g.ParenClose t then Some (Goes (Ending (applied goal []))) else
-    read_step b (Argument goal []) expression.start t
+    read_step b (Argument goal []) expression.fresh t
 
-abbrev pub return_step : {A : Type 0} → expression.Builder A → Token → Option (PartNext A)
-return_step b t = if is_sign g.Semicolon t then Some (Ends (Simple.return None)) else read_step b Return expression.start t
+abbrev pub return_step : {A : Type 0} → expression.ExpressionBuilder A → Token → Option (PartNext A)
+return_step b t = if is_sign g.Semicolon t then Some (Ends (Simple.return None)) else read_step b Return expression.fresh t
 
 -- what is behind a token; None where it can't follow
-abbrev pub part_step : {A : Type 0} → expression.Builder A → Part A → Token → Option (PartNext A)
+abbrev pub part_step : {A : Type 0} → expression.ExpressionBuilder A → Part A → Token → Option (PartNext A)
 part_step b LetName t = after (name_of t) (λ x. Some (Goes (LetAssign x)))
 part_step b (LetAssign x) t = if is_sign g.Assign t then Some (Goes (RightOf (Let x))) else None
 part_step b (Started x) t = started x t
@@ -195,10 +195,10 @@ part_step b (RightNamed target f) t = right_named b target f t
 part_step b (SpawnName target) t = after (name_of t) (λ f. Some (Goes (SpawnOpen target f)))
 part_step b (SpawnOpen target f) t = if is_sign g.ParenOpen t then Some (Goes (Arguments (RightSpawn target f))) else None
 part_step b (SyncName sync) t = after (name_of t) (λ x. Some (Goes (Ending (synced sync x))))
-part_step b (TestOpen test) t = if is_sign g.ParenOpen t then Some (Goes (Reading (Condition test) expression.start)) else None
+part_step b (TestOpen test) t = if is_sign g.ParenOpen t then Some (Goes (Reading (Condition test) expression.fresh)) else None
 part_step b (Arguments goal) t = arguments_step b goal t
 part_step b Returned t = return_step b t
-part_step b (SetAssign x i) t = if is_sign g.Assign t then Some (Goes (Reading (CellValue x i) expression.start)) else None
+part_step b (SetAssign x i) t = if is_sign g.Assign t then Some (Goes (Reading (CellValue x i) expression.fresh)) else None
 part_step b (Reading p s) t = read_step b p s t
 part_step b (Ending s) t = if is_sign g.Semicolon t then Some (Ends s) else None
 part_step b (TestBrace test e) t = if is_sign g.BraceOpen t then Some (Opens test e) else None

@@ -1,9 +1,7 @@
 -- Tokens that a text may have.
-use Rattle.std.specs.Prelude.{ℕ, ◌≤◌, length, List}
 use Rattle.std.specs.Coded.{Unit-prop, le_prop}
 use Rattle.loom_tree.specs.declared.token.TokenKind.{TokenKind}
 use Rattle.loom_tree.specs.declared.token.TokenKind.TheVariants as k
-use Rattle.loom_tree.specs.declared.token.Token.{Token}
 use Rattle.loom_tree.specs.Token.{IsSmall}
 
 -- There is one way in which a number is small.
@@ -14,7 +12,3 @@ IsSmall-prop (k.Keyword w) = Unit-prop
 IsSmall-prop (k.Op o) = Unit-prop
 IsSmall-prop (k.Sign s) = Unit-prop
 IsSmall-prop k.Bad = Unit-prop
-
--- its places lie within the text
-abbrev pub IsWithin : List ℕ → Token → Type 0
-IsWithin bytes t = (t.start ≤ t.end) × (t.end ≤ length bytes)

@@ -2,10 +2,10 @@
 use Rattle.std.specs.Prelude.{ℕ, List, Option, Some, None}
 use Rattle.loom_tree.specs.Tree as tree
 use Rattle.loom_tree.specs.Tree.{Expression, expression_of, expressions_of, returned_of}
-use Rattle.loom_expression.specs.View.{state_of}
+use Rattle.loom_expression.specs.View.{reader_of}
 use Rattle.loom_syntax.specs.declared.statement.Binding.{Binding}
 use Rattle.loom_syntax.specs.declared.statement.Binding.TheVariants as b
-use Rattle.loom_syntax.specs.declared.statement.Target as rust_target
+use Rattle.loom_syntax.specs.declared.statement.Assignee as rust_target
 use Rattle.loom_syntax.specs.declared.statement.Arguing.TheVariants as a
 use Rattle.loom_syntax.specs.declared.statement.Goal as rust_goal
 use Rattle.loom_syntax.specs.declared.statement.Goal.TheVariants as g
@@ -23,17 +23,17 @@ use Rattle.loom_syntax.specs.declared.statement.PartNext as rust_next
 use Rattle.loom_syntax.specs.declared.statement.PartNext.TheVariants as n
 use Rattle.loom_syntax.specs.Part as m
 
-abbrev pub bound_by : Binding → List ℕ → m.Target
+abbrev pub bound_by : Binding → List ℕ → m.Assignee
 bound_by b.Let x = m.Let x
 bound_by b.Set x = m.Set x
 
-abbrev pub target_of : rust_target.Target → m.Target
-target_of t = bound_by t.binding t.name
+abbrev pub assignee_of : rust_target.Assignee → m.Assignee
+assignee_of t = bound_by t.binding t.name
 
 abbrev pub goal_of : rust_goal.Goal → m.Goal
 goal_of (g.Call f) = m.Call f
-goal_of (g.Right a.Call target f) = m.RightCall (target_of target) f
-goal_of (g.Right a.Spawn target f) = m.RightSpawn (target_of target) f
+goal_of (g.Right a.Call target f) = m.RightCall (assignee_of target) f
+goal_of (g.Right a.Spawn target f) = m.RightSpawn (assignee_of target) f
 
 abbrev pub sync_of : SyncKind → m.Sync
 sync_of y.Lock = m.Lock
@@ -46,7 +46,7 @@ test_of e.If = m.If
 test_of e.While = m.While
 
 abbrev pub purpose_of : rust_purpose.Purpose → m.Purpose Expression
-purpose_of (p.Value target) = m.Value (target_of target)
+purpose_of (p.Value target) = m.Value (assignee_of target)
 purpose_of (p.Argument goal before) = m.Argument (goal_of goal) (expressions_of before.items)
 purpose_of (p.Index x) = m.Index x
 purpose_of (p.CellValue x i) = m.CellValue x (expression_of i)
@@ -73,16 +73,16 @@ abbrev pub part_of : rust_part.Part → m.Part Expression
 part_of q.LetName = m.LetName
 part_of (q.LetAssign x) = m.LetAssign x
 part_of (q.Started x) = m.Started x
-part_of (q.RightOf target) = m.RightOf (target_of target)
-part_of (q.RightNamed target f) = m.RightNamed (target_of target) f
-part_of (q.SpawnName target) = m.SpawnName (target_of target)
-part_of (q.SpawnOpen target f) = m.SpawnOpen (target_of target) f
+part_of (q.RightOf target) = m.RightOf (assignee_of target)
+part_of (q.RightNamed target f) = m.RightNamed (assignee_of target) f
+part_of (q.SpawnName target) = m.SpawnName (assignee_of target)
+part_of (q.SpawnOpen target f) = m.SpawnOpen (assignee_of target) f
 part_of (q.SyncName sync) = m.SyncName (sync_of sync)
 part_of (q.TestOpen test) = m.TestOpen (test_of test)
 part_of (q.Arguments goal) = m.Arguments (goal_of goal)
 part_of q.Returned = m.Returned
 part_of (q.SetAssign x i) = m.SetAssign x (expression_of i)
-part_of (q.Reading purpose reader) = m.Reading (purpose_of purpose.value) (state_of reader)
+part_of (q.Reading purpose reader) = m.Reading (purpose_of purpose.value) (reader_of reader)
 part_of (q.Ending s) = m.Ending (simple_of s.value)
 part_of (q.TestBrace test e) = m.TestBrace (test_of test) (expression_of e)
 

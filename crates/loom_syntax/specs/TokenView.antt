@@ -1,12 +1,12 @@
 -- What tokens in their text stand for.
 use Rattle.std.specs.Prelude.{ℕ, Option, Some, None}
 use Rattle.loom_tree.specs.Token as t
-use Rattle.loom_tree.specs.Token.{placed_of}
+use Rattle.loom_tree.specs.Token.{line_token_of}
 use Rattle.loom_syntax.specs.declared.token.Number.{Number}
 use Rattle.loom_syntax.specs.declared.token.Spot.{Spot}
 
-abbrev pub spot_of : Spot → t.Placed
-spot_of s = placed_of s.bytes.now s.token
+abbrev pub spot_of : Spot → t.LineToken
+spot_of s = line_token_of s.bytes.now s.token
 
 abbrev pub token_of : Spot → t.Token
 token_of s = (spot_of s).token

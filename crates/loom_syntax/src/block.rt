@@ -4,8 +4,8 @@ ghost use Rattle.loom_tree.specs.Tree.{body_of, expression_of};
 ghost use Rattle.loom_syntax.specs.TokenView.{spot_of};
 ghost use Rattle.loom_syntax.specs.View.{Statement, chain, plain};
 ghost use Rattle.loom_syntax.specs.StatementView as part;
-ghost use Rattle.loom_syntax.specs.BlockView.{around_of, inside_of, next_if, next_of, opened_of, point_of, stack_of, statement_of, statements_of};
-ghost use Rattle.loom_syntax.specs.Machine as m;
+ghost use Rattle.loom_syntax.specs.BlockView.{around_of, block_of, next_if, next_of, opened_of, position_of, stack_of, statement_of, statements_of};
+ghost use Rattle.loom_syntax.specs.FileReader as m;
 
 use crate::statement::{Part, PartNext, Simple, Test, begin_part, part_step};
 use crate::token::Spot;
@@ -16,7 +16,7 @@ use loom_tree::token::{Keyword, Sign};
 use std::alloc::Global;
 
 /// How deep blocks nest at most, the body of a function being the first.
-const DEEPEST_BLOCK: usize = 32;
+const BLOCK_LIMIT: usize = 32;
 
 /// An `if` up to the end of its first block.
 #[derive(Drop)]
@@ -37,7 +37,7 @@ pub enum Around {
 
 /// An open block: the line of its statement, and the statements before that.
 #[derive(Drop)]
-pub struct Opened {
+pub struct OpenBlock {
     pub line: u32,
     pub around: Around,
     pub before: Vec<Stmt>,
@@ -45,7 +45,7 @@ pub struct Opened {
 
 /// Where the reader is in a block.
 #[derive(Drop)]
-pub enum Point {
+pub enum BlockPosition {
     /// Before a statement or `}`.
     Start,
     /// Behind the first block of an `if`.
@@ -58,18 +58,18 @@ pub enum Point {
 
 /// Where the reader is in the block of a function.
 #[derive(Drop)]
-pub struct Inside {
+pub struct BlockReader {
     /// The open blocks, the innermost last, but for that of the function.
-    pub opened: Vec<Opened>,
+    pub opened: Vec<OpenBlock>,
     /// The statements of the innermost.
     pub before: Vec<Stmt>,
-    pub point: Point,
+    pub point: BlockPosition,
 }
 
 /// How a function goes on behind a token.
 #[derive(Drop)]
-pub enum InsideNext {
-    Goes(Inside),
+pub enum BlockNext {
+    Goes(BlockReader),
     /// Its block is whole.
     Ends(Stmts),
 }
@@ -95,10 +95,10 @@ fn close(alloc: Global, mut stmts: Vec<Stmt>) -> Result<Stmts, NoMemory>
 
 /// Whether another block may open behind these.
 #[tactic(auto, using(crate::proofs::Blocks::room_of))]
-fn room(opened: &[Opened]) -> bool
+fn room(opened: &[OpenBlock]) -> bool
     ensures { result ≡ m.room (stack_of opened.now) }
 {
-    opened.len() + 1 < DEEPEST_BLOCK
+    opened.len() + 1 < BLOCK_LIMIT
 }
 
 fn stmt(line: u32, kind: Kind) -> Stmt
@@ -126,27 +126,27 @@ fn simple(line: u32, s: Simple) -> Stmt
     }
 }
 
-fn starts(opened: Vec<Opened>, before: Vec<Stmt>) -> Inside
-    ensures { inside_of result ≡ m.At (stack_of opened.items) (statements_of before.items) m.Start }
+fn starts(opened: Vec<OpenBlock>, before: Vec<Stmt>) -> BlockReader
+    ensures { block_of result ≡ m.At (stack_of opened.items) (statements_of before.items) m.Start }
 {
-    Inside {
+    BlockReader {
         opened,
         before,
-        point: Point::Start,
+        point: BlockPosition::Start,
     }
 }
 
 fn within(
     alloc: Global,
-    opened: Vec<Opened>,
+    opened: Vec<OpenBlock>,
     before: Vec<Stmt>,
     line: u32,
     q: Part,
-) -> Result<Inside, NoMemory>
-    ensures { IfOk result (λ i. inside_of i ≡ m.At (stack_of opened.items) (statements_of before.items) (m.Within line (part.part_of q))) }
+) -> Result<BlockReader, NoMemory>
+    ensures { IfOk result (λ i. block_of i ≡ m.At (stack_of opened.items) (statements_of before.items) (m.Within line (part.part_of q))) }
 {
-    let point = Point::Within(line, Box::new(alloc, q)?);
-    Ok(Inside {
+    let point = BlockPosition::Within(line, Box::new(alloc, q)?);
+    Ok(BlockReader {
         opened,
         before,
         point,
@@ -154,8 +154,12 @@ fn within(
 }
 
 /// Behind one statement more.
-fn behind(opened: Vec<Opened>, mut before: Vec<Stmt>, stmt: Stmt) -> Result<Inside, NoMemory>
-    ensures { IfOk result (λ i. inside_of i ≡ m.At (stack_of opened.items) (statements_of before.items ++ statement_of stmt ∷ []) m.Start) }
+fn behind(
+    opened: Vec<OpenBlock>,
+    mut before: Vec<Stmt>,
+    stmt: Stmt,
+) -> Result<BlockReader, NoMemory>
+    ensures { IfOk result (λ i. block_of i ≡ m.At (stack_of opened.items) (statements_of before.items ++ statement_of stmt ∷ []) m.Start) }
 {
     before.push(stmt)?;
     Ok(starts(opened, before))
@@ -165,14 +169,14 @@ fn behind(opened: Vec<Opened>, mut before: Vec<Stmt>, stmt: Stmt) -> Result<Insi
 #[tactic(auto, using(crate::proofs::Blocks::stack_push))]
 fn opens(
     alloc: Global,
-    mut opened: Vec<Opened>,
+    mut opened: Vec<OpenBlock>,
     before: Vec<Stmt>,
     line: u32,
     around: Around,
-) -> Result<Inside, NoMemory>
-    ensures { IfOk result (λ i. inside_of i ≡ m.At (record { line = line; around = around_of around; before = statements_of before.items } ∷ stack_of opened.items) [] m.Start) }
+) -> Result<BlockReader, NoMemory>
+    ensures { IfOk result (λ i. block_of i ≡ m.At (record { line = line; around = around_of around; before = statements_of before.items } ∷ stack_of opened.items) [] m.Start) }
 {
-    opened.push(Opened {
+    opened.push(OpenBlock {
         line,
         around,
         before,
@@ -181,19 +185,19 @@ fn opens(
 }
 
 /// Behind the `}` of a block with these statements.
-fn shut_in(body: Stmts, outer: Opened, opened: Vec<Opened>) -> Result<Inside, NoMemory>
-    ensures { IfOk result (λ i. inside_of i ≡ m.shut_in plain (body_of body) outer.line (around_of outer.around) (statements_of outer.before.items) (stack_of opened.items)) }
+fn shut_in(body: Stmts, outer: OpenBlock, opened: Vec<OpenBlock>) -> Result<BlockReader, NoMemory>
+    ensures { IfOk result (λ i. block_of i ≡ m.shut_in plain (body_of body) outer.line (around_of outer.around) (statements_of outer.before.items) (stack_of opened.items)) }
 {
-    let Opened {
+    let OpenBlock {
         line,
         around,
         before,
     } = outer;
     match around {
-        Around::Then(condition) => Ok(Inside {
+        Around::Then(condition) => Ok(BlockReader {
             opened,
             before,
-            point: Point::AfterIf(If {
+            point: BlockPosition::AfterIf(If {
                 line,
                 condition,
                 body,
@@ -205,12 +209,12 @@ fn shut_in(body: Stmts, outer: Opened, opened: Vec<Opened>) -> Result<Inside, No
 }
 
 #[tactic(auto, using(crate::proofs::Blocks::stack_push))]
-fn shut(body: Stmts, mut opened: Vec<Opened>) -> Result<InsideNext, NoMemory>
+fn shut(body: Stmts, mut opened: Vec<OpenBlock>) -> Result<BlockNext, NoMemory>
     ensures { IfOk result (λ n. next_of n ≡ m.shut plain (body_of body) (stack_of opened.items)) }
 {
     match opened.pop() {
-        None => Ok(InsideNext::Ends(body)),
-        Some(outer) => Ok(InsideNext::Goes(shut_in(body, outer, opened)?)),
+        None => Ok(BlockNext::Ends(body)),
+        Some(outer) => Ok(BlockNext::Goes(shut_in(body, outer, opened)?)),
     }
 }
 
@@ -226,12 +230,12 @@ fn around_test(test: Test, e: Expr) -> Around
 /// Behind a token of a statement.
 fn parted(
     alloc: Global,
-    opened: Vec<Opened>,
+    opened: Vec<OpenBlock>,
     before: Vec<Stmt>,
     line: u32,
     next: PartNext,
-) -> Result<Inside, NoMemory>
-    ensures { IfOk result (λ i. inside_of i ≡ m.parted plain (stack_of opened.items) (statements_of before.items) line (part.next_of next)) }
+) -> Result<BlockReader, NoMemory>
+    ensures { IfOk result (λ i. block_of i ≡ m.parted plain (stack_of opened.items) (statements_of before.items) line (part.next_of next)) }
 {
     match next {
         PartNext::Goes(part) => within(alloc, opened, before, line, part),
@@ -243,10 +247,10 @@ fn parted(
 /// A token where a statement or `}` must follow.
 fn statement_step(
     alloc: Global,
-    opened: Vec<Opened>,
+    opened: Vec<OpenBlock>,
     before: Vec<Stmt>,
     spot: Spot,
-) -> Result<Option<InsideNext>, NoMemory>
+) -> Result<Option<BlockNext>, NoMemory>
     ensures { IfOk result (λ r. next_if r ≡ m.statement_step plain (stack_of opened.items) (statements_of before.items) (spot_of spot.entry)) }
 {
     if spot.is_sign(Sign::BraceClose) {
@@ -255,7 +259,7 @@ fn statement_step(
     match begin_part(alloc, room(&opened), spot)? {
         Some(part) => {
             let inside = within(alloc, opened, before, spot.token.line, part)?;
-            Ok(Some(InsideNext::Goes(inside)))
+            Ok(Some(BlockNext::Goes(inside)))
         }
         None => Ok(None),
     }
@@ -264,18 +268,18 @@ fn statement_step(
 /// A token behind the first block of an `if`.
 fn after_if(
     alloc: Global,
-    opened: Vec<Opened>,
+    opened: Vec<OpenBlock>,
     mut before: Vec<Stmt>,
     first: If,
     spot: Spot,
-) -> Result<Option<InsideNext>, NoMemory>
-    ensures { IfOk result (λ r. next_if r ≡ m.inside_step plain (m.At (stack_of opened.items) (statements_of before.items) (m.AfterIf first.line (expression_of first.condition) (body_of first.body))) (spot_of spot.entry)) }
+) -> Result<Option<BlockNext>, NoMemory>
+    ensures { IfOk result (λ r. next_if r ≡ m.block_step plain (m.At (stack_of opened.items) (statements_of before.items) (m.AfterIf first.line (expression_of first.condition) (body_of first.body))) (spot_of spot.entry)) }
 {
     if spot.is_keyword(Keyword::Else) {
-        Ok(Some(InsideNext::Goes(Inside {
+        Ok(Some(BlockNext::Goes(BlockReader {
             opened,
             before,
-            point: Point::ElseBrace(first),
+            point: BlockPosition::ElseBrace(first),
         })))
     } else {
         let kind = Kind::If(first.condition, first.body, Stmts::End);
@@ -287,17 +291,17 @@ fn after_if(
 /// A token behind `else`.
 fn else_brace(
     alloc: Global,
-    opened: Vec<Opened>,
+    opened: Vec<OpenBlock>,
     before: Vec<Stmt>,
     first: If,
     spot: Spot,
-) -> Result<Option<InsideNext>, NoMemory>
-    ensures { IfOk result (λ r. next_if r ≡ m.inside_step plain (m.At (stack_of opened.items) (statements_of before.items) (m.ElseBrace first.line (expression_of first.condition) (body_of first.body))) (spot_of spot.entry)) }
+) -> Result<Option<BlockNext>, NoMemory>
+    ensures { IfOk result (λ r. next_if r ≡ m.block_step plain (m.At (stack_of opened.items) (statements_of before.items) (m.ElseBrace first.line (expression_of first.condition) (body_of first.body))) (spot_of spot.entry)) }
 {
     if spot.is_sign(Sign::BraceOpen) {
         let around = Around::Else(first.condition, first.body);
         let inside = opens(alloc, opened, before, first.line, around)?;
-        Ok(Some(InsideNext::Goes(inside)))
+        Ok(Some(BlockNext::Goes(inside)))
     } else {
         Ok(None)
     }
@@ -306,47 +310,47 @@ fn else_brace(
 /// A token in a statement.
 fn within_step(
     alloc: Global,
-    opened: Vec<Opened>,
+    opened: Vec<OpenBlock>,
     before: Vec<Stmt>,
     line: u32,
     q: Box<Part>,
     spot: Spot,
-) -> Result<Option<InsideNext>, NoMemory>
-    ensures { IfOk result (λ r. next_if r ≡ m.inside_step plain (m.At (stack_of opened.items) (statements_of before.items) (m.Within line (part.part_of q.value))) (spot_of spot.entry)) }
+) -> Result<Option<BlockNext>, NoMemory>
+    ensures { IfOk result (λ r. next_if r ≡ m.block_step plain (m.At (stack_of opened.items) (statements_of before.items) (m.Within line (part.part_of q.value))) (spot_of spot.entry)) }
 {
     match part_step(alloc, Box::into_inner(q), spot)? {
         Some(next) => {
             let inside = parted(alloc, opened, before, line, next)?;
-            Ok(Some(InsideNext::Goes(inside)))
+            Ok(Some(BlockNext::Goes(inside)))
         }
         None => Ok(None),
     }
 }
 
 /// At the beginning of a function's block.
-pub fn begin_block(alloc: Global) -> Inside
-    ensures { inside_of result ≡ m.At [] [] m.Start }
+pub fn begin_block(alloc: Global) -> BlockReader
+    ensures { block_of result ≡ m.At [] [] m.Start }
 {
     starts(Vec::new(alloc), Vec::new(alloc))
 }
 
 /// What is behind a token; `None` where it can't follow. An `Err` is want of memory.
-pub fn inside_step(
+pub fn block_step(
     alloc: Global,
-    inside: Inside,
+    inside: BlockReader,
     spot: Spot,
-) -> Result<Option<InsideNext>, NoMemory>
-    ensures { IfOk result (λ r. next_if r ≡ m.inside_step plain (inside_of inside) (spot_of spot.entry)) }
+) -> Result<Option<BlockNext>, NoMemory>
+    ensures { IfOk result (λ r. next_if r ≡ m.block_step plain (block_of inside) (spot_of spot.entry)) }
 {
-    let Inside {
+    let BlockReader {
         opened,
         before,
         point,
     } = inside;
     match point {
-        Point::Start => statement_step(alloc, opened, before, spot),
-        Point::AfterIf(first) => after_if(alloc, opened, before, first, spot),
-        Point::ElseBrace(first) => else_brace(alloc, opened, before, first, spot),
-        Point::Within(line, q) => within_step(alloc, opened, before, line, q, spot),
+        BlockPosition::Start => statement_step(alloc, opened, before, spot),
+        BlockPosition::AfterIf(first) => after_if(alloc, opened, before, first, spot),
+        BlockPosition::ElseBrace(first) => else_brace(alloc, opened, before, first, spot),
+        BlockPosition::Within(line, q) => within_step(alloc, opened, before, line, q, spot),
     }
 }

@@ -2,7 +2,7 @@
 
 use crate::items::{SyntaxError, read_items};
 use loom_tree::expression::Op;
-use loom_tree::item::Item;
+use loom_tree::item::FileItem;
 use loom_tree::statement::{Kind, Stmts};
 use loom_tree::token::{Keyword, Sign, Token, TokenKind};
 use std::test::Fail;
@@ -127,7 +127,7 @@ fn reads_blocks(rt: HostRuntime) -> Result<(), Fail> {
         SEMICOLON, END, END,
     ];
     let items = read_items(rt.alloc(), b"f", &tokens).ok().ok_or("refused")?;
-    let [Item::Func(f)] = items.0.as_slice() else {
+    let [FileItem::Func(f)] = items.0.as_slice() else {
         return Err("no function".into());
     };
     let Stmts::More(first, rest) = &f.body else {
@@ -143,7 +143,7 @@ fn reads_blocks(rt: HostRuntime) -> Result<(), Fail> {
 fn reads_words(rt: HostRuntime) -> Result<(), Fail> {
     let tokens = [SHARED, NAME, ASSIGN, MINUS, NUMBER, SEMICOLON];
     let items = read_items(rt.alloc(), b"f", &tokens).ok().ok_or("refused")?;
-    assert!(rt; matches!(items.0.as_slice(), [Item::Word { first: -7, .. }]));
+    assert!(rt; matches!(items.0.as_slice(), [FileItem::Word { first: -7, .. }]));
     Ok(())
 }
 

@@ -14,7 +14,7 @@ const LARGEST_COUNT: u64 = 2147483647;
 
 /// The first value of a word.
 #[derive(Drop)]
-pub enum Given {
+pub enum InitialValue {
     None,
     Plus(Number),
     Minus(Number),
@@ -23,7 +23,7 @@ pub enum Given {
 /// An item without a block.
 #[derive(Drop)]
 pub enum Declaration {
-    Word(Name, Given),
+    Word(Name, InitialValue),
     /// An array, and how many cells it has.
     Array(Name, u64),
     Mutex(Name),
@@ -103,7 +103,7 @@ fn shared_named(x: Name, spot: Spot) -> Option<HeadNext>
     ensures { next_if result ≡ m.shared_named x (token_of spot.entry) }
 {
     if spot.is_sign(Sign::Semicolon) {
-        Some(HeadNext::Declares(Declaration::Word(x, Given::None)))
+        Some(HeadNext::Declares(Declaration::Word(x, InitialValue::None)))
     } else if spot.is_sign(Sign::Assign) {
         Some(HeadNext::Goes(Head::SharedValue(x)))
     } else if spot.is_sign(Sign::BracketOpen) {
@@ -120,7 +120,7 @@ fn shared_value(x: Name, spot: Spot) -> Option<HeadNext>
         return Some(HeadNext::Goes(Head::SharedMinus(x)));
     }
     match spot.number() {
-        Some(n) => Some(HeadNext::Goes(Head::Ending(Declaration::Word(x, Given::Plus(n))))),
+        Some(n) => Some(HeadNext::Goes(Head::Ending(Declaration::Word(x, InitialValue::Plus(n))))),
         None => None,
     }
 }
@@ -129,7 +129,7 @@ fn shared_minus(x: Name, spot: Spot) -> Option<HeadNext>
     ensures { next_if result ≡ m.head_step (m.SharedMinus x) (token_of spot.entry) }
 {
     match spot.number() {
-        Some(n) => Some(HeadNext::Goes(Head::Ending(Declaration::Word(x, Given::Minus(n))))),
+        Some(n) => Some(HeadNext::Goes(Head::Ending(Declaration::Word(x, InitialValue::Minus(n))))),
         None => None,
     }
 }

@@ -1,13 +1,13 @@
 //! Reads the items of a file.
 ghost use Rattle.std.specs.Prelude.{All};
 ghost use Rattle.loom_tree.specs.Token.{IsSmall};
-ghost use Rattle.loom_syntax.specs.Small.{IsWithin};
-ghost use Rattle.loom_syntax.specs.View.{places};
-ghost use Rattle.loom_syntax.specs.Items.{IsRead};
+ghost use Rattle.loom_tree.specs.Token.{IsWithin};
+ghost use Rattle.loom_syntax.specs.View.{line_tokens};
+ghost use Rattle.loom_syntax.specs.SyntaxError.{TellsFile};
 
-use crate::file::{State, finish, step};
+use crate::file::{FileReader, feed, finish};
 use crate::token::Spot;
-use loom_tree::item::Items;
+use loom_tree::item::FileItems;
 use loom_tree::name::NoMemory;
 use loom_tree::token::Token;
 use std::alloc::Global;
@@ -33,19 +33,19 @@ impl From<NoMemory> for SyntaxError {
 }
 
 /// The items of the file that these tokens of a text are, or the first of them behind which no file can follow.
-pub fn read_items(alloc: Global, bytes: &[u8], tokens: &[Token]) -> Result<Items, SyntaxError>
+pub fn read_items(alloc: Global, bytes: &[u8], tokens: &[Token]) -> Result<FileItems, SyntaxError>
     requires small { All (λ t. IsSmall t.kind) tokens.now }
     requires within { All (IsWithin bytes.now) tokens.now }
-    ensures { IsRead (places bytes.now tokens.now) result }
+    ensures { TellsFile (line_tokens bytes.now tokens.now) result }
 {
-    let mut state = State::Between(Vec::new(alloc));
+    let mut reader = FileReader::Between(Vec::new(alloc));
     'read: for (i, token) in tokens.iter().enumerate() {
-        match step(alloc, state, Spot::new(bytes, *token))? {
-            Some(next) => state = next,
+        match feed(alloc, reader, Spot::new(bytes, *token))? {
+            Some(next) => reader = next,
             None => return Err(SyntaxError::Syntax(i)),
         }
     }
-    match finish(state) {
+    match finish(reader) {
         Some(items) => Ok(items),
         None => Err(SyntaxError::Syntax(tokens.len())),
     }

@@ -2,10 +2,10 @@
 ghost use Rattle.std.specs.Prelude.{◌≡◌, IfOk, Some};
 ghost use Rattle.loom_tree.specs.Tree as tree;
 ghost use Rattle.loom_tree.specs.Tree.{expression_of, expressions_of};
-ghost use Rattle.loom_expression.specs.Machine as expression;
-ghost use Rattle.loom_expression.specs.View.{state_of};
+ghost use Rattle.loom_expression.specs.Reader as expression;
+ghost use Rattle.loom_expression.specs.View.{reader_of};
 ghost use Rattle.loom_syntax.specs.TokenView.{token_of};
-ghost use Rattle.loom_syntax.specs.StatementView.{goal_of, next_if, next_of, part_if, part_of, purpose_of, simple_of, sync_of, target_of, test_of};
+ghost use Rattle.loom_syntax.specs.StatementView.{goal_of, next_if, next_of, part_if, part_of, purpose_of, simple_of, sync_of, assignee_of, test_of};
 ghost use Rattle.loom_syntax.specs.Part as m;
 
 use crate::token::Spot;
@@ -26,7 +26,7 @@ pub enum Binding {
 
 /// What a value is written to.
 #[derive(Drop)]
-pub struct Target {
+pub struct Assignee {
     pub binding: Binding,
     pub name: Name,
 }
@@ -42,7 +42,7 @@ pub enum Arguing {
 #[derive(Drop)]
 pub enum Goal {
     Call(Name),
-    Right(Arguing, Target, Name),
+    Right(Arguing, Assignee, Name),
 }
 
 /// What is done with a mutex or a semaphore.
@@ -64,7 +64,7 @@ pub enum Test {
 /// What an expression is for.
 #[derive(Drop)]
 pub enum Purpose {
-    Value(Target),
+    Value(Assignee),
     /// An argument behind those before it.
     Argument(Goal, Vec<Expr>),
     Index(Name),
@@ -99,11 +99,11 @@ pub enum Part {
     LetAssign(Name),
     /// `=`, `[` or `(` behind a name.
     Started(Name),
-    RightOf(Target),
+    RightOf(Assignee),
     /// A name was read, of a function if `(` follows, else of an expression.
-    RightNamed(Target, Name),
-    SpawnName(Target),
-    SpawnOpen(Target, Name),
+    RightNamed(Assignee, Name),
+    SpawnName(Assignee),
+    SpawnOpen(Assignee, Name),
     SyncName(SyncKind),
     TestOpen(Test),
     /// The first argument, or `)`.
@@ -128,8 +128,8 @@ pub enum PartNext {
     Opens(Test, Expr),
 }
 
-fn assigned(target: Target, right: Right) -> Simple
-    ensures { simple_of result ≡ m.assigned (target_of target) (tree.right_of right) }
+fn assigned(target: Assignee, right: Right) -> Simple
+    ensures { simple_of result ≡ m.assigned (assignee_of target) (tree.right_of right) }
 {
     match target.binding {
         Binding::Let => Simple::Let(target.name, right),
@@ -160,7 +160,7 @@ fn synced(sync: SyncKind, x: Name) -> Simple
 
 /// Behind this token an expression of this purpose must follow. An `Err` is want of memory.
 fn read(alloc: Global, purpose: Purpose) -> Result<Part, NoMemory>
-    ensures { IfOk result (λ q. part_of q ≡ m.Reading (purpose_of purpose) expression.start) }
+    ensures { IfOk result (λ q. part_of q ≡ m.Reading (purpose_of purpose) expression.fresh) }
 {
     Ok(Part::Reading(Box::new(alloc, purpose)?, Reader::new(alloc)))
 }
@@ -225,7 +225,7 @@ fn closed(alloc: Global, purpose: Purpose, e: Expr, spot: Spot) -> Result<PartNe
 
 /// Whether the token ends the expression.
 fn ends_here(purpose: &Purpose, reader: &Reader, spot: Spot) -> bool
-    ensures { result ≡ m.ends_here (purpose_of purpose.now) (state_of reader.now) (token_of spot.entry) }
+    ensures { result ≡ m.ends_here (purpose_of purpose.now) (reader_of reader.now) (token_of spot.entry) }
 {
     reader.is_whole() && closes(purpose, spot)
 }
@@ -237,7 +237,7 @@ fn close(
     reader: Reader,
     spot: Spot,
 ) -> Result<Option<PartNext>, NoMemory>
-    ensures { IfOk result (λ r. next_if r ≡ expression.after (expression.finish expression.plain (state_of reader)) (λ e. Some (m.closed (purpose_of purpose) e (token_of spot.entry)))) }
+    ensures { IfOk result (λ r. next_if r ≡ expression.after (expression.finish expression.plain (reader_of reader)) (λ e. Some (m.closed (purpose_of purpose) e (token_of spot.entry)))) }
 {
     match reader.finish(alloc)? {
         Some(e) => Ok(Some(closed(alloc, purpose, e, spot)?)),
@@ -252,7 +252,7 @@ fn feed(
     reader: Reader,
     spot: Spot,
 ) -> Result<Option<PartNext>, NoMemory>
-    ensures { IfOk result (λ r. next_if r ≡ expression.after (expression.step expression.plain (state_of reader) (token_of spot.entry)) (λ s. Some (m.PartNext.Goes (m.Reading (purpose_of purpose.value) s)))) }
+    ensures { IfOk result (λ r. next_if r ≡ expression.after (expression.feed expression.plain (reader_of reader) (token_of spot.entry)) (λ s. Some (m.PartNext.Goes (m.Reading (purpose_of purpose.value) s)))) }
 {
     match reader.feed(alloc, spot.bytes, spot.token)? {
         Some(next) => Ok(Some(PartNext::Goes(Part::Reading(purpose, next)))),
@@ -267,7 +267,7 @@ fn read_step(
     reader: Reader,
     spot: Spot,
 ) -> Result<Option<PartNext>, NoMemory>
-    ensures { IfOk result (λ r. next_if r ≡ m.read_step expression.plain (purpose_of purpose.value) (state_of reader) (token_of spot.entry)) }
+    ensures { IfOk result (λ r. next_if r ≡ m.read_step expression.plain (purpose_of purpose.value) (reader_of reader) (token_of spot.entry)) }
 {
     if ends_here(&purpose, &reader, spot) {
         close(alloc, Box::into_inner(purpose), reader, spot)
@@ -278,7 +278,7 @@ fn read_step(
 
 /// The first token of an expression. An `Err` is want of memory.
 fn read_first(alloc: Global, purpose: Purpose, spot: Spot) -> Result<Option<PartNext>, NoMemory>
-    ensures { IfOk result (λ r. next_if r ≡ m.read_step expression.plain (purpose_of purpose) expression.start (token_of spot.entry)) }
+    ensures { IfOk result (λ r. next_if r ≡ m.read_step expression.plain (purpose_of purpose) expression.fresh (token_of spot.entry)) }
 {
     read_step(alloc, Box::new(alloc, purpose)?, Reader::new(alloc), spot)
 }
@@ -346,7 +346,7 @@ fn let_assign(name: Name, spot: Spot) -> Option<PartNext>
 {
     if spot.is_sign(Sign::Assign) {
         let binding = Binding::Let;
-        Some(PartNext::Goes(Part::RightOf(Target { binding, name })))
+        Some(PartNext::Goes(Part::RightOf(Assignee { binding, name })))
     } else {
         None
     }
@@ -357,7 +357,7 @@ fn started(alloc: Global, name: Name, spot: Spot) -> Result<Option<PartNext>, No
 {
     if spot.is_sign(Sign::Assign) {
         let binding = Binding::Set;
-        Ok(Some(PartNext::Goes(Part::RightOf(Target { binding, name }))))
+        Ok(Some(PartNext::Goes(Part::RightOf(Assignee { binding, name }))))
     } else if spot.is_sign(Sign::BracketOpen) {
         Ok(Some(PartNext::Goes(read(alloc, Purpose::Index(name))?)))
     } else if spot.is_sign(Sign::ParenOpen) {
@@ -367,8 +367,8 @@ fn started(alloc: Global, name: Name, spot: Spot) -> Result<Option<PartNext>, No
     }
 }
 
-fn right_of(alloc: Global, target: Target, spot: Spot) -> Result<Option<PartNext>, NoMemory>
-    ensures { IfOk result (λ r. next_if r ≡ m.right_of expression.plain (target_of target) (token_of spot.entry)) }
+fn right_of(alloc: Global, target: Assignee, spot: Spot) -> Result<Option<PartNext>, NoMemory>
+    ensures { IfOk result (λ r. next_if r ≡ m.right_of expression.plain (assignee_of target) (token_of spot.entry)) }
 {
     if spot.is_keyword(Keyword::Spawn) {
         return Ok(Some(PartNext::Goes(Part::SpawnName(target))));
@@ -381,11 +381,11 @@ fn right_of(alloc: Global, target: Target, spot: Spot) -> Result<Option<PartNext
 
 fn right_named(
     alloc: Global,
-    target: Target,
+    target: Assignee,
     f: Name,
     spot: Spot,
 ) -> Result<Option<PartNext>, NoMemory>
-    ensures { IfOk result (λ r. next_if r ≡ m.right_named expression.plain (target_of target) f (token_of spot.entry)) }
+    ensures { IfOk result (λ r. next_if r ≡ m.right_named expression.plain (assignee_of target) f (token_of spot.entry)) }
 {
     if spot.is_sign(Sign::ParenOpen) {
         let goal = Goal::Right(Arguing::Call, target, f);
@@ -401,8 +401,8 @@ fn right_named(
     }
 }
 
-fn spawn_name(alloc: Global, target: Target, spot: Spot) -> Result<Option<PartNext>, NoMemory>
-    ensures { IfOk result (λ r. next_if r ≡ m.part_step expression.plain (m.SpawnName (target_of target)) (token_of spot.entry)) }
+fn spawn_name(alloc: Global, target: Assignee, spot: Spot) -> Result<Option<PartNext>, NoMemory>
+    ensures { IfOk result (λ r. next_if r ≡ m.part_step expression.plain (m.SpawnName (assignee_of target)) (token_of spot.entry)) }
 {
     match spot.name(alloc)? {
         Some(f) => Ok(Some(PartNext::Goes(Part::SpawnOpen(target, f)))),
@@ -410,8 +410,8 @@ fn spawn_name(alloc: Global, target: Target, spot: Spot) -> Result<Option<PartNe
     }
 }
 
-fn spawn_open(target: Target, f: Name, spot: Spot) -> Option<PartNext>
-    ensures { next_if result ≡ m.part_step expression.plain (m.SpawnOpen (target_of target) f) (token_of spot.entry) }
+fn spawn_open(target: Assignee, f: Name, spot: Spot) -> Option<PartNext>
+    ensures { next_if result ≡ m.part_step expression.plain (m.SpawnOpen (assignee_of target) f) (token_of spot.entry) }
 {
     if spot.is_sign(Sign::ParenOpen) {
         let goal = Goal::Right(Arguing::Spawn, target, f);

@@ -26,8 +26,8 @@ pub struct Spot<'a> {
 }
 
 impl<'a> Spot<'a> {
-    ghost use Rattle.loom_tree.specs.Token.{placed_of};
-    ghost use Rattle.loom_syntax.specs.Small.{IsWithin};
+    ghost use Rattle.loom_tree.specs.Token.{line_token_of};
+    ghost use Rattle.loom_tree.specs.Token.{IsWithin};
     ghost use Rattle.loom_syntax.specs.Tests.{is_keyword, is_minus, is_sign, name_of, number_of};
     ghost use Rattle.loom_syntax.specs.TokenView.{number_if, spot_of, token_of};
 
@@ -35,7 +35,7 @@ impl<'a> Spot<'a> {
     pub fn new(bytes: &'a [u8], token: Token) -> Spot<'a>
         requires small { IsSmall token.kind }
         requires within { IsWithin bytes.now token }
-        ensures { spot_of result ≡ placed_of bytes.now token }
+        ensures { spot_of result ≡ line_token_of bytes.now token }
     {
         Spot { bytes, token }
     }

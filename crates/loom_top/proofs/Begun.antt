@@ -8,11 +8,8 @@ use Rattle.loom_tree.specs.declared.item.Word.{Word}
 use Rattle.loom_tree.specs.Tree.{Function, Source}
 use Rattle.loom_lang.specs.Rules.{is_in, is_distinct, takes, shared_names, cells_of, cell_count, KeepsRules}
 use Rattle.loom_lang.specs.Numbers.{position, function_number}
-use Rattle.loom_lang.specs.Trace.{Open, thread}
-use Rattle.loom_law.specs.Part.{IsPart}
-use Rattle.loom_law.specs.Asked.{IsFunctionWith}
-use Rattle.loom_law.specs.Replay.{first_values, main_thread, start}
-use Rattle.loom_top.specs.Driven.{IsDriven}
+use Rattle.loom_event.specs.Answer.{IsFunctionWith}
+use Rattle.loom_event.specs.Replay.{first_values}
 
 -- The number of `main`
 
@@ -70,23 +67,8 @@ many_values : (w : Word) (c : Option ℕ) → w.cells ≡ c → length (first_va
 many_values w None is = rw is refl
 many_values w (Some n) is = rw is (length-replicate n w.first)
 
-many_cells : (ws : List Word) → length (flat_map (λ (x : Word). first_values x.cells x.first) ws) ≡ cell_count ws
+pub many_cells : (ws : List Word) → length (flat_map (λ (x : Word). first_values x.cells x.first) ws) ≡ cell_count ws
 many_cells [] = refl
 many_cells (w ∷ ws) =
     let rest : List ℤ = flat_map (λ (x : Word). first_values x.cells x.first) ws in
     length-append (first_values w.cells w.first) rest ∙ ap (λ z. z + length rest) (many_values w w.cells refl) ∙ ap (λ z. cells_of w + z) (many_cells ws)
-
--- Before the first entry
-
-pub first_driven : (p : Source) (f : ℕ) → function_number p (codes "main") ≡ Some f → IsDriven p f [] (start p).words
-first_driven p f is = record {
-  own = refl;
-  allowed = tt;
-  store = ap (λ (z : Option ℕ). record { words = (start p).words; holders = (start p).holders; semas = (start p).semas; spawned = main_thread z }) is;
-  cells = many_cells p.words;
-}
-
-pub first_part : (p : Source) (f : ℕ) → IsFunctionWith p f [] → IsPart p 1 f [] []
-first_part p f h =
-    let P : Option Function → Type 0 = λ z. thread p z f [] 0 [] Open in
-    record { items = []; outcome = Open; trace = record { most_turns = 0; gives = subst P (sym h.1) (inl (refl, refl)) }; told = refl }

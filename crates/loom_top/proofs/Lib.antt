@@ -1,6 +1,6 @@
-pub mod Own
+pub mod OneThread
 pub mod Turns
-pub mod Finished
+pub mod Ends
 pub mod Begun
 pub mod UnderWay
 pub mod Words

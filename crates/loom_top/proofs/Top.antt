@@ -1,8 +1,12 @@
 -- From what was owed and what was put to what the top call answers.
-use Rattle.std.proofs.Common.{ℕ, ◌+◌, ◌<◌, ◌≤◌, ◌≡◌, ◌⊎◌, inl, inr, true, false, List, [], ◌∷◌, ◌++◌, codes, Option, Some, None, IfSome, Result, Ok, Err, OnErr, take, length, refl, sym, ap, subst, ◌∙◌, append-nil, arith}
+use Rattle.std.proofs.Common.{ℕ, ◌+◌, ◌<◌, ◌≤◌, ◌≡◌, ◌≢◌, ◌⊎◌, inl, inr, true, false, List, [], ◌∷◌, ◌++◌, codes, Option, Result, Ok, Err, OnErr, take, length, refl, sym, ap, subst, ◌∙◌, append-nil, arith}
 use Rattle.std.proofs.lemmas.List.{take_all, length-take}
 use Rattle.std.specs.Io.KnownBytes.{Appends}
-use Rattle.loom_io.specs.Causes.{Rose, TookFront}
+use Rattle.loom_io.specs.Fault.{Rose}
+use Rattle.loom_io.specs.declared.shelf.ShelfError.{ShelfError}
+use Rattle.loom_io.specs.declared.shelf.ShelfError.TheVariants as error
+use Rattle.loom_io.specs.Shelf.{FileState, Untold, Missing, Present, IsRead}
+use Rattle.loom_io.specs.Sink.{TookFront}
 use Rattle.loom_io.proofs.Pages.{front_behind}
 use Rattle.loom_tree.specs.Tree.{Source}
 use Rattle.loom_tree.specs.Decimal.{decimal}
@@ -14,17 +18,17 @@ use Rattle.loom_lang.specs.Program.{IsProgram}
 use Rattle.loom_lang.specs.Laws.{HasOneProgram}
 use Rattle.loom_top.specs.declared.status.Status.{Status}
 use Rattle.loom_top.specs.declared.status.Status.TheVariants as status
-use Rattle.loom_top.specs.Built.{is_built}
+use Rattle.loom_top.specs.Runnable.{is_runnable}
 use Rattle.loom_top.specs.Code.{code, ended_as}
 use Rattle.loom_top.specs.Command.{Command, IsPlain, IsLimited, IsCommand}
-use Rattle.loom_top.specs.Answers.{CanRun, CanEnd, IsRunOf, Seen, FileOwes, IsFileOf, Owes, Answers, IsValid, Put, FileEnds, source_limit}
+use Rattle.loom_top.specs.Answers.{CanRun, CanEnd, IsRunOf, Call, FileOwes, CanBe, IsFileOf, Owes, Answers, IsValid, IsMissing, Put, FileEnds, source_limit}
 
 -- a text, and then a front of another
 pub front_after : (a b c : Option (List ℕ)) (x y : List ℕ) → Appends a b x → TookFront b c y → TookFront a c (x ++ y)
 front_after a b c x y h k = front_behind a b c [] [] x y (record { taken = x; appended = h; whole = sym (append-nil x) }) k
 
 -- what is owed and was put is what the call answers
-pub answered : (s : Seen) (words : List (List ℕ)) (text : List ℕ) (owed result : Status) → Owes s words owed text
+pub answered : (s : Call) (words : List (List ℕ)) (text : List ℕ) (owed result : Status) → Owes s words owed text
     → Put s.taken_before s.taken_after s.sink_before s.sink_after text owed result → Answers s words result
 answered s words text owed result o (inr h) =
     let P : Status → Type 0 = λ z. Answers s words z in
@@ -43,45 +47,51 @@ answered s words text owed result o (inl h) =
     whole status.Limit k = (text, k, h.1)
     whole status.TooLong k = (text, k, h.1)
 
-pub owes_file : (s : Seen) (words : List (List ℕ)) (a : Command) (file text : List ℕ) (owed : Status) → IsCommand words a → IsFileOf s a.name file
+pub owes_file : (s : Call) (words : List (List ℕ)) (a : Command) (file text : List ℕ) (owed : Status) → IsCommand words a → s.told a.name ≢ Missing → IsFileOf s a.name file
     → length file ≤ source_limit → FileOwes file a.limit owed text → Owes s words owed text
-owes_file s words a file text status.Done c t l o = (a, c, file, t, l, o)
-owes_file s words a file text status.Limit c t l o = (a, c, file, t, l, o)
-owes_file s words a file text status.Refused c t l o = (a, c, file, t, l, o)
-owes_file s words a file text status.NoMemory c t l o = (a, c, o)
-owes_file s words a file text status.Usage c t l o = absurd o
-owes_file s words a file text status.ReadFault c t l o = absurd o
-owes_file s words a file text status.WriteFault c t l o = absurd o
-owes_file s words a file text status.TooLong c t l o = absurd o
+owes_file s words a file text status.Done c m t l o = (a, c, file, t, l, o)
+owes_file s words a file text status.Limit c m t l o = (a, c, file, t, l, o)
+owes_file s words a file text status.Refused c m t l o = (a, c, file, t, l, o)
+owes_file s words a file text status.NoMemory c m t l o = (a, c, m, o)
+owes_file s words a file text status.Usage c m t l o = absurd o
+owes_file s words a file text status.ReadFault c m t l o = absurd o
+owes_file s words a file text status.WriteFault c m t l o = absurd o
+owes_file s words a file text status.TooLong c m t l o = absurd o
 
--- what a shelf answered of a file
-abbrev pub WasRead : Option (List ℕ) → List ℕ → Type 0
-WasRead told bytes = IfSome told (λ file. bytes ≡ take (65536 + 1) file)
-
-pub whole_file : (told : Option (List ℕ)) (bytes : List ℕ) → WasRead told bytes → length bytes ≤ source_limit → IfSome told (λ file. file ≡ bytes)
-whole_file None bytes h l = tt
-whole_file (Some file) bytes h l = sym (h ∙ take_all 65537 file (omega (arith, ap length h, l, length-take 65537 file)))
+pub whole_file : (told : FileState) (bytes : List ℕ) → IsRead told source_limit bytes → length bytes ≤ source_limit → CanBe told bytes
+whole_file Untold bytes h l = tt
+whole_file Missing bytes h l = absurd h
+whole_file (Present file) bytes h l = sym (h ∙ take_all 65537 file (omega (arith, ap length h, l, length-take 65537 file)))
 
 -- A file with more bytes is told to be longer than a program.
-pub long_file : (told : Option (List ℕ)) (bytes : List ℕ) → WasRead told bytes → source_limit < length bytes → (file : List ℕ) × IfSome told (λ whole. whole ≡ file) × (source_limit < length file)
-long_file None bytes h l = (bytes, tt, l)
-long_file (Some file) bytes h l = (file, refl, omega (arith, ap length h, l, length-take 65537 file))
+pub long_file : (told : FileState) (bytes : List ℕ) → IsRead told source_limit bytes → source_limit < length bytes → (file : List ℕ) × CanBe told file × (source_limit < length file)
+long_file Untold bytes h l = (bytes, tt, l)
+long_file Missing bytes h l = absurd h
+long_file (Present file) bytes h l = (file, refl, omega (arith, ap length h, l, length-take 65537 file))
 
-pub long_owes : (s : Seen) (words : List (List ℕ)) (a : Command) (bytes : List ℕ) → IsCommand words a → WasRead (s.told a.name) bytes
+-- Where memory ran out, no file was missing.
+pub other_error : {T : Type 0} {told : FileState} {x : ShelfError} → x ≡ error.NoMemory → (told ≡ Missing → let failed : Result T ShelfError = Err x in failed ≡ Err error.Failed) → told ≢ Missing
+other_error is h e = let f = h e in cc
+
+-- A file that was read isn't missing.
+pub not_missing : (told : FileState) (bytes : List ℕ) → IsRead told source_limit bytes → told ≢ Missing
+not_missing told bytes h e = subst (λ (z : FileState). IsRead z source_limit bytes) e h
+
+pub long_owes : (s : Call) (words : List (List ℕ)) (a : Command) (bytes : List ℕ) → IsCommand words a → IsRead (s.told a.name) source_limit bytes
     → source_limit < length bytes → Owes s words status.TooLong (codes "too long: " ++ (a.name ++ codes "\n"))
 long_owes s words a bytes c r l =
     let f = long_file (s.told a.name) bytes r l in
     (a, c, f.0, f.1, f.2, refl)
 
-pub long_answered : (s : Seen) (words : List (List ℕ)) (a : Command) (bytes : List ℕ) (result : Status) → IsCommand words a → WasRead (s.told a.name) bytes
+pub long_answered : (s : Call) (words : List (List ℕ)) (a : Command) (bytes : List ℕ) (result : Status) → IsCommand words a → IsRead (s.told a.name) source_limit bytes
     → source_limit < length bytes → Put s.taken_before s.taken_after s.sink_before s.sink_after (codes "too long: " ++ (a.name ++ codes "\n")) status.TooLong result → Answers s words result
 long_answered s words a bytes result c r l put =
     answered s words (codes "too long: " ++ (a.name ++ codes "\n")) status.TooLong result (long_owes s words a bytes c r l) put
 
-pub file_answered : (s : Seen) (words : List (List ℕ)) (a : Command) (bytes : List ℕ) (result : Status) → IsCommand words a → WasRead (s.told a.name) bytes
+pub file_answered : (s : Call) (words : List (List ℕ)) (a : Command) (bytes : List ℕ) (result : Status) → IsCommand words a → IsRead (s.told a.name) source_limit bytes
     → length bytes ≤ source_limit → FileEnds bytes a.limit s.taken_before s.taken_after s.sink_before s.sink_after result → Answers s words result
 file_answered s words a bytes result c r l e =
-    answered s words e.1 e.0 result (owes_file s words a bytes e.1 e.0 c (whole_file (s.told a.name) bytes r l) l e.2) e.3
+    answered s words e.1 e.0 result (owes_file s words a bytes e.1 e.0 c (not_missing (s.told a.name) bytes r) (whole_file (s.told a.name) bytes r l) l e.2) e.3
 
 other_end : (kind : Ending) → (kind ≡ k.Done → ⊥) → (kind ≡ k.Limit → ⊥) → CanEnd kind → ⊥
 other_end kind done limit (inl h) = done h
@@ -112,12 +122,14 @@ one_name words a b h k = by_forms h.form k.form
     by_forms (inr x) (inl y) = let e : limited a ≡ plain b = sym x.is ∙ y.is in cc
     by_forms (inr x) (inr y) = let e : limited a ≡ limited b = sym x.is ∙ y.is in cc
 
-pub told_one : (s : Seen) (a b : List ℕ) (file : List ℕ) (P : List ℕ → Type 0) → a ≡ b → s.told b ≡ Some file → IfSome (s.told a) P → P file
-told_one s a b file P e is h =
-    let Q : Option (List ℕ) → Type 0 = λ z. IfSome z P in
-    subst Q (ap s.told e ∙ is) h
+pub told_one : (s : Call) (a b : List ℕ) (state : FileState) (file : List ℕ) → a ≡ b → s.told b ≡ state → CanBe (s.told a) file → CanBe state file
+told_one s a b state file e is h = subst (λ (z : FileState). CanBe z file) (ap s.told e ∙ is) h
 
-pub complete : (s : Seen) (words : List (List ℕ)) (x : Status) → Answers s words x → IsValid s words → (code x ≡ 0) ⊎ ((code x ≡ 8) ⊎ (code x ≡ 6))
+-- no bytes can be those of a missing file
+none_told : (s : Call) (words : List (List ℕ)) → IsMissing s words → (c : Command) → IsCommand words c → (file : List ℕ) → IsFileOf s c.name file → ⊥
+none_told s words v c asks file is = told_one s c.name v.command.name Missing file (one_name words c v.command asks v.asks) v.told is
+
+pub complete : (s : Call) (words : List (List ℕ)) (x : Status) → Answers s words x → IsValid s words → (code x ≡ 0) ⊎ ((code x ≡ 8) ⊎ (code x ≡ 6))
 complete s words status.Done h v = inl refl
 complete s words status.Limit h v = inr (inl refl)
 complete s words status.NoMemory h v = inr (inr refl)
@@ -128,20 +140,31 @@ complete s words status.ReadFault h v =
     absurd (v.read (subst P (one_name words o.0 v.command o.1 v.asks) o.2))
 complete s words status.TooLong h v =
     let o = h.1 in
-    let same = told_one s o.0.name v.command.name v.file (λ z. z ≡ o.2) (one_name words o.0 v.command o.1 v.asks) v.told o.3 in
+    let same = told_one s o.0.name v.command.name (Present v.file) o.2 (one_name words o.0 v.command o.1 v.asks) v.told o.3 in
     absurd (omega (arith, ap length same, o.4, v.small))
 complete s words status.Refused h v =
     let o = h.1 in
-    let same = told_one s o.0.name v.command.name v.file (λ z. z ≡ o.2) (one_name words o.0 v.command o.1 v.asks) v.told o.3 in
+    let same = told_one s o.0.name v.command.name (Present v.file) o.2 (one_name words o.0 v.command o.1 v.asks) v.told o.3 in
     let P : List ℕ → Type 0 = λ z. CanRun z v.program in
     absurd (o.5.0 v.program (subst P same v.runs))
 complete s words status.WriteFault h v = absurd (v.written h.0)
 
+-- a missing file is told as a read fault, or the sink fails
+pub only_fault : (s : Call) (words : List (List ℕ)) (x : Status) → Answers s words x → IsMissing s words → (code x ≡ 4) ⊎ (code x ≡ 5)
+only_fault s words status.ReadFault h v = inl refl
+only_fault s words status.WriteFault h v = inr refl
+only_fault s words status.Usage h v = absurd (h.1.0 v.command v.asks)
+only_fault s words status.NoMemory h v = absurd (h.1.2 (ap s.told (one_name words h.1.0 v.command h.1.1 v.asks) ∙ v.told))
+only_fault s words status.Done h v = absurd (none_told s words v h.1.0 h.1.1 h.1.2 h.1.3)
+only_fault s words status.Limit h v = absurd (none_told s words v h.1.0 h.1.1 h.1.2 h.1.3)
+only_fault s words status.Refused h v = absurd (none_told s words v h.1.0 h.1.1 h.1.2 h.1.3)
+only_fault s words status.TooLong h v = absurd (none_told s words v h.1.0 h.1.1 h.1.2 h.1.3)
+
 -- a program that the bytes are is the only one
-pub not_built : (one : HasOneProgram) (file : List ℕ) (p q : Source) → IsProgram file p → is_built p ≡ false → CanRun file q → ⊥
+pub not_built : (one : HasOneProgram) (file : List ℕ) (p q : Source) → IsProgram file p → is_runnable p ≡ false → CanRun file q → ⊥
 not_built one file p q h unbuilt c =
     let same : p ≡ q = one file p q h c.program in
-    let e : is_built p ≡ true = ap is_built same ∙ c.built in
+    let e : is_runnable p ≡ true = ap is_runnable same ∙ c.runnable in
     cc
 
 pub none_runs : (file : List ℕ) → ((p : Source) → IsProgram file p → ⊥) → (p : Source) → CanRun file p → ⊥

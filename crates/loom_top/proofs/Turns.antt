@@ -1,74 +1,29 @@
--- Each turn of a run keeps what is known of it.
-use Rattle.std.proofs.Common.{ℕ, ◌<◌, ◌≡◌, inl, inr, ℤ, pos, Bool, true, false, not, List, [], ◌∷◌, ◌++◌, length, slice_set, refl, sym, ap, subst, ◌∙◌, append_assoc, append-nil, arith}
+-- Each turn of a run of one thread keeps what is known of it.
+use Rattle.std.proofs.Common.{ℕ, ◌<◌, ◌≡◌, inl, inr, ℤ, pos, Bool, true, false, not, List, [], ◌∷◌, ◌++◌, length, slice_set, Option, Some, None, refl, sym, ap, subst, ◌∙◌, arith}
 use Rattle.std.proofs.lemmas.Bool.{and_parts}
 use Rattle.std.proofs.lemmas.List.{length-set}
 use Rattle.loom_tree.specs.Tree.{Source}
-use Rattle.loom_lang.specs.Rules.{cell_count}
 use Rattle.loom_trace.specs.declared.entry.Entry.{Entry}
 use Rattle.loom_trace.specs.declared.entry.Entry.TheVariants as e
 use Rattle.loom_trace.specs.declared.request.Request.{Request}
 use Rattle.loom_trace.specs.declared.request.Request.TheVariants as r
-use Rattle.loom_law.specs.Event.{Event}
-use Rattle.loom_law.specs.Replay.{Store, start, IsRunning, after, replay, AreAllowed}
-use Rattle.loom_law.specs.Asked.{IsAnswerTo, HasNumbers}
-use Rattle.loom_strand.specs.Alone.{is_alone, NeedsNoOther}
-use Rattle.loom_strand.specs.Next.{is_begin, is_end, has_none, has_ended}
-use Rattle.loom_top.specs.Built.{is_nil, is_built}
+use Rattle.loom_lang.specs.Trace.{division, index, frames, begin, end, trap, read, write, print}
+use Rattle.loom_lang.specs.Acts.{Deed}
+use Rattle.loom_lang.specs.Rules.{cell_count}
+use Rattle.loom_event.specs.Answer.{IsAnswerTo, HasNumbers}
+use Rattle.loom_event.specs.Event.{entry_by}
+use Rattle.loom_event.specs.Replay.{IsRunning}
+use Rattle.loom_law.specs.Walk.{Plans, tick}
+use Rattle.loom_law.specs.Part.{AsksToMake, AsksToAct}
+use Rattle.loom_law.specs.Lawful.{plans}
+use Rattle.loom_strand.specs.Entries.{asks_begin, has_none, has_ended}
+use Rattle.loom_strand.specs.Alone.{has_one_thread, NeedsNoOther}
+use Rattle.loom_strand.specs.Strand.{AsksNext}
+use Rattle.loom_top.specs.Runnable.{is_nil, is_runnable}
 use Rattle.loom_top.specs.Turn.{AsksAlone, IsGranted}
-use Rattle.loom_top.specs.Driven.{events_in, events_of, is_own, all_own, alone, IsDriven}
-
--- One entry more
-
-own_append : (es : List Entry) (x : Entry) → all_own es ≡ true → is_own x ≡ true → all_own (es ++ x ∷ []) ≡ true
-own_append [] x h o = rw o refl
-own_append (y ∷ es) x h o = let parts = and_parts (is_own y) (all_own es) h in rw parts.0 (own_append es x parts.1 o)
-
-events_append : (es : List Entry) (x : Entry) → events_of (es ++ x ∷ []) ≡ events_of es ++ events_in x
-events_append [] x = append-nil (events_in x)
-events_append (y ∷ es) x = ap (λ z. events_in y ++ z) (events_append es x) ∙ sym (append_assoc (events_in y) (events_of es) (events_in x))
-
-some_more : (es : List Entry) (x : Entry) → has_none (es ++ x ∷ []) ≡ false
-some_more [] x = refl
-some_more (y ∷ es) x = refl
-
-ended_last : (es : List Entry) (x : Entry) → has_ended (es ++ x ∷ []) ≡ is_end x
-ended_last [] x = refl
-ended_last (y ∷ []) x = refl
-ended_last (y ∷ z ∷ es) x = ended_last (z ∷ es) x
-
--- One event more
-
-allowed_more : (s : Store) (xs ys : List Event) → AreAllowed s xs → AreAllowed (replay s xs) ys → AreAllowed s (xs ++ ys)
-allowed_more s [] ys h g = g
-allowed_more s (x ∷ xs) ys h g = (h.0, allowed_more (after s x) xs ys h.1 g)
-
-replay_more : (s : Store) (xs ys : List Event) → replay s (xs ++ ys) ≡ replay (replay s xs) ys
-replay_more s [] ys = refl
-replay_more s (x ∷ xs) ys = replay_more (after s x) xs ys
-
--- Thread 1 goes on by an entry that tells these events; `begun` says whether it made one before.
-goes_on : (p : Source) (f : ℕ) (es : List Entry) (vs us : List ℤ) (x : Entry) (begun : Bool) → IsDriven p f es vs → is_own x ≡ true → length us ≡ length vs
-    → has_none es ≡ not begun → has_ended es ≡ false → AreAllowed (alone p f vs begun false) (events_in x)
-    → replay (alone p f vs begun false) (events_in x) ≡ alone p f us true (is_end x) → IsDriven p f (es ++ x ∷ []) us
-goes_on p f es vs us x begun d own cells none lives allowed leads =
-    let before : replay (start p) (events_of es) ≡ alone p f vs begun false = d.store ∙ rw (none, lives) (twice begun) in
-    let P : List Event → Type 0 = λ z. AreAllowed (start p) z in
-    let Q : Store → Type 0 = λ z. AreAllowed z (events_in x) in
-    record {
-      own = own_append es x d.own own;
-      allowed = subst P (sym (events_append es x)) (allowed_more (start p) (events_of es) (events_in x) d.allowed (subst Q (sym before) allowed));
-      store =
-          ap (replay (start p)) (events_append es x) ∙ replay_more (start p) (events_of es) (events_in x)
-          ∙ ap (λ z. replay z (events_in x)) before ∙ leads ∙ rw (some_more es x, ended_last es x) refl;
-      cells = cells ∙ d.cells;
-    }
-  where
-    twice : (b : Bool) → alone p f vs (not (not b)) false ≡ alone p f vs b false
-    twice true = refl
-    twice false = refl
-
-running : (p : Source) (f : ℕ) (vs : List ℤ) → IsRunning (alone p f vs true false) 1
-running p f vs = record { state = record { func = f; args = []; begun = true; ended = false }; is = refl; begun = refl; not_ended = refl }
+use Rattle.loom_top.specs.Answers.{plain}
+use Rattle.loom_top.specs.OneThread.{main_store, main_own, IsOneThread}
+use Rattle.loom_top.proofs.OneThread.{first_taken, more_taken, act_goes, tick_goes}
 
 -- Requests that don't come
 
@@ -77,7 +32,7 @@ nothing_in [] n e h = omega (arith, h)
 nothing_in (x ∷ xs) n e h = cc
 
 -- Nothing else is asked for.
-pub asks_alone : (p : Source) (q : Request) → is_built p ≡ true → HasNumbers p q → (is_alone p ≡ true → NeedsNoOther q) → AsksAlone (cell_count p.words) q
+pub asks_alone : (p : Source) (q : Request) → is_runnable p ≡ true → HasNumbers p q → (has_one_thread p ≡ true → NeedsNoOther q) → AsksAlone (cell_count p.words) q
 asks_alone p (r.Begin l) b n a = tt
 asks_alone p (r.End l) b n a = tt
 asks_alone p (r.Trap l k) b n a = tt
@@ -87,48 +42,65 @@ asks_alone p (r.Lock l m) b n a = nothing_in p.mutexes m (and_parts (is_nil p.mu
 asks_alone p (r.Unlock l m) b n a = nothing_in p.mutexes m (and_parts (is_nil p.mutexes) _ b).0 n
 asks_alone p (r.Down l x) b n a = nothing_in p.semas x (and_parts (is_nil p.semas) _ (and_parts (is_nil p.mutexes) _ b).1).0 n
 asks_alone p (r.Up l x) b n a = nothing_in p.semas x (and_parts (is_nil p.semas) _ (and_parts (is_nil p.mutexes) _ b).1).0 n
-asks_alone p (r.Spawn l g us) b n a = a (and_parts (is_nil p.semas) (is_alone p) (and_parts (is_nil p.mutexes) _ b).1).1
-asks_alone p (r.Join l u) b n a = a (and_parts (is_nil p.semas) (is_alone p) (and_parts (is_nil p.mutexes) _ b).1).1
+asks_alone p (r.Spawn l g us) b n a = a (and_parts (is_nil p.semas) (has_one_thread p) (and_parts (is_nil p.mutexes) _ b).1).1
+asks_alone p (r.Join l u) b n a = a (and_parts (is_nil p.semas) (has_one_thread p) (and_parts (is_nil p.mutexes) _ b).1).1
 asks_alone p (r.Print l u) b n a = tt
 asks_alone p (r.Tick l k) b n a = tt
 
--- A turn
+-- Turns
 
-trap_goes : (p : Source) (f : ℕ) (es : List Entry) (vs : List ℤ) (l n : ℕ) → IsDriven p f es vs → HasNumbers p (r.Trap l n) → has_none es ≡ false → has_ended es ≡ false
-    → IsDriven p f (es ++ e.Trap 1 l n ∷ []) vs
-trap_goes p f es vs l n d (inl h) none lives =
-    subst (λ (z : ℕ). IsDriven p f (es ++ e.Trap 1 l z ∷ []) vs) (sym h) (goes_on p f es vs vs (e.Trap 1 l 1) true d refl refl none lives ((running p f vs, tt), tt) refl)
-trap_goes p f es vs l n d (inr (inl h)) none lives =
-    subst (λ (z : ℕ). IsDriven p f (es ++ e.Trap 1 l z ∷ []) vs) (sym h) (goes_on p f es vs vs (e.Trap 1 l 2) true d refl refl none lives ((running p f vs, tt), tt) refl)
-trap_goes p f es vs l n d (inr (inr h)) none lives =
-    subst (λ (z : ℕ). IsDriven p f (es ++ e.Trap 1 l z ∷ []) vs) (sym h) (goes_on p f es vs vs (e.Trap 1 l 6) true d refl refl none lives ((running p f vs, tt), tt) refl)
+running : (p : Source) (f : ℕ) (vs : List ℤ) → IsRunning (main_store p f vs true false) 1
+running p f vs = record { state = record { func = f; args = []; begun = true; ended = false }; is = refl; begun = refl; not_ended = refl }
 
-same_driven : (p : Source) (f : ℕ) (es : List Entry) (vs us : List ℤ) (x y : Entry) → x ≡ y → us ≡ vs → IsDriven p f (es ++ y ∷ []) vs → IsDriven p f (es ++ x ∷ []) us
-same_driven p f es vs us x y one all h = rw (one, all) h
+same_run : (p : Source) (f limit : ℕ) (es : List Entry) (vs us : List ℤ) (x y : Entry) → x ≡ y → us ≡ vs → IsOneThread p f limit (es ++ y ∷ []) vs → IsOneThread p f limit (es ++ x ∷ []) us
+same_run p f limit es vs us x y one all h = subst (λ z. IsOneThread p f limit (es ++ z ∷ []) us) (sym one) (subst (λ z. IsOneThread p f limit (es ++ y ∷ []) z) (sym all) h)
 
-pub turn_driven : (p : Source) (f : ℕ) (es : List Entry) (vs us : List ℤ) (q : Request) (x : Entry) → IsDriven p f es vs → HasNumbers p q
-    → is_begin q ≡ has_none es → has_ended es ≡ false → IsGranted vs us q x → IsDriven p f (es ++ x ∷ []) us
-turn_driven p f es vs us (r.Begin l) x d n begins lives g =
-    same_driven p f es vs us x _ g.0 g.1 (goes_on p f es vs vs (e.Begin 1 l) false d refl refl (sym begins) lives
-    (record { state = record { func = f; args = []; begun = false; ended = false }; is = refl; not_begun = refl }, tt) refl)
-turn_driven p f es vs us (r.End l) x d n begins lives g =
-    same_driven p f es vs us x _ g.0 g.1 (goes_on p f es vs vs (e.End 1 l) true d refl refl (sym begins) lives ((running p f vs, tt), tt) refl)
-turn_driven p f es vs us (r.Trap l k) x d n begins lives g = same_driven p f es vs us x _ g.0 g.1 (trap_goes p f es vs l k d n (sym begins) lives)
-turn_driven p f es vs us (r.Read l w) x d n begins lives g =
-    same_driven p f es vs us x _ g.2 g.3 (goes_on p f es vs vs (e.Read 1 l w g.0) true d refl refl (sym begins) lives ((running p f vs, g.1), tt) refl)
-turn_driven p f es vs us (r.Write l w v) x d n begins lives g =
-    same_driven p f es (slice_set vs w v) us x _ g.0 g.1
-    (goes_on p f es vs (slice_set vs w v) (e.Write 1 l w v) true d refl (length-set vs w v) (sym begins) lives ((running p f vs, tt), tt) refl)
-turn_driven p f es vs us (r.Lock l m) x d n begins lives g = absurd g
-turn_driven p f es vs us (r.Unlock l m) x d n begins lives g = absurd g
-turn_driven p f es vs us (r.Down l m) x d n begins lives g = absurd g
-turn_driven p f es vs us (r.Up l m) x d n begins lives g = absurd g
-turn_driven p f es vs us (r.Spawn l m ws) x d n begins lives g = absurd g
-turn_driven p f es vs us (r.Join l u) x d n begins lives g = absurd g
-turn_driven p f es vs us (r.Print l u) x d n begins lives g =
-    same_driven p f es vs us x _ g.0 g.1 (goes_on p f es vs vs (e.Print 1 l u) true d refl refl (sym begins) lives ((running p f vs, tt), tt) refl)
-turn_driven p f es vs us (r.Tick l k) x d n begins lives g =
-    same_driven p f es vs us x _ g.0 g.1 (goes_on p f es vs vs (e.Tick 1 l k) true d refl refl (sym begins) lives tt refl)
+trap_goes : (p : Source) (f limit : ℕ) (es : List Entry) (vs : List ℤ) (l n : ℕ) → (s : IsOneThread p f limit es vs) → length es < limit → HasNumbers p (r.Trap l n) → has_none es ≡ false → has_ended es ≡ false
+    → AsksToAct p (plans (plain p limit)) (main_own f es) (r.Trap l n) → IsOneThread p f limit (es ++ e.Trap 1 l n ∷ []) vs
+trap_goes p f limit es vs l n s few (inl h) none lives asks =
+    let q = subst (λ z. AsksToAct p (plans (plain p limit)) (main_own f es) (r.Trap l z)) h asks in
+    subst (λ z. IsOneThread p f limit (es ++ e.Trap 1 l z ∷ []) vs) (sym h)
+    (act_goes p f limit es vs vs (r.Trap l 1) (record { line = l; act = trap division }) true s few none lives refl q (inr refl) refl (more_taken es (e.Trap 1 l 1) none refl s.versions) (running p f vs, tt) refl)
+trap_goes p f limit es vs l n s few (inr (inl h)) none lives asks =
+    let q = subst (λ z. AsksToAct p (plans (plain p limit)) (main_own f es) (r.Trap l z)) h asks in
+    subst (λ z. IsOneThread p f limit (es ++ e.Trap 1 l z ∷ []) vs) (sym h)
+    (act_goes p f limit es vs vs (r.Trap l 2) (record { line = l; act = trap index }) true s few none lives refl q (inr refl) refl (more_taken es (e.Trap 1 l 2) none refl s.versions) (running p f vs, tt) refl)
+trap_goes p f limit es vs l n s few (inr (inr h)) none lives asks =
+    let q = subst (λ z. AsksToAct p (plans (plain p limit)) (main_own f es) (r.Trap l z)) h asks in
+    subst (λ z. IsOneThread p f limit (es ++ e.Trap 1 l z ∷ []) vs) (sym h)
+    (act_goes p f limit es vs vs (r.Trap l 6) (record { line = l; act = trap frames }) true s few none lives refl q (inr refl) refl (more_taken es (e.Trap 1 l 6) none refl s.versions) (running p f vs, tt) refl)
+
+-- the begin, before any other entry
+begin_goes : (p : Source) (f limit : ℕ) (es : List Entry) (vs : List ℤ) (l : ℕ) → (s : IsOneThread p f limit es vs) → length es < limit → has_none es ≡ true → has_ended es ≡ false
+    → AsksToAct p (plans (plain p limit)) (main_own f es) (r.Begin l) → IsOneThread p f limit (es ++ e.Begin 1 l ∷ []) vs
+begin_goes p f limit [] vs l s few none lives asks =
+    act_goes p f limit [] vs vs (r.Begin l) (record { line = l; act = begin }) false s few none lives refl asks (inl (pos 0, refl)) refl (first_taken l)
+    (record { state = record { func = f; args = []; begun = false; ended = false }; is = refl; not_begun = refl }) refl
+begin_goes p f limit (x ∷ es) vs l s few none lives asks = cc
+
+pub turn_goes : (p : Source) (f limit : ℕ) (es : List Entry) (vs us : List ℤ) (q : Request) (x : Entry) → (s : IsOneThread p f limit es vs) → length es < limit → HasNumbers p q
+    → asks_begin q ≡ has_none es → has_ended es ≡ false → AsksNext p (main_own f es) q → IsGranted vs us q x → IsOneThread p f limit (es ++ x ∷ []) us
+turn_goes p f limit es vs us (r.Begin l) x s few n begins lives asks g = same_run p f limit es vs us x _ g.0 g.1 (begin_goes p f limit es vs l s few (sym begins) lives (asks (plans (plain p limit))))
+turn_goes p f limit es vs us (r.End l) x s few n begins lives asks g =
+    same_run p f limit es vs us x _ g.0 g.1
+    (act_goes p f limit es vs vs (r.End l) (record { line = l; act = end }) true s few (sym begins) lives refl (asks (plans (plain p limit))) (inl (pos 0, refl)) refl (more_taken es (e.End 1 l) (sym begins) refl s.versions) (running p f vs, tt) refl)
+turn_goes p f limit es vs us (r.Trap l k) x s few n begins lives asks g = same_run p f limit es vs us x _ g.0 g.1 (trap_goes p f limit es vs l k s few n (sym begins) lives (asks (plans (plain p limit))))
+turn_goes p f limit es vs us (r.Read l w) x s few n begins lives asks g =
+    same_run p f limit es vs us x _ g.2 g.3
+    (act_goes p f limit es vs vs (r.Read l w) (record { line = l; act = read w g.0 }) true s few (sym begins) lives refl (asks (plans (plain p limit))) (inl (g.0, refl)) refl (more_taken es (e.Read 1 l w g.0) (sym begins) refl s.versions) (running p f vs, g.1) refl)
+turn_goes p f limit es vs us (r.Write l w v) x s few n begins lives asks g =
+    same_run p f limit es (slice_set vs w v) us x _ g.0 g.1
+    (act_goes p f limit es vs (slice_set vs w v) (r.Write l w v) (record { line = l; act = write w v }) true s few (sym begins) lives (length-set vs w v) (asks (plans (plain p limit))) (inl (pos 0, refl)) refl (more_taken es (e.Write 1 l w v) (sym begins) refl s.versions) (running p f vs, tt) refl)
+turn_goes p f limit es vs us (r.Lock l m) x s few n begins lives asks g = absurd g
+turn_goes p f limit es vs us (r.Unlock l m) x s few n begins lives asks g = absurd g
+turn_goes p f limit es vs us (r.Down l m) x s few n begins lives asks g = absurd g
+turn_goes p f limit es vs us (r.Up l m) x s few n begins lives asks g = absurd g
+turn_goes p f limit es vs us (r.Spawn l m ws) x s few n begins lives asks g = absurd g
+turn_goes p f limit es vs us (r.Join l u) x s few n begins lives asks g = absurd g
+turn_goes p f limit es vs us (r.Print l u) x s few n begins lives asks g =
+    same_run p f limit es vs us x _ g.0 g.1
+    (act_goes p f limit es vs vs (r.Print l u) (record { line = l; act = print u }) true s few (sym begins) lives refl (asks (plans (plain p limit))) (inl (pos 0, refl)) refl (more_taken es (e.Print 1 l u) (sym begins) refl s.versions) (running p f vs, tt) refl)
+turn_goes p f limit es vs us (r.Tick l k) x s few n begins lives asks g = same_run p f limit es vs us x _ g.0 g.1 (tick_goes p f limit es vs l k s few (sym begins) lives (asks (plans (plain p limit))))
 
 -- The entry answers the request.
 trap_answers : (p : Source) (l k : ℕ) → HasNumbers p (r.Trap l k) → IsAnswerTo 1 (r.Trap l k) (e.Trap 1 l k)

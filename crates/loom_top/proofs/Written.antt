@@ -3,7 +3,8 @@ use Rattle.std.proofs.Common.{ℕ, ◌+◌, ◌≤◌, ◌≡◌, ◌≢◌, Lis
 use Rattle.std.specs.List.{slice_get}
 use Rattle.std.proofs.lemmas.List.{take_more, take_all, take-append-drop, map-append}
 use Rattle.std.proofs.lemmas.Option.{slice_get_within, get_or_from_slice_get}
-use Rattle.loom_io.specs.Causes.{TookFront, Paged}
+use Rattle.loom_io.specs.Sink.{TookFront}
+use Rattle.loom_io.specs.Page.{PageTook}
 use Rattle.loom_io.proofs.Pages.{paged_then, front_longer, front_behind}
 use Rattle.loom_trace.specs.declared.entry.Entry.{Entry}
 use Rattle.loom_trace.specs.declared.entry.Entry.TheVariants as e
@@ -67,13 +68,13 @@ text_more text es i x line by h is = ap text (one_more es i x h) ∙ by.parts (t
 
 -- one entry more
 pub paged_more : (text : List Entry → List ℕ) (a b c : Option (List ℕ)) (p q r line : List ℕ) (es : List Entry) (i : ℕ) (x : Entry) → IsByEntry text → slice_get es i ≡ Some x
-    → line ≡ text (x ∷ []) → Paged a b p q (text (take i es)) → Paged b c q r line → Paged a c p r (text (take (i + 1) es))
+    → line ≡ text (x ∷ []) → PageTook a b p q (text (take i es)) → PageTook b c q r line → PageTook a c p r (text (take (i + 1) es))
 paged_more text a b c p q r line es i x by h is before more =
-    subst (Paged a c p r) (sym (text_more text es i x line by h is)) (paged_then a b c p q r (text (take i es)) line before more)
+    subst (PageTook a c p r) (sym (text_more text es i x line by h is)) (paged_then a b c p q r (text (take i es)) line before more)
 
 -- a front of one entry more
 pub front_more : (text : List Entry → List ℕ) (a b c : Option (List ℕ)) (p q line : List ℕ) (es : List Entry) (i : ℕ) (x : Entry) → IsByEntry text → slice_get es i ≡ Some x
-    → line ≡ text (x ∷ []) → Paged a b p q (text (take i es)) → TookFront b c (q ++ line) → TookFront a c (p ++ text es)
+    → line ≡ text (x ∷ []) → PageTook a b p q (text (take i es)) → TookFront b c (q ++ line) → TookFront a c (p ++ text es)
 front_more text a b c p q line es i x by h is before more =
     let rest : List ℕ = text (drop (i + 1) es) in
     let whole : (p ++ (text (take i es) ++ line)) ++ rest ≡ p ++ text es =
@@ -83,8 +84,8 @@ front_more text a b c p q line es i x by h is before more =
     subst (TookFront a c) whole (front_longer a c (p ++ (text (take i es) ++ line)) rest (front_behind a b c p q (text (take i es)) line before more))
 
 -- all entries
-pub paged_all : (text : List Entry → List ℕ) (a b : Option (List ℕ)) (p q : List ℕ) (es : List Entry) (i : ℕ) → length es ≤ i → Paged a b p q (text (take i es)) → Paged a b p q (text es)
-paged_all text a b p q es i h k = subst (Paged a b p q) (ap text (take_all i es h)) k
+pub paged_all : (text : List Entry → List ℕ) (a b : Option (List ℕ)) (p q : List ℕ) (es : List Entry) (i : ℕ) → length es ≤ i → PageTook a b p q (text (take i es)) → PageTook a b p q (text es)
+paged_all text a b p q es i h k = subst (PageTook a b p q) (ap text (take_all i es h)) k
 
 -- the parts of a journal's text
 
@@ -101,16 +102,16 @@ front_values a b p es none h =
     let first : TookFront a b (printed_text es) = subst (λ (z : List ℕ). TookFront a b (z ++ printed_text es)) none h in
     subst (TookFront a b) (journal_parts es) (front_longer a b (printed_text es ++ dashes) (entries_text es) (front_longer a b (printed_text es) dashes first))
 
-pub front_dashes : (a b c : Option (List ℕ)) (p q : List ℕ) (es : List Entry) → p ≡ [] → Paged a b p q (printed_text es) → TookFront b c (q ++ dashes) → TookFront a c (journal_text es)
+pub front_dashes : (a b c : Option (List ℕ)) (p q : List ℕ) (es : List Entry) → p ≡ [] → PageTook a b p q (printed_text es) → TookFront b c (q ++ dashes) → TookFront a c (journal_text es)
 front_dashes a b c p q es none h k =
     let first : TookFront a c (printed_text es ++ dashes) = subst (λ (z : List ℕ). TookFront a c (z ++ (printed_text es ++ dashes))) none (front_behind a b c p q (printed_text es) dashes h k) in
     subst (TookFront a c) (journal_parts es) (front_longer a c (printed_text es ++ dashes) (entries_text es) first)
 
 -- what comes before the entries
-pub paged_head : (a b c : Option (List ℕ)) (p q r : List ℕ) (es : List Entry) → Paged a b p q (printed_text es) → Paged b c q r dashes → Paged a c p r (printed_text es ++ dashes)
+pub paged_head : (a b c : Option (List ℕ)) (p q r : List ℕ) (es : List Entry) → PageTook a b p q (printed_text es) → PageTook b c q r dashes → PageTook a c p r (printed_text es ++ dashes)
 paged_head a b c p q r es values line = paged_then a b c p q r (printed_text es) dashes values line
 
-pub front_entries : (a b c d : Option (List ℕ)) (p q r : List ℕ) (es : List Entry) → p ≡ [] → Paged a b p q (printed_text es) → Paged b c q r dashes
+pub front_entries : (a b c d : Option (List ℕ)) (p q r : List ℕ) (es : List Entry) → p ≡ [] → PageTook a b p q (printed_text es) → PageTook b c q r dashes
     → TookFront c d (r ++ entries_text es) → TookFront a d (journal_text es)
 front_entries a b c d p q r es none values line k =
     let head = paged_head a b c p q r es values line in
@@ -118,9 +119,9 @@ front_entries a b c d p q r es none values line k =
     subst (TookFront a d) (journal_parts es) (subst (λ (z : List ℕ). TookFront a d (z ++ ((printed_text es ++ dashes) ++ entries_text es))) none all)
 
 -- and the whole text
-pub paged_journal : (a b c d : Option (List ℕ)) (p q r s : List ℕ) (es : List Entry) → p ≡ [] → Paged a b p q (printed_text es) → Paged b c q r dashes
-    → Paged c d r s (entries_text es) → Paged a d [] s (journal_text es)
+pub paged_journal : (a b c d : Option (List ℕ)) (p q r s : List ℕ) (es : List Entry) → p ≡ [] → PageTook a b p q (printed_text es) → PageTook b c q r dashes
+    → PageTook c d r s (entries_text es) → PageTook a d [] s (journal_text es)
 paged_journal a b c d p q r s es none values line entries =
     let head = paged_head a b c p q r es values line in
-    let all : Paged a d p s ((printed_text es ++ dashes) ++ entries_text es) = paged_then a c d p r s (printed_text es ++ dashes) (entries_text es) head entries in
-    subst (Paged a d [] s) (journal_parts es) (subst (λ (z : List ℕ). Paged a d z s ((printed_text es ++ dashes) ++ entries_text es)) none all)
+    let all : PageTook a d p s ((printed_text es ++ dashes) ++ entries_text es) = paged_then a c d p r s (printed_text es ++ dashes) (entries_text es) head entries in
+    subst (PageTook a d [] s) (journal_parts es) (subst (λ (z : List ℕ). PageTook a d z s ((printed_text es ++ dashes) ++ entries_text es)) none all)

@@ -1,18 +1,22 @@
 -- What the top call answers, and what it writes.
-use Rattle.std.specs.Prelude.{ℕ, ◌<◌, ◌≤◌, ◌≡◌, ◌⊎◌, Bool, true, false, List, ◌++◌, codes, length, Option, Some, IfSome}
+use Rattle.std.specs.Prelude.{ℕ, ◌<◌, ◌≤◌, ◌≡◌, ◌≢◌, ◌⊎◌, Bool, true, false, List, [], ◌++◌, codes, length, Option}
 use Rattle.std.specs.Io.KnownBytes.{Appends}
-use Rattle.loom_io.specs.Causes.{Rose, TookFront}
+use Rattle.loom_io.specs.Fault.{Rose}
+use Rattle.loom_io.specs.Shelf.{FileState, Untold, Missing, Present}
+use Rattle.loom_io.specs.Sink.{TookFront}
 use Rattle.loom_tree.specs.Tree.{Source}
 use Rattle.loom_trace.specs.declared.entry.Entry.{Entry}
 use Rattle.loom_trace.specs.declared.entry.Ending.{Ending}
 use Rattle.loom_trace.specs.declared.entry.Ending.TheVariants as k
 use Rattle.loom_trace.specs.Text.{journal_text}
 use Rattle.loom_lang.specs.Program.{IsProgram}
-use Rattle.loom_law.specs.Lawful.{IsLawful, IsFinished}
+use Rattle.loom_event.specs.Entries.{IsFinished}
+use Rattle.loom_law.specs.Lawful.{Setting, IsLawful}
+use Rattle.loom_law.specs.Promises.{Promises}
 use Rattle.loom_top.specs.declared.status.Status.{Status}
 use Rattle.loom_top.specs.declared.status.Status.TheVariants as status
 use Rattle.loom_top.specs.Command.{Command, IsCommand}
-use Rattle.loom_top.specs.Built.{is_built}
+use Rattle.loom_top.specs.Runnable.{is_runnable}
 
 -- Files and programs
 
@@ -23,26 +27,32 @@ source_limit = 65536
 -- The bytes are a program, of the forms that can be run so far.
 pub record CanRun (file : List ℕ) (p : Source) : Type 0 where
   pub program : IsProgram file p
-  pub built : is_built p ≡ true
+  pub runnable : is_runnable p ≡ true
 
 -- No stop test is given.
-abbrev pub never : Entry → Bool
-never x = false
+abbrev pub never : List Entry → Bool
+never es = false
+
+-- A run of the program without commands, of at most so many thread entries.
+abbrev pub plain : Source → ℕ → Setting
+plain p limit = record { program = p; commands = []; limit = limit; stop = never }
 
 -- A run of one thread ends as done or at its limit.
 abbrev pub CanEnd : Ending → Type 0
 CanEnd kind = (kind ≡ k.Done) ⊎ (kind ≡ k.Limit)
 
--- The journal of a run: finished in this way, and lawful for the program and the limit of thread entries. There is no stop test.
+-- The journal of a run: finished in this way, and lawful for the program and the limit of thread entries. There are no commands, and there is no
+-- stop test. So it keeps what is promised of every journal.
 pub record IsRunOf (p : Source) (limit : ℕ) (kind : Ending) (journal : List Entry) : Type 0 where
-  pub lawful : IsLawful p limit never journal
+  pub lawful : IsLawful (plain p limit) journal
+  pub promises : Promises (plain p limit) journal lawful
   pub finished : IsFinished journal kind
   pub ends : CanEnd kind
 
 -- what a call saw and left
-pub record Seen : Type 0 where
+pub record Call : Type 0 where
   -- what the shelf tells of its files, and its counts of faults
-  pub told : List ℕ → Option (List ℕ)
+  pub told : List ℕ → FileState
   pub faults_before : List ℕ → ℕ
   pub faults_after : List ℕ → ℕ
   -- what the sink tells that it took, and its count of faults
@@ -63,43 +73,67 @@ FileOwes file limit status.Refused text = ((p : Source) → CanRun file p → �
 FileOwes file limit status.NoMemory text = text ≡ codes "no memory\n"
 FileOwes file limit _ text = ⊥
 
+-- what a call saw and left, of a shelf and a sink with these ghosts
+abbrev pub call_of : {F K : Type 0} → (F → List ℕ → FileState) → (F → List ℕ → ℕ) → (K → Option (List ℕ)) → (K → ℕ) → F → F → K → K → Call
+call_of told faults taken sink_faults shelf_before shelf_after sink_before sink_after = record {
+  told = told shelf_before;
+  faults_before = faults shelf_before;
+  faults_after = faults shelf_after;
+  taken_before = taken sink_before;
+  taken_after = taken sink_after;
+  sink_before = sink_faults sink_before;
+  sink_after = sink_faults sink_after;
+}
+
+-- These bytes may be those of a file of which the shelf tells this.
+abbrev pub CanBe : FileState → List ℕ → Type 0
+CanBe Untold file = Unit {0}
+CanBe Missing file = ⊥
+CanBe (Present told) file = told ≡ file
+
 -- The file of that name is these bytes, where the shelf tells it.
-abbrev pub IsFileOf : Seen → List ℕ → List ℕ → Type 0
-IsFileOf s name file = IfSome (s.told name) (λ told. told ≡ file)
+abbrev pub IsFileOf : Call → List ℕ → List ℕ → Type 0
+IsFileOf s name file = CanBe (s.told name) file
 
 -- The same, where the words ask for a run of a file that the shelf tells, and it is no longer than a program may be.
-abbrev pub CommandOwes : Seen → List (List ℕ) → Status → List ℕ → Type 0
+abbrev pub CommandOwes : Call → List (List ℕ) → Status → List ℕ → Type 0
 CommandOwes s words x text = (c : Command) × IsCommand words c × (file : List ℕ) × IsFileOf s c.name file × (length file ≤ source_limit) × FileOwes file c.limit x text
 
 -- What the call is to write, and with which status. It tests the words, the read, the length, the program and the run, in this order.
-abbrev pub Owes : Seen → List (List ℕ) → Status → List ℕ → Type 0
+abbrev pub Owes : Call → List (List ℕ) → Status → List ℕ → Type 0
 Owes s words status.Usage text = ((c : Command) → IsCommand words c → ⊥) × (text ≡ codes "usage\n")
 Owes s words status.ReadFault text =
     (c : Command) × IsCommand words c × Rose (s.faults_before c.name) (s.faults_after c.name) × (text ≡ codes "read fault: " ++ (c.name ++ codes "\n"))
 Owes s words status.TooLong text =
     (c : Command) × IsCommand words c × (file : List ℕ) × IsFileOf s c.name file × (source_limit < length file) × (text ≡ codes "too long: " ++ (c.name ++ codes "\n"))
 Owes s words status.Refused text = CommandOwes s words status.Refused text
-Owes s words status.NoMemory text = (c : Command) × IsCommand words c × (text ≡ codes "no memory\n")
+Owes s words status.NoMemory text = (c : Command) × IsCommand words c × (s.told c.name ≢ Missing) × (text ≡ codes "no memory\n")
 Owes s words status.Done text = CommandOwes s words status.Done text
 Owes s words status.Limit text = CommandOwes s words status.Limit text
 Owes s words status.WriteFault text = ⊥
 
 -- What a call did: it wrote all that it was to write, or the sink failed behind a front of that.
-abbrev pub Answers : Seen → List (List ℕ) → Status → Type 0
+abbrev pub Answers : Call → List (List ℕ) → Status → Type 0
 Answers s words status.WriteFault = Rose s.sink_before s.sink_after × (owed : Status) × (text : List ℕ) × Owes s words owed text × TookFront s.taken_before s.taken_after text
 Answers s words x = (text : List ℕ) × Owes s words x text × Appends s.taken_before s.taken_after text
 
 -- The words name a file that the shelf tells, and it is a program; no count rose.
-pub record IsValid (s : Seen) (words : List (List ℕ)) : Type 0 where
+pub record IsValid (s : Call) (words : List (List ℕ)) : Type 0 where
   pub command : Command
   pub asks : IsCommand words command
   pub file : List ℕ
-  pub told : s.told command.name ≡ Some file
+  pub told : s.told command.name ≡ Present file
   pub small : length file ≤ source_limit
   pub program : Source
   pub runs : CanRun file program
   pub read : Rose (s.faults_before command.name) (s.faults_after command.name) → ⊥
   pub written : Rose s.sink_before s.sink_after → ⊥
+
+-- The words name a file that the shelf tells to be missing.
+pub record IsMissing (s : Call) (words : List (List ℕ)) : Type 0 where
+  pub command : Command
+  pub asks : IsCommand words command
+  pub told : s.told command.name ≡ Missing
 
 -- What a writer of one text leaves: all of it and its status, or a fault of the sink behind a front of the text.
 abbrev pub Put : Option (List ℕ) → Option (List ℕ) → ℕ → ℕ → List ℕ → Status → Status → Type 0

@@ -1,6 +1,6 @@
-pub mod Built
+pub mod Runnable
 pub mod Turn
-pub mod Driven
+pub mod OneThread
 pub mod Command
 pub mod Code
 pub mod Answers

@@ -1,14 +1,15 @@
 //! The top call.
 ghost use Rattle.std.specs.Prelude.{◌≡◌, ◌≤◌, ◌++◌, ◌⊎◌, List, ℕ, map, IfOk, OnOk, OnErr, length, codes};
 ghost use Rattle.std.specs.Io.KnownBytes.{Appends};
-ghost use Rattle.loom_io.specs.Causes.{Rose, TookFront};
+ghost use Rattle.loom_io.specs.Fault.{Rose};
+ghost use Rattle.loom_io.specs.Sink.{TookFront};
 ghost use Rattle.loom_trace.specs.Text.{journal_text};
 ghost use Rattle.loom_tree.specs.Tree.{Source};
 ghost use Rattle.loom_top.specs.declared.status.Status.{Status};
 ghost use Rattle.loom_top.specs.Code.{code, ended_as};
-ghost use Rattle.loom_top.specs.Answers.{CanRun, IsRunOf, Put, FileEnds, Answers, IsValid};
+ghost use Rattle.loom_top.specs.Answers.{CanRun, IsRunOf, Put, FileEnds, call_of, Answers, IsValid, IsMissing};
 
-use crate::built::is_built;
+use crate::runnable::is_runnable;
 use crate::code::{code_of, status_of};
 use crate::command::command_of;
 use crate::run::run;
@@ -80,7 +81,7 @@ fn run_of(alloc: Global, file: &[u8], limit: u32) -> Result<(Journal, Ending), L
 {
     match parse_program(alloc, file) {
         Ok(program) => {
-            if is_built(&program) {
+            if is_runnable(&program) {
                 let flow = lower(alloc, &program)?;
                 Ok(run(alloc, &flow, limit)?)
             } else {
@@ -109,15 +110,7 @@ fn run_file<K: Sink>(alloc: Global, file: &[u8], limit: u32, sink: &mut K) -> St
 // Does what the words ask for.
 fn answer<F: Shelf, K: Sink>(alloc: Global, words: &[&str], shelf: &mut F, sink: &mut K) -> Status
     ensures later { K.faults sink.old ≤ K.faults sink.new }
-    ensures answers { Answers (record {
-      told = F.told shelf.old;
-      faults_before = F.faults shelf.old;
-      faults_after = F.faults shelf.new;
-      taken_before = K.taken sink.old;
-      taken_after = K.taken sink.new;
-      sink_before = K.faults sink.old;
-      sink_after = K.faults sink.new;
-    }) (map (λ w. w.now) words.now) result }
+    ensures answers { Answers (call_of F.told F.faults K.taken K.faults shelf.old shelf.new sink.old sink.new) (map (λ w. w.now) words.now) result }
 {
     let Some(command) = command_of(words) else {
         return put_text(sink, b"usage\n", Status::Usage);
@@ -156,25 +149,11 @@ pub fn loom_alone<F: Shelf, K: Sink>(
     sink: &mut K,
 ) -> u8
     // The status, its cause and what was written.
-    ensures answers { (status : Status) × (result ≡ code status) × Answers (record {
-      told = F.told shelf.old;
-      faults_before = F.faults shelf.old;
-      faults_after = F.faults shelf.new;
-      taken_before = K.taken sink.old;
-      taken_after = K.taken sink.new;
-      sink_before = K.faults sink.old;
-      sink_after = K.faults sink.new;
-    }) (map (λ w. w.now) words.now) status }
+    ensures answers { (status : Status) × (result ≡ code status) × Answers (call_of F.told F.faults K.taken K.faults shelf.old shelf.new sink.old sink.new) (map (λ w. w.now) words.now) status }
     // A program that can be run is run, unless memory runs out.
-    ensures complete { IsValid (record {
-      told = F.told shelf.old;
-      faults_before = F.faults shelf.old;
-      faults_after = F.faults shelf.new;
-      taken_before = K.taken sink.old;
-      taken_after = K.taken sink.new;
-      sink_before = K.faults sink.old;
-      sink_after = K.faults sink.new;
-    }) (map (λ w. w.now) words.now) → (result ≡ 0) ⊎ ((result ≡ 8) ⊎ (result ≡ 6)) }
+    ensures complete { IsValid (call_of F.told F.faults K.taken K.faults shelf.old shelf.new sink.old sink.new) (map (λ w. w.now) words.now) → (result ≡ 0) ⊎ ((result ≡ 8) ⊎ (result ≡ 6)) }
+    // Where the shelf tells that there is no such file, that is a read fault, or its text can't be written.
+    ensures missing { IsMissing (call_of F.told F.faults K.taken K.faults shelf.old shelf.new sink.old sink.new) (map (λ w. w.now) words.now) → (result ≡ 4) ⊎ (result ≡ 5) }
 {
     code_of(answer(alloc, words, shelf, sink))
 }

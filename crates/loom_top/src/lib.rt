@@ -2,7 +2,7 @@
 #![tactic(auto)]
 
 pub mod alone;
-mod built;
+mod runnable;
 mod code;
 mod command;
 mod run;

@@ -1,10 +1,10 @@
 //! A run of one thread.
 ghost use Rattle.std.specs.Prelude.{ℕ, ℤ, ◌≡◌, ◌<◌, ◌≤◌, ◌+◌, ◌++◌, ◌∷◌, [], IfOk, length, slice_get, slice_set, true, Some};
 ghost use Rattle.loom_trace.specs.declared.entry.Entry.TheVariants as e;
-ghost use Rattle.loom_top.specs.Built.{is_built};
+ghost use Rattle.loom_top.specs.Runnable.{is_runnable};
 ghost use Rattle.loom_top.specs.Answers.{IsRunOf};
 ghost use Rattle.loom_top.specs.Turn.{AsksAlone, IsGranted};
-ghost use Rattle.loom_top.specs.Driven.{IsUnderWay};
+ghost use Rattle.loom_top.specs.OneThread.{IsUnderWay};
 
 use crate::start::{first_words, main_number};
 use loom_flow::flow::Flow;
@@ -80,7 +80,7 @@ fn drive(
     journal: &mut Journal,
 ) -> Ending
     requires limit { limit ≤ 1000000 }
-    requires built { is_built flow.now.program ≡ true }
+    requires runnable { is_runnable flow.now.program ≡ true }
     requires begun { (f : ℕ) × IsUnderWay flow.now.program f limit strand.old journal.old words.old }
     requires none { journal.old.entries ≡ [] }
     ensures run { IsRunOf flow.now.program limit result (journal.new.entries ++ e.Finish result ∷ []) }
@@ -103,7 +103,7 @@ fn drive(
 /// before the run.
 pub fn run(alloc: Global, flow: &Flow, limit: u32) -> Result<(Journal, Ending), NoMemory>
     requires limit { limit ≤ 1000000 }
-    requires built { is_built flow.now.program ≡ true }
+    requires runnable { is_runnable flow.now.program ≡ true }
     ensures { IfOk result (λ r. IsRunOf flow.now.program limit r.1 r.0.entries) }
 {
     let program = flow.program();

@@ -5,8 +5,8 @@ ghost use Rattle.loom_tree.specs.declared.item.Word as word;
 ghost use Rattle.loom_tree.specs.Tree.{Function, functions_of};
 ghost use Rattle.loom_lang.specs.Rules.{cells_of, cell_count};
 ghost use Rattle.loom_lang.specs.Numbers.{position, function_number};
-ghost use Rattle.loom_law.specs.Asked.{IsFunctionWith};
-ghost use Rattle.loom_law.specs.Replay.{first_values};
+ghost use Rattle.loom_event.specs.Answer.{IsFunctionWith};
+ghost use Rattle.loom_event.specs.Replay.{first_values};
 
 use loom_lang::program::Program;
 use loom_tree::item::Word;

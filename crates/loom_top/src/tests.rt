@@ -1,6 +1,7 @@
 //! The top call on shelves and sinks in memory.
 
 mod rows;
+mod watch;
 
 use crate::alone::loom_alone;
 use loom_io::memory::{Calls, Files, MemShelf, MemSink};
@@ -8,6 +9,7 @@ use loom_tree::name::{Name, NoMemory};
 use rows::{ROWS, SUM};
 use std::alloc::Global;
 use std::test::Fail;
+use watch::Watch;
 
 fn shelf_of(alloc: Global, name: &[u8], bytes: &[u8]) -> Result<MemShelf, NoMemory> {
     let mut files = Vec::new(alloc);
@@ -180,6 +182,45 @@ fn tells_a_write_fault(rt: HostRuntime) -> Result<(), Fail> {
             5
         );
         assert_eq!(rt; sink.taken.bytes(), front, "at call {call}");
+    }
+    Ok(())
+}
+
+// The file that the words name is read once, with the limit of a program, and no other file.
+#[test]
+fn reads_the_file_alone(rt: HostRuntime) -> Result<(), Fail> {
+    let lists: [&[&str]; 2] = [&["run", "p.lm"], &["run", "p.lm", "--steps", "3"]];
+    for words in lists {
+        let mut shelf = Watch {
+            text: SUM,
+            right: 0,
+            other: 0,
+        };
+        let mut sink = MemSink::make(rt.alloc(), 100, 100)?;
+        loom_alone(rt.alloc(), words, &mut shelf, &mut sink);
+        assert_eq!(rt; (shelf.right, shelf.other), (1, 0));
+    }
+    let mut shelf = Watch {
+        text: SUM,
+        right: 0,
+        other: 0,
+    };
+    let mut sink = MemSink::make(rt.alloc(), 100, 100)?;
+    loom_alone(rt.alloc(), &["walk", "p.lm"], &mut shelf, &mut sink);
+    assert_eq!(rt; (shelf.right, shelf.other), (0, 0));
+    Ok(())
+}
+
+// With ample memory the largest limit and the longest program make no trouble.
+#[test]
+fn has_memory_at_each_limit(rt: HostRuntime) -> Result<(), Fail> {
+    let mut long = Vec::new(rt.alloc());
+    long.extend_from_slice(SUM)?;
+    long.resize(65_536, b' ')?;
+    for limit in ["4", "100000", "1000000"] {
+        let (status, text) = answer_of(rt.alloc(), &long, &["run", "p.lm", "--steps", limit])?;
+        assert_eq!(rt; status, 0, "with {limit}");
+        assert_eq!(rt; text.bytes(), ROWS[0].text, "with {limit}");
     }
     Ok(())
 }

@@ -1,7 +1,9 @@
 //! Writes a journal's text.
 ghost use Rattle.std.specs.Prelude.{◌≤◌, [], ◌∷◌, ◌++◌, length, map, OnOk, OnErr};
 ghost use Rattle.std.specs.Io.KnownBytes.{Appends};
-ghost use Rattle.loom_io.specs.Causes.{Rose, TookFront, Paged};
+ghost use Rattle.loom_io.specs.Fault.{Rose};
+ghost use Rattle.loom_io.specs.Sink.{TookFront};
+ghost use Rattle.loom_io.specs.Page.{PageTook};
 ghost use Rattle.loom_tree.specs.Lines.{ended};
 ghost use Rattle.loom_trace.specs.Text.{entry_line, printed_line, printed_lines, journal_text};
 
@@ -16,7 +18,7 @@ use loom_trace::text::{put_entry, put_printed};
 fn put_line<K: Sink>(sink: &mut K, page: &mut Page, line: &[u8]) -> Result<(), SinkFailed>
     requires { length line.now ≤ 160 }
     ensures later { K.faults sink.old ≤ K.faults sink.new }
-    ensures ok { OnOk result (Paged (K.taken sink.old) (K.taken sink.new) page.old page.new (line.now ++ 10 ∷ [])) }
+    ensures ok { OnOk result (PageTook (K.taken sink.old) (K.taken sink.new) page.old page.new (line.now ++ 10 ∷ [])) }
     ensures part { OnErr result (TookFront (K.taken sink.old) (K.taken sink.new) (page.old ++ (line.now ++ 10 ∷ []))) }
     ensures failed { OnErr result (Rose (K.faults sink.old) (K.faults sink.new)) }
 {
@@ -27,7 +29,7 @@ fn put_line<K: Sink>(sink: &mut K, page: &mut Page, line: &[u8]) -> Result<(), S
 // Writes the line of what an entry prints, where it prints.
 fn put_value<K: Sink>(sink: &mut K, page: &mut Page, entry: &Entry) -> Result<(), SinkFailed>
     ensures later { K.faults sink.old ≤ K.faults sink.new }
-    ensures ok { OnOk result (Paged (K.taken sink.old) (K.taken sink.new) page.old page.new (ended (printed_line entry.now))) }
+    ensures ok { OnOk result (PageTook (K.taken sink.old) (K.taken sink.new) page.old page.new (ended (printed_line entry.now))) }
     ensures part { OnErr result (TookFront (K.taken sink.old) (K.taken sink.new) (page.old ++ ended (printed_line entry.now))) }
     ensures failed { OnErr result (Rose (K.faults sink.old) (K.faults sink.new)) }
 {
@@ -42,7 +44,7 @@ fn put_value<K: Sink>(sink: &mut K, page: &mut Page, entry: &Entry) -> Result<()
 // Writes the line of an entry.
 fn put_one<K: Sink>(sink: &mut K, page: &mut Page, entry: &Entry) -> Result<(), SinkFailed>
     ensures later { K.faults sink.old ≤ K.faults sink.new }
-    ensures ok { OnOk result (Paged (K.taken sink.old) (K.taken sink.new) page.old page.new (ended (entry_line entry.now ∷ []))) }
+    ensures ok { OnOk result (PageTook (K.taken sink.old) (K.taken sink.new) page.old page.new (ended (entry_line entry.now ∷ []))) }
     ensures part { OnErr result (TookFront (K.taken sink.old) (K.taken sink.new) (page.old ++ ended (entry_line entry.now ∷ []))) }
     ensures failed { OnErr result (Rose (K.faults sink.old) (K.faults sink.new)) }
 {
@@ -54,7 +56,7 @@ fn put_one<K: Sink>(sink: &mut K, page: &mut Page, entry: &Entry) -> Result<(), 
 // Writes the lines of what is printed.
 fn put_values<K: Sink>(sink: &mut K, page: &mut Page, journal: &Journal) -> Result<(), SinkFailed>
     ensures later { K.faults sink.old ≤ K.faults sink.new }
-    ensures ok { OnOk result (Paged (K.taken sink.old) (K.taken sink.new) page.old page.new (ended (printed_lines journal.now.entries))) }
+    ensures ok { OnOk result (PageTook (K.taken sink.old) (K.taken sink.new) page.old page.new (ended (printed_lines journal.now.entries))) }
     ensures part { OnErr result (TookFront (K.taken sink.old) (K.taken sink.new) (page.old ++ ended (printed_lines journal.now.entries))) }
     ensures failed { OnErr result (Rose (K.faults sink.old) (K.faults sink.new)) }
 {
@@ -67,7 +69,7 @@ fn put_values<K: Sink>(sink: &mut K, page: &mut Page, journal: &Journal) -> Resu
 // Writes the lines of the entries.
 fn put_entries<K: Sink>(sink: &mut K, page: &mut Page, journal: &Journal) -> Result<(), SinkFailed>
     ensures later { K.faults sink.old ≤ K.faults sink.new }
-    ensures ok { OnOk result (Paged (K.taken sink.old) (K.taken sink.new) page.old page.new (ended (map entry_line journal.now.entries))) }
+    ensures ok { OnOk result (PageTook (K.taken sink.old) (K.taken sink.new) page.old page.new (ended (map entry_line journal.now.entries))) }
     ensures part { OnErr result (TookFront (K.taken sink.old) (K.taken sink.new) (page.old ++ ended (map entry_line journal.now.entries))) }
     ensures failed { OnErr result (Rose (K.faults sink.old) (K.faults sink.new)) }
 {

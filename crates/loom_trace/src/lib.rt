@@ -5,6 +5,7 @@ pub mod entry;
 pub mod journal;
 pub mod laws;
 pub mod line;
+mod number;
 pub mod request;
 pub mod row;
 #[cfg(test)]

@@ -30,10 +30,10 @@ fn two_places() -> PlaceRow {
     places
 }
 
-fn shows(entry: Entry, text: &[u8]) -> bool {
+fn line_of(entry: &Entry) -> Line {
     let mut line = Line::new();
-    put_entry(&entry, &mut line);
-    line.bytes() == text
+    put_entry(entry, &mut line);
+    line
 }
 
 #[test]
@@ -140,8 +140,8 @@ fn what_threads_do(rt: HostRuntime) {
         ),
         (Entry::Back { thread, line }, b"3:65537 back"),
     ];
-    for (entry, text) in table {
-        assert!(rt; shows(entry, text));
+    for (i, (entry, text)) in table.iter().enumerate() {
+        assert_eq!(rt; line_of(entry).bytes(), *text, "in row {i}");
     }
 }
 
@@ -255,8 +255,8 @@ fn what_filters_make_threads_do(rt: HostRuntime) {
             b"8:0 cross 7 128 1000",
         ),
     ];
-    for (entry, text) in table {
-        assert!(rt; shows(entry, text));
+    for (i, (entry, text)) in table.iter().enumerate() {
+        assert_eq!(rt; line_of(entry).bytes(), *text, "in row {i}");
     }
 }
 
@@ -319,8 +319,8 @@ fn what_is_done_to_all(rt: HostRuntime) {
             b"finish stopped",
         ),
     ];
-    for (entry, text) in table {
-        assert!(rt; shows(entry, text));
+    for (i, (entry, text)) in table.iter().enumerate() {
+        assert_eq!(rt; line_of(entry).bytes(), *text, "in row {i}");
     }
 }
 
@@ -331,6 +331,14 @@ fn a_journal_keeps_its_entries(rt: HostRuntime) {
     journal.push(Entry::Back { thread: 1, line: 2 });
     journal.push(entry.copy());
     assert_eq!(rt; journal.len(), 2);
-    assert!(rt; shows(journal.get(0).copy(), b"1:2 back"));
-    assert!(rt; shows(journal.get(1).copy(), b"asked 9"));
+    assert_eq!(rt; line_of(journal.get(0)).bytes(), "1:2 back".as_bytes());
+    assert_eq!(rt; line_of(journal.get(1)).bytes(), "asked 9".as_bytes());
+}
+
+#[test]
+fn has_memory_at_each_limit(rt: HostRuntime) {
+    for limit in [0, 1, 100_000, 1_000_000] {
+        let journal = Journal::make(rt.alloc(), limit);
+        assert!(rt; journal.is_ok(), "with {limit}");
+    }
 }

@@ -6,38 +6,8 @@ ghost use Rattle.loom_trace.specs.Parts.{thread_before, place_of, before, word_o
 
 use crate::entry::{Ending, Entry, What};
 use crate::line::Line;
+use crate::number::{Number, put_numbers};
 use crate::row::{Args, Events, PlaceRow};
-use itoa::Buffer;
-
-#[tactic(auto, using(crate::proofs::Decimal::same_decimal))]
-fn put_byte(n: u8, out: &mut Line)
-    requires { length out.old ≤ 157 }
-    ensures text { out.new ≡ out.old ++ decimal n }
-    ensures short { length out.new ≤ length out.old + 3 }
-{
-    let mut buffer = Buffer::new();
-    out.add(buffer.format(n).as_bytes());
-}
-
-#[tactic(auto, using(crate::proofs::Decimal::same_decimal))]
-fn put_number(n: u32, out: &mut Line)
-    requires { length out.old ≤ 150 }
-    ensures text { out.new ≡ out.old ++ decimal n }
-    ensures short { length out.new ≤ length out.old + 10 }
-{
-    let mut buffer = Buffer::new();
-    out.add(buffer.format(n).as_bytes());
-}
-
-#[tactic(auto, using(crate::proofs::Decimal::same_signed))]
-fn put_value(value: i64, out: &mut Line)
-    requires { length out.old ≤ 140 }
-    ensures text { out.new ≡ out.old ++ signed_decimal value }
-    ensures short { length out.new ≤ length out.old + 20 }
-{
-    let mut buffer = Buffer::new();
-    out.add(buffer.format(value).as_bytes());
-}
 
 // The thread and the line of what a thread does, and a space.
 fn put_thread(thread: u8, at: u32, out: &mut Line)
@@ -45,53 +15,10 @@ fn put_thread(thread: u8, at: u32, out: &mut Line)
     ensures text { out.new ≡ out.old ++ thread_before thread at }
     ensures short { length out.new ≤ length out.old + 15 }
 {
-    put_byte(thread, out);
+    thread.put(out);
     out.push(b':');
-    put_number(at, out);
+    at.put(out);
     out.push(b' ');
-}
-
-// Numbers, each behind a space.
-fn put_bytes(numbers: &[u8], out: &mut Line)
-    requires { length out.old + 4 * length numbers.now ≤ 160 }
-    ensures text { out.new ≡ out.old ++ spaced (map decimal numbers.now) }
-    ensures short { length out.new ≤ length out.old + 4 * length numbers.now }
-{
-    for n in numbers {
-        out.push(b' ');
-        put_byte(*n, out);
-    }
-}
-
-fn put_numbers(numbers: &[u32], out: &mut Line)
-    requires { length out.old + 11 * length numbers.now ≤ 160 }
-    ensures text { out.new ≡ out.old ++ spaced (map decimal numbers.now) }
-    ensures short { length out.new ≤ length out.old + 11 * length numbers.now }
-{
-    for n in numbers {
-        out.push(b' ');
-        put_number(*n, out);
-    }
-}
-
-fn put_places(places: &[u16], out: &mut Line)
-    requires { length out.old + 11 * length places.now ≤ 160 }
-    ensures text { out.new ≡ out.old ++ spaced (map decimal places.now) }
-{
-    for place in places {
-        out.push(b' ');
-        put_number(*place as u32, out);
-    }
-}
-
-fn put_values(values: &[i64], out: &mut Line)
-    requires { length out.old + 21 * length values.now ≤ 160 }
-    ensures text { out.new ≡ out.old ++ spaced (map signed_decimal values.now) }
-{
-    for value in values {
-        out.push(b' ');
-        put_value(*value, out);
-    }
 }
 
 // A word behind a space.
@@ -112,23 +39,23 @@ fn put_what(what: &What, out: &mut Line)
     match what {
         What::Lock(m) => {
             put_word(b"lock", out);
-            put_bytes(&[*m], out);
+            put_numbers(&[*m], out);
         }
         What::Down(s) => {
             put_word(b"down", out);
-            put_bytes(&[*s], out);
+            put_numbers(&[*s], out);
         }
         What::Join(child) => {
             put_word(b"join", out);
-            put_bytes(&[*child], out);
+            put_numbers(&[*child], out);
         }
         What::Enter(k, clause) => {
             put_word(b"enter", out);
-            put_bytes(&[*k, *clause], out);
+            put_numbers(&[*k, *clause], out);
         }
         What::Wait(k, event) => {
             put_word(b"wait", out);
-            put_bytes(&[*k, *event], out);
+            put_numbers(&[*k, *event], out);
         }
     }
 }
@@ -151,7 +78,7 @@ fn put_access(word: u32, value: i64, out: &mut Line)
     ensures { out.new ≡ out.old ++ spaced (decimal word ∷ signed_decimal value ∷ []) }
 {
     put_numbers(&[word], out);
-    put_values(&[value], out);
+    put_numbers(&[value], out);
 }
 
 fn put_spawn(child: u8, func: u8, args: &Args, out: &mut Line)
@@ -159,16 +86,16 @@ fn put_spawn(child: u8, func: u8, args: &Args, out: &mut Line)
     ensures { out.new
         ≡ out.old ++ spaced (decimal child ∷ decimal func ∷ map signed_decimal args.now) }
 {
-    put_bytes(&[child, func], out);
-    put_values(args.as_slice(), out);
+    put_numbers(&[child, func], out);
+    put_numbers(args.as_slice(), out);
 }
 
 fn put_events(k: u8, events: &Events, out: &mut Line)
     requires { length out.old ≤ 24 }
     ensures { out.new ≡ out.old ++ spaced (decimal k ∷ map decimal events.now) }
 {
-    put_bytes(&[k], out);
-    put_bytes(events.as_slice(), out);
+    put_numbers(&[k], out);
+    put_numbers(events.as_slice(), out);
 }
 
 // A command, the version that it makes, and where the threads stand.
@@ -177,16 +104,16 @@ fn put_change(k: u8, version: u32, places: &PlaceRow, out: &mut Line)
     ensures { out.new
         ≡ out.old ++ spaced (decimal k ∷ decimal version ∷ map decimal places.now) }
 {
-    put_bytes(&[k], out);
+    put_numbers(&[k], out);
     put_numbers(&[version], out);
-    put_places(places.as_slice(), out);
+    put_numbers(places.as_slice(), out);
 }
 
 fn put_stalled(k: u8, thread: u8, at: u32, out: &mut Line)
     requires { length out.old ≤ 24 }
     ensures { out.new ≡ out.old ++ spaced (decimal k ∷ decimal thread ∷ decimal at ∷ []) }
 {
-    put_bytes(&[k, thread], out);
+    put_numbers(&[k, thread], out);
     put_numbers(&[at], out);
 }
 
@@ -284,35 +211,35 @@ fn put_fields(e: &Entry, out: &mut Line)
 {
     match e {
         Entry::Begin { .. } | Entry::End { .. } | Entry::Back { .. } => {}
-        Entry::Trap { reason, .. } => put_bytes(&[*reason], out),
+        Entry::Trap { reason, .. } => put_numbers(&[*reason], out),
         Entry::Read { word, value, .. } => put_access(*word, *value, out),
         Entry::Write { word, value, .. } => put_access(*word, *value, out),
-        Entry::Lock { m, .. } | Entry::Unlock { m, .. } => put_bytes(&[*m], out),
-        Entry::Down { s, .. } | Entry::Up { s, .. } => put_bytes(&[*s], out),
+        Entry::Lock { m, .. } | Entry::Unlock { m, .. } => put_numbers(&[*m], out),
+        Entry::Down { s, .. } | Entry::Up { s, .. } => put_numbers(&[*s], out),
         Entry::Spawn {
             child,
             func,
             args,
             ..
         } => put_spawn(*child, *func, args, out),
-        Entry::Join { child, .. } => put_bytes(&[*child], out),
-        Entry::Print { value, .. } => put_values(&[*value], out),
-        Entry::Tick { place, .. } => put_places(&[*place], out),
+        Entry::Join { child, .. } => put_numbers(&[*child], out),
+        Entry::Print { value, .. } => put_numbers(&[*value], out),
+        Entry::Tick { place, .. } => put_numbers(&[*place], out),
         Entry::Blocked { what, .. } => put_what(what, out),
         Entry::At { k, events, .. } => put_events(*k, events, out),
         Entry::Past { k, events, .. } => put_events(*k, events, out),
-        Entry::Enter { k, clause, .. } => put_bytes(&[*k, *clause], out),
-        Entry::Leave { k, clause, .. } => put_bytes(&[*k, *clause], out),
-        Entry::Post { k, event, .. } => put_bytes(&[*k, *event], out),
-        Entry::Wait { k, event, .. } => put_bytes(&[*k, *event], out),
+        Entry::Enter { k, clause, .. } => put_numbers(&[*k, *clause], out),
+        Entry::Leave { k, clause, .. } => put_numbers(&[*k, *clause], out),
+        Entry::Post { k, event, .. } => put_numbers(&[*k, *event], out),
+        Entry::Wait { k, event, .. } => put_numbers(&[*k, *event], out),
         Entry::Cross {
             place,
             version,
             passed,
             ..
         } => put_numbers(&[*place as u32, *version, *passed], out),
-        Entry::Asked { k } | Entry::Cut { k } | Entry::Unreached { k } => put_bytes(&[*k], out),
-        Entry::Refused { k, number, clause } => put_bytes(&[*k, *number, *clause], out),
+        Entry::Asked { k } | Entry::Cut { k } | Entry::Unreached { k } => put_numbers(&[*k], out),
+        Entry::Refused { k, number, clause } => put_numbers(&[*k, *number, *clause], out),
         Entry::Installed { k, version, places } => put_change(*k, *version, places, out),
         Entry::Removed { k, version, places } => put_change(*k, *version, places, out),
         Entry::Stalled { k, thread, line } => put_stalled(*k, *thread, *line, out),
@@ -336,5 +263,5 @@ pub fn put_printed(value: i64, line: &mut Line)
     ensures { line.new ≡ signed_decimal value }
 {
     line.clear();
-    put_value(value, line);
+    value.put(line);
 }

@@ -1,5 +1,5 @@
 -- The tokens of a text.
-use Rattle.std.specs.Prelude.{ℕ, ◌-◌, ◌<◌, ◌^◌, List, take, drop}
+use Rattle.std.specs.Prelude.{ℕ, ◌-◌, ◌≤◌, ◌<◌, ◌^◌, List, length, take, drop}
 use Rattle.loom_tree.specs.declared.expression.Op.{Op}
 use Rattle.loom_tree.specs.declared.token.Keyword.{Keyword}
 use Rattle.loom_tree.specs.declared.token.Sign.{Sign}
@@ -17,7 +17,7 @@ pub data Token : Type 0 where
   bad : Token
 
 -- a token, and the line on which it begins
-pub record Placed : Type 0 where
+pub record LineToken : Type 0 where
   pub token : Token
   pub line : ℕ
 
@@ -34,8 +34,8 @@ token_by k.Bad text = bad
 abbrev pub text_of : List ℕ → rust.Token → List ℕ
 text_of bytes t = take (t.end - t.start) (drop t.start bytes)
 
-abbrev pub placed_of : List ℕ → rust.Token → Placed
-placed_of bytes t = record { token = token_by t.kind (text_of bytes t); line = t.line }
+abbrev pub line_token_of : List ℕ → rust.Token → LineToken
+line_token_of bytes t = record { token = token_by t.kind (text_of bytes t); line = t.line }
 
 -- its number, where it is one, is one of the language
 abbrev pub IsSmall : TokenKind → Type 0
@@ -45,3 +45,7 @@ IsSmall (k.Keyword w) = Unit {0}
 IsSmall (k.Op o) = Unit {0}
 IsSmall (k.Sign s) = Unit {0}
 IsSmall k.Bad = Unit {0}
+
+-- its places lie within the text
+abbrev pub IsWithin : List ℕ → rust.Token → Type 0
+IsWithin bytes t = (t.start ≤ t.end) × (t.end ≤ length bytes)

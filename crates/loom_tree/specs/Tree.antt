@@ -12,8 +12,8 @@ use Rattle.loom_tree.specs.declared.statement.Stmts.TheVariants as s
 use Rattle.loom_tree.specs.declared.statement.Func.{Func}
 use Rattle.loom_tree.specs.declared.item.Word.{Word}
 use Rattle.loom_tree.specs.declared.item.Sema.{Sema}
-use Rattle.loom_tree.specs.declared.item.Item as rust_item
-use Rattle.loom_tree.specs.declared.item.Item.TheVariants as i
+use Rattle.loom_tree.specs.declared.item.FileItem as rust_item
+use Rattle.loom_tree.specs.declared.item.FileItem.TheVariants as i
 
 pub data Expression : Type 0 where
   num : ℤ → Expression
@@ -59,11 +59,11 @@ pub record Function : Type 0 where
   pub body : Body
 
 -- an item of a file, with the line on which it begins
-pub data Item : Type 0 where
-  word : ℕ → Word → Item
-  mutex : ℕ → List ℕ → Item
-  sema : ℕ → Sema → Item
-  func : Function → Item
+pub data FileItem : Type 0 where
+  word : ℕ → Word → FileItem
+  mutex : ℕ → List ℕ → FileItem
+  sema : ℕ → Sema → FileItem
+  func : Function → FileItem
 
 -- a program: its items by their kinds, each in the order of the text
 pub record Source : Type 0 where
@@ -122,11 +122,11 @@ function_of f = record { name = f.name; line = f.line; params = f.params; body =
 abbrev pub functions_of : List Func → List Function
 functions_of fs = map function_of fs
 
-abbrev pub item_of : rust_item.Item → Item
+abbrev pub item_of : rust_item.FileItem → FileItem
 item_of (i.Word line name cells first) = word line (record { name = name; cells = cells; first = first })
 item_of (i.Mutex line name) = mutex line name
 item_of (i.Sema line name first) = sema line (record { name = name; first = first })
 item_of (i.Func f) = func (function_of f)
 
-abbrev pub items_of : List rust_item.Item → List Item
+abbrev pub items_of : List rust_item.FileItem → List FileItem
 items_of is = map item_of is

@@ -78,7 +78,7 @@ impl Model for Funcs {
 
 /// An item of a file, with the line on which it begins.
 #[derive(Debug, Drop)]
-pub enum Item {
+pub enum FileItem {
     Word {
         line: u32,
         name: Name,
@@ -101,15 +101,15 @@ pub enum Item {
 
 /// The items of a file, in the order of the text.
 #[derive(Debug, Drop)]
-pub struct Items(pub Vec<Item>);
+pub struct FileItems(pub Vec<FileItem>);
 
-impl Model for Items {
+impl Model for FileItems {
     ghost use Rattle.std.specs.Prelude.{List};
-    ghost use Rattle.loom_tree.specs.declared.item.Item.{Item};
-    ghost use Rattle.loom_tree.specs.contracts.item.Item as i;
+    ghost use Rattle.loom_tree.specs.declared.item.FileItem.{FileItem};
+    ghost use Rattle.loom_tree.specs.contracts.item.FileItem as i;
     ghost use Rattle.std.specs.Coded.{codes};
 
-    ghost Value = { List Item };
+    ghost Value = { List FileItem };
 
     ghost coded = { Prim.hlevel (codes, i.the_row.coded) };
 

@@ -1,11 +1,11 @@
 use Rattle.std.proofs.Common.{◌≡◌, vec_len}
 use Rattle.loom_tree.specs.Tree.{expression_of}
-use Rattle.loom_expression.specs.View.{operand_of, reduced, size_of, stack_of}
-use Rattle.loom_expression.specs.Machine as m
+use Rattle.loom_expression.specs.View.{phrase_of, reduced, size_of, stack_of}
+use Rattle.loom_expression.specs.Reader as m
 use Rattle.loom_expression.proofs.reader.reduce.Given as goal
 
 abbrev pub invariant-down : goal.invariant-down
-invariant-down l = reduced l.fn.level (operand_of l.fn.operand) ≡ m.reduce m.plain l.fn.level (expression_of l.value) (size_of l.size) (stack_of l.frames.items)
+invariant-down l = reduced l.fn.level (phrase_of l.fn.operand) ≡ m.reduce m.plain l.fn.level (expression_of l.value) (size_of l.size) (stack_of l.prefixes.items)
 
 abbrev pub decreases-down : goal.decreases-down
-decreases-down l = vec_len l.frames
+decreases-down l = vec_len l.prefixes

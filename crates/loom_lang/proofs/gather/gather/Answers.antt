@@ -1,8 +1,8 @@
 use Rattle.std.proofs.Common.{◌≡◌, [], ap, sym, ◌∙◌}
 use Rattle.std.proofs.lemmas.List.{nil_from_length}
 use Rattle.loom_tree.specs.Tree.{items_of, item_of}
-use Rattle.loom_lang.specs.Gathered.{gathered}
-use Rattle.loom_lang.proofs.Gathered.{gathered-all, few_cells}
+use Rattle.loom_lang.specs.FileItems.{gathered}
+use Rattle.loom_lang.proofs.FileItems.{gathered-all, few_cells}
 use Rattle.loom_lang.proofs.gather.gather.Goals as goal
 
 pub put-requires : goal.put-requires

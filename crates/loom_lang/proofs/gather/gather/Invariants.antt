@@ -1,6 +1,6 @@
 use Rattle.std.proofs.Common.{◌≡◌}
 use Rattle.loom_tree.specs.Tree.{items_of}
-use Rattle.loom_lang.specs.Gathered.{nothing, gathered}
+use Rattle.loom_lang.specs.FileItems.{nothing, gathered}
 use Rattle.loom_lang.proofs.gather.gather.Given as goal
 
 abbrev pub invariant-items : goal.invariant-items

@@ -1,5 +1,5 @@
 use Rattle.loom_tree.specs.Tree.{function_of}
-use Rattle.loom_lang.proofs.Repeated.{found_names}
+use Rattle.loom_lang.proofs.Repetition.{found_names}
 use Rattle.loom_lang.proofs.locals.locals.Goals as goal
 
 -- src/locals.rt:30:1

@@ -1,5 +1,5 @@
 use Rattle.std.proofs.Common.{◌≡◌, ◌++◌, drop}
-use Rattle.loom_lang.specs.Noted.{names_of}
+use Rattle.loom_lang.specs.Fault.{names_of}
 use Rattle.loom_lang.proofs.locals.put_names.Given as goal
 
 abbrev pub invariant-copy : goal.invariant-copy

@@ -1,6 +1,6 @@
 use Rattle.std.proofs.Common.{◌≡◌, drop}
 use Rattle.loom_lang.specs.Rules.{is_in}
-use Rattle.loom_lang.specs.Noted.{names_of}
+use Rattle.loom_lang.specs.Fault.{names_of}
 use Rattle.loom_lang.proofs.names.is_local.Given as goal
 
 abbrev pub invariant-scan : goal.invariant-scan

@@ -1,7 +1,7 @@
 use Rattle.std.proofs.Common.{◌≡◌, drop}
 use Rattle.loom_tree.specs.Tree.{items_of}
 use Rattle.loom_lang.specs.Rules.{is_word}
-use Rattle.loom_lang.specs.Gathered.{source_of_items}
+use Rattle.loom_lang.specs.FileItems.{source_of_items}
 use Rattle.loom_lang.proofs.names.is_word.Given as goal
 
 abbrev pub invariant-scan : goal.invariant-scan

@@ -3,7 +3,7 @@ use Rattle.loom_tree.specs.declared.statement.Stmts.{the_lemmas}
 use Rattle.loom_tree.specs.Tree.{body_of, behind}
 use Rattle.loom_lang.specs.Refusal.{lets_at}
 use Rattle.loom_lang.proofs.Behind.{lets_behind}
-use Rattle.loom_lang.proofs.Noted.{put_on}
+use Rattle.loom_lang.proofs.Faults.{put_on}
 use Rattle.loom_lang.proofs.walk.+gather.Goals as goal
 
 pub put_lets-walk-preserved : goal.put_lets-walk-preserved

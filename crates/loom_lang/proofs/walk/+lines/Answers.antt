@@ -3,7 +3,7 @@ use Rattle.loom_tree.specs.declared.statement.Stmts.{the_lemmas}
 use Rattle.loom_tree.specs.Tree.{body_of, behind}
 use Rattle.loom_lang.specs.Rules.{lines}
 use Rattle.loom_lang.proofs.Behind.{lines_behind}
-use Rattle.loom_lang.proofs.Noted.{put_on}
+use Rattle.loom_lang.proofs.Faults.{put_on}
 use Rattle.loom_lang.proofs.walk.+lines.Goals as goal
 
 pub put_lines-walk-preserved : goal.put_lines-walk-preserved

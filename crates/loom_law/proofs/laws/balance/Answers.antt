@@ -1,4 +1,4 @@
-use Rattle.loom_law.proofs.Obeyed.{balance}
+use Rattle.loom_law.proofs.Lawful.{balance}
 use Rattle.loom_law.proofs.laws.balance.Goals as goal
 
 pub returns : goal.returns

@@ -1,4 +1,4 @@
-use Rattle.loom_law.proofs.Turns.{control_turns}
+use Rattle.loom_law.proofs.Lawful.{control_turns}
 use Rattle.loom_law.proofs.laws.control_turns.Goals as goal
 
 pub returns : goal.returns

@@ -1,4 +1,4 @@
-use Rattle.loom_law.proofs.Turns.{event_turns}
+use Rattle.loom_law.proofs.Lawful.{event_turns}
 use Rattle.loom_law.proofs.laws.event_turns.Goals as goal
 
 pub returns : goal.returns

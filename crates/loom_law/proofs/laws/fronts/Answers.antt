@@ -1,4 +1,4 @@
-use Rattle.loom_law.proofs.Earlier.{fronts}
+use Rattle.loom_law.proofs.Lawful.{fronts}
 use Rattle.loom_law.proofs.laws.fronts.Goals as goal
 
 pub returns : goal.returns

@@ -1,5 +1,5 @@
-use Rattle.loom_law.proofs.Newest.{newest}
+use Rattle.loom_law.proofs.Lawful.{newest_version}
 use Rattle.loom_law.proofs.laws.newest.Goals as goal
 
 pub returns : goal.returns
-returns c = newest
+returns c = newest_version

@@ -1,4 +1,4 @@
-use Rattle.loom_law.proofs.Named.{owed_active}
+use Rattle.loom_law.proofs.ActiveFilters.{owed_active}
 use Rattle.loom_law.proofs.laws.owed_active.Goals as goal
 
 pub returns : goal.returns

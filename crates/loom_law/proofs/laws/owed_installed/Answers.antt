@@ -1,4 +1,4 @@
-use Rattle.loom_law.proofs.Named.{owed_installed}
+use Rattle.loom_law.proofs.Lawful.{owed_installed}
 use Rattle.loom_law.proofs.laws.owed_installed.Goals as goal
 
 pub returns : goal.returns

@@ -1,4 +1,4 @@
-use Rattle.loom_law.proofs.Sited.{places_are_sound}
+use Rattle.loom_law.proofs.Sites.{places_are_sound}
 use Rattle.loom_law.proofs.laws.sound_places.Goals as goal
 
 pub returns : goal.returns

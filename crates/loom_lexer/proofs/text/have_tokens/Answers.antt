@@ -1,4 +1,4 @@
-use Rattle.loom_lexer.proofs.Told.{have_tokens}
+use Rattle.loom_lexer.proofs.TokenList.{have_tokens}
 use Rattle.loom_lexer.proofs.text.have_tokens.Goals as goal
 
 pub returns : goal.returns

@@ -1,7 +1,7 @@
 use Rattle.std.proofs.Common.{length, ◌-◌, ◌≤◌, ◌+◌, All}
 use Rattle.loom_tree.specs.Token.{IsSmall}
-use Rattle.loom_lexer.specs.Tokens.{IsWithin}
-use Rattle.loom_lexer.proofs.Told.{SoFar}
+use Rattle.loom_tree.specs.Token.{IsWithin}
+use Rattle.loom_lexer.proofs.TokenList.{SoFar}
 use Rattle.loom_lexer.proofs.text.tokenize.Given as goal
 
 abbrev pub invariant-all : goal.invariant-all

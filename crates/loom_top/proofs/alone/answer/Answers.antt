@@ -2,7 +2,7 @@ use Rattle.std.proofs.Common.{◌≤◌, ◌<◌, map, codes, length, refl, ap, 
 use Rattle.loom_top.specs.declared.status.Status.TheVariants as status
 use Rattle.loom_top.specs.Command.{Command}
 use Rattle.loom_top.specs.Answers.{source_limit}
-use Rattle.loom_top.proofs.Top.{answered, file_answered, long_answered}
+use Rattle.loom_top.proofs.Top.{other_error, answered, file_answered, long_answered}
 use Rattle.loom_top.proofs.alone.answer.Goals as goal
 
 pub returns-in_default-clause-answers : goal.returns-in_default-clause-answers
@@ -13,7 +13,7 @@ pub returns-in-Err-NoMemory-clause-answers : goal.returns-in-Err-NoMemory-clause
 returns-in-Err-NoMemory-clause-answers g c =
     let asked : Command = record { name = c.in-Some.command.name.now; limit = c.in-Some.command.limit } in
     answered _ (map (λ w. w.now) c.args.words.now) (codes "no memory\n") status.NoMemory c.put_text-in-Err-NoMemory.result
-    (asked, c.in-Some.ensures.found, refl) c.put_text-in-Err-NoMemory.ensures.put
+    (asked, c.in-Some.ensures.found, other_error c.in-Err-NoMemory.field-0-is c.in-Err-NoMemory.ensures.missing, refl) c.put_text-in-Err-NoMemory.ensures.put
 
 pub returns-in-Err-Failed-clause-answers : goal.returns-in-Err-Failed-clause-answers
 returns-in-Err-Failed-clause-answers g c =

@@ -1,6 +1,6 @@
 use Rattle.std.proofs.Common.{◌++◌, List, ℕ, codes, subst}
 use Rattle.std.specs.Io.KnownBytes.{Appends}
-use Rattle.loom_io.specs.Causes.{TookFront}
+use Rattle.loom_io.specs.Sink.{TookFront}
 use Rattle.loom_io.proofs.Pages.{front_longer}
 use Rattle.loom_top.proofs.Top.{front_after, on_err, on_err_then}
 use Rattle.loom_top.proofs.alone.put_named_text.Goals as goal

@@ -1,5 +1,5 @@
 use Rattle.std.proofs.Common.{ℕ, ◌≡◌, length}
-use Rattle.loom_top.specs.Driven.{IsUnderWay}
+use Rattle.loom_top.specs.OneThread.{IsUnderWay}
 use Rattle.loom_top.proofs.run.drive.Given as goal
 
 abbrev pub invariant-turns : goal.invariant-turns

@@ -1,6 +1,6 @@
 use Rattle.std.proofs.Common.{◌≡◌, List, ap, ◌∙◌, flat_map}
 use Rattle.loom_tree.specs.declared.item.Word.{Word}
-use Rattle.loom_law.specs.Replay.{start, first_values}
+use Rattle.loom_event.specs.Replay.{start, first_values}
 use Rattle.loom_top.proofs.UnderWay.{first_way}
 use Rattle.loom_top.proofs.run.run.Goals as goal
 
@@ -11,5 +11,4 @@ drive-kind-requires-clause-begun c =
     let values : c.deref_mut.result.now ≡ (start c.args.flow.now.program).words =
     c.deref_mut.ensures.value ∙ c.in_ok-words.ensures ∙ ap (flat_map (λ (x : Word). first_values x.cells x.first)) same in
     let number = rw c.program-program.ensures.program at c.main_number.ensures.number in
-    let function = rw c.program-program.ensures.program at c.main_number.ensures.function in
-    (c.main_number.result, first_way c.in_ok-strand.ensures c.start.ensures c.in_ok-journal.ensures.empty c.in_ok-journal.ensures.room values number function)
+    (c.main_number.result, first_way c.in_ok-strand.ensures c.start.ensures c.in_ok-journal.ensures.empty c.in_ok-journal.ensures.room values number)

@@ -1,7 +1,7 @@
 use Rattle.std.proofs.Common.{◌≡◌, ◌+◌, ◌≤◌, ◌++◌, drop, length, flat_map}
 use Rattle.loom_tree.specs.declared.item.Word.{Word}
 use Rattle.loom_lang.specs.Rules.{cell_count}
-use Rattle.loom_law.specs.Replay.{first_values}
+use Rattle.loom_event.specs.Replay.{first_values}
 use Rattle.loom_top.proofs.start.first_words.Given as goal
 
 abbrev pub invariant-words : goal.invariant-words

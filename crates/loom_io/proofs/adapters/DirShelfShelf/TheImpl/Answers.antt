@@ -1,5 +1,5 @@
 use Rattle.std.proofs.Common.{refl}
-use Rattle.loom_io.proofs.Counted.{failed_read, untold_read}
+use Rattle.loom_io.proofs.Counts.{failed_read, untold_read, never_missing}
 use Rattle.loom_io.proofs.adapters.DirShelfShelf.TheImpl.Goals as goal
 
 pub read-tells : goal.read-tells
@@ -8,5 +8,6 @@ read-tells g c = record {
   later = λ _. c.ensures.later;
   short = c.ensures.short;
   whole = untold_read c.result c.args.limit;
+  missing = never_missing;
   failed = failed_read c.result c.args.self.now.faults c.new.self.now.faults c.ensures.faults;
 }

@@ -1,5 +1,5 @@
 use Rattle.std.proofs.Common.{◌≡◌, drop}
-use Rattle.loom_io.specs.Memory.{bytes_of}
+use Rattle.loom_io.specs.Files.{bytes_of}
 use Rattle.loom_io.proofs.memory.Files.find.Given as goal
 
 -- no file before the index has the name

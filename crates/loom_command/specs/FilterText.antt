@@ -1,0 +1,98 @@
+-- The text of a filter: tokens with blanks before, between and behind them.
+use Rattle.std.specs.Prelude.{ℕ, suc, ◌≤◌, ◌≡◌, List, [], ◌∷◌, ◌++◌, length, map, Option, Some, None, codes, Bool, ◌||◌, nat_eq}
+use Rattle.std.specs.List.{AllByRecursion}
+use Rattle.loom_lexer.specs.Lexeme.{Each, Stops}
+use Rattle.loom_command.specs.Filter.{Filter}
+use Rattle.loom_command.specs.FilterForm.{TestForm, EventForm, StepForm, RegionForm, between, whole, ClauseForm, order, exclusive, unilateral, is_file_part, IsClause, filter_tree}
+
+-- space and tab
+abbrev pub is_blank : ℕ → Bool
+is_blank b = nat_eq b 32 || nat_eq b 9
+
+pub data Piece : Type 0 where
+  -- a file's name, a name or a number: it goes on as long as it can
+  word : List ℕ → Piece
+  sign : List ℕ → Piece
+  -- what stands between the parentheses of a test, white space included
+  test : List ℕ → Piece
+
+abbrev pub bytes_of : Piece → List ℕ
+bytes_of (word bs) = bs
+bytes_of (sign bs) = bs
+bytes_of (test bs) = bs
+
+-- with this behind it
+abbrev pub Stands : Piece → List ℕ → Type 0
+Stands (word bs) rest = Stops is_file_part rest
+Stands _ rest = Unit {0}
+
+-- the bytes are these pieces, one behind the other, and then the rest
+abbrev pub AreWritten : List Piece → List ℕ → List ℕ → Type 0
+AreWritten [] rest bytes = bytes ≡ rest
+AreWritten (x ∷ xs) rest bytes =
+    (blanks : List ℕ) × (more : List ℕ) × (bytes ≡ blanks ++ (bytes_of x ++ more)) × Each is_blank blanks × Stands x more × AreWritten xs rest more
+
+-- The pieces of a filter, in the order of its grammar
+
+abbrev pub joined : List Piece → List (List Piece) → List Piece
+joined glue [] = []
+joined glue (x ∷ []) = x
+joined glue (x ∷ y ∷ xs) = x ++ (glue ++ joined glue (y ∷ xs))
+
+abbrev pub signed : List ℕ → List Piece
+signed bs = sign bs ∷ []
+
+abbrev pub test_pieces : Option TestForm → List Piece
+test_pieces None = []
+test_pieces (Some x) = sign (codes "(") ∷ test x.bytes ∷ sign (codes ")") ∷ []
+
+abbrev pub event_pieces : EventForm → List Piece
+event_pieces x = word x.file ∷ sign (codes ":") ∷ word x.line ∷ test_pieces x.test
+
+abbrev pub count_pieces : Option (List ℕ) → List Piece
+count_pieces None = []
+count_pieces (Some digits) = sign (codes "{") ∷ word digits ∷ sign (codes "}") ∷ []
+
+abbrev pub step_pieces : StepForm → List Piece
+step_pieces x = event_pieces x.event ++ count_pieces x.count
+
+abbrev pub events_pieces : List StepForm → List Piece
+events_pieces ss = joined (signed (codes ",")) (map step_pieces ss)
+
+abbrev pub region_pieces : RegionForm → List Piece
+region_pieces (between es xs) = sign (codes "{") ∷ events_pieces es ++ (sign (codes ";") ∷ events_pieces xs ++ signed (codes "}"))
+region_pieces (whole f x) = word f ∷ sign (codes "(") ∷ sign (codes ")") ∷ test_pieces x
+
+abbrev pub clause_pieces : ClauseForm → List Piece
+clause_pieces (order a b ss) = joined (signed (codes ">")) (map step_pieces (a ∷ b ∷ ss))
+clause_pieces (exclusive r rs) = joined (signed (codes "<>")) (map region_pieces (r ∷ rs))
+clause_pieces (unilateral r) = region_pieces r ++ (sign (codes "<>") ∷ signed (codes "*"))
+
+abbrev pub filter_pieces : List ClauseForm → List Piece
+filter_pieces cs = joined (signed (codes ";")) (map clause_pieces cs)
+
+-- clauses, each with its `;`
+abbrev pub whole_pieces : List ClauseForm → List Piece
+whole_pieces [] = []
+whole_pieces (c ∷ cs) = clause_pieces c ++ (sign (codes ";") ∷ whole_pieces cs)
+
+-- The bytes are the text of these clauses, of which there is at least one.
+pub record IsForm (bytes : List ℕ) (c : ClauseForm) (cs : List ClauseForm) : Type 0 where
+  pub rules : AllByRecursion IsClause (c ∷ cs)
+  pub blanks : List ℕ
+  pub written : AreWritten (filter_pieces (c ∷ cs)) blanks bytes
+  pub blank : Each is_blank blanks
+
+-- They are a text of the grammar.
+pub record IsText (bytes : List ℕ) : Type 0 where
+  pub first : ClauseForm
+  pub others : List ClauseForm
+  pub form : IsForm bytes first others
+
+-- They begin with so many whole clauses, each with its `;`.
+pub record BeginsWith (bytes : List ℕ) (n : ℕ) : Type 0 where
+  pub clauses : List ClauseForm
+  pub rules : AllByRecursion IsClause clauses
+  pub count : length clauses ≡ n
+  pub rest : List ℕ
+  pub written : AreWritten (whole_pieces clauses) rest bytes

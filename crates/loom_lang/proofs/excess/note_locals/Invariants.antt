@@ -1,0 +1,10 @@
+use Rattle.std.proofs.Common.{◌≡◌, drop}
+use Rattle.loom_tree.specs.Tree.{items_of}
+use Rattle.loom_lang.specs.declared.refusal.Reason.TheVariants as reason
+use Rattle.loom_lang.specs.declared.refusal.Which.TheVariants as which
+use Rattle.loom_lang.specs.Refusal.{lines_of_reason}
+use Rattle.loom_lang.specs.Fault.{noted}
+use Rattle.loom_lang.proofs.excess.note_locals.Given as goal
+
+abbrev pub invariant-scan : goal.invariant-scan
+invariant-scan l = noted l.first (reason.TooMany which.Locals) (lines_of_reason (items_of (drop l.item-index l.items)) 0 (reason.TooMany which.Locals)) ≡ noted l.fn.first (reason.TooMany which.Locals) (lines_of_reason (items_of l.items) 0 (reason.TooMany which.Locals))

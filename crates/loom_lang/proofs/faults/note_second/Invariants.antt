@@ -1,8 +1,0 @@
-use Rattle.std.proofs.Common.{◌≡◌, drop}
-use Rattle.loom_lang.specs.declared.refusal.Reason.TheVariants as reason
-use Rattle.loom_lang.specs.Refusal.{second_lines}
-use Rattle.loom_lang.specs.Noted.{noted}
-use Rattle.loom_lang.proofs.faults.note_second.Given as goal
-
-abbrev pub invariant-scan : goal.invariant-scan
-invariant-scan l = noted l.first reason.SecondOnLine (second_lines l.before (drop l.line-index l.lines)) ≡ noted l.fn.first reason.SecondOnLine (second_lines 0 l.lines)

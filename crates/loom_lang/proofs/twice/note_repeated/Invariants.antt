@@ -1,9 +1,0 @@
-use Rattle.std.proofs.Common.{◌≡◌, ◌++◌, take, drop}
-use Rattle.loom_lang.specs.declared.refusal.Reason.TheVariants as reason
-use Rattle.loom_lang.specs.Refusal.{repeated}
-use Rattle.loom_lang.specs.Noted.{noted}
-use Rattle.loom_lang.specs.Noted.{names_of}
-use Rattle.loom_lang.proofs.twice.note_repeated.Given as goal
-
-abbrev pub invariant-scan : goal.invariant-scan
-invariant-scan l = noted l.first reason.NameTwice (repeated (l.names ++ names_of (take l.i l.locals)) (drop l.i l.locals)) ≡ noted l.fn.first reason.NameTwice (repeated l.names l.locals)

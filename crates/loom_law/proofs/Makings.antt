@@ -1,0 +1,201 @@
+-- What a thread asks to make gives one more entry of a lawful journal; a request that is disabled may be told as `Blocked`.
+use Rattle.std.proofs.Common.{ℕ, ◌≡◌, inl, Bool, true, false, List, [], ◌∷◌, ◌++◌, pos, drop, Option, Some, None, refl, sym, ap, subst, ◌∙◌}
+use Rattle.loom_tree.specs.Tree.{Source}
+use Rattle.loom_trace.specs.declared.entry.Entry.{Entry}
+use Rattle.loom_trace.specs.declared.entry.Entry.TheVariants as e
+use Rattle.loom_trace.specs.declared.entry.What.{What}
+use Rattle.loom_trace.specs.declared.entry.What.TheVariants as w
+use Rattle.loom_trace.specs.declared.request.Request.{Request}
+use Rattle.loom_trace.specs.declared.request.Request.TheVariants as r
+use Rattle.loom_lang.specs.Trace.{Act, begin, end, trap, read, write, lock, unlock, down, up, spawn, join, print, Item, made, begins, done, edge, enter, out, not_spawned, Open, IsTrace}
+use Rattle.loom_lang.specs.Acts.{Deed}
+use Rattle.loom_event.specs.Answer.{granted}
+use Rattle.loom_event.specs.Replay.{Spawned}
+use Rattle.loom_law.specs.Walk.{Version, Plans, Op, wait, enters, at, past, post, leave, back, tick, cross, blocked, Owed, Step, goes, makes, items, told, entry_of_op, Walk, unborn, entered_journal, taking, crossing, after, walked, first_number, Acts, AsksFor, MayCross, AreWoven}
+use Rattle.loom_law.specs.Part.{Own, led, IsPart, HasMoved, KeepsAway, AsksToMake, AsksToAct}
+use Rattle.loom_law.specs.Control.{Control, control, entries_of}
+use Rattle.loom_law.specs.Lawful.{Setting, plans, own, IsFlagged, is_begin, KeptAway, IsLawful}
+use Rattle.loom_law.specs.Laws.{own_with}
+use Rattle.loom_law.specs.TurnLaws.{AsksToDo, MayMake, HasMakingTurns, is_blocked_entry, blocked_behind, ends_blocked, request_of, HasBlocks}
+use Rattle.loom_law.proofs.OnePart.{told_append, one_move}
+use Rattle.loom_law.proofs.Earlier.{append_assoc, items_ahead, woven_front, takings}
+use Rattle.loom_law.proofs.Turns.{BeforeOp, before_op, moved, walked_coming, operation_turns}
+use Rattle.loom_law.proofs.Answers.{IsFree, goes_with, woven_ahead, walked_append, woven_last}
+
+asked_part : (s : Setting) (es : List Entry) (t : ℕ) (z : Spawned) (l : ℕ) (o : Op) → AsksToDo s es (own s es t z) l o
+    → IsPart s.program (plans s) (own_with s es t z (entry_of_op t l o))
+asked_part s es t z l (wait k n) h = h
+asked_part s es t z l (enters k c) h = h
+asked_part s es t z l (at k ns) h = h
+asked_part s es t z l (past k ns) h = h
+asked_part s es t z l (post k n) h = h
+asked_part s es t z l (leave k c) h = h
+asked_part s es t z l back h = h
+asked_part s es t z l (tick x) h = h
+asked_part s es t z l (blocked what) h = h
+asked_part s es t z l (cross y n m) h = subst (λ v. IsPart s.program (plans s) (own_with s es t z (e.Cross t l y v m))) (sym h.0) h.1
+
+op_no_begin : (t l : ℕ) (o : Op) → is_begin (entry_of_op t l o) ≡ false
+op_no_begin t l (wait k n) = refl
+op_no_begin t l (enters k c) = refl
+op_no_begin t l (at k ns) = refl
+op_no_begin t l (past k ns) = refl
+op_no_begin t l (post k n) = refl
+op_no_begin t l (leave k c) = refl
+op_no_begin t l back = refl
+op_no_begin t l (tick x) = refl
+op_no_begin t l (cross y n m) = refl
+op_no_begin t l (blocked what) = refl
+
+-- the part that ends with the operation
+pub record OpPart (p : Source) (plans : Plans) (x : Own) (l : ℕ) (o : Op) : Type 0 where
+  pub part : IsPart p plans x
+  pub before : List Step
+  pub last : part.steps ≡ before ++ makes l o ∷ []
+
+pub cut_part : (p : Source) (plans : Plans) (x : Own) (es : List Entry) (l : ℕ) (o : Op) → x.entries ≡ es ++ entry_of_op x.thread l o ∷ [] → IsPart p plans x → OpPart p plans x l o
+cut_part p plans x es l o is h =
+    let t : ℕ = x.thread in
+    let c : BeforeOp t h.steps es l o = before_op t h.steps es l o (h.tells ∙ is) in
+    let steps : List Step = c.before ++ makes l o ∷ [] in
+    let ahead : List Item = items c.behind ++ h.ahead in
+    let whole : h.steps ≡ steps ++ c.behind = c.whole ∙ sym (append_assoc c.before (makes l o ∷ []) c.behind) in
+    let tells : told t steps ≡ x.entries = told_append t c.before (makes l o ∷ []) ∙ (ap (λ us. us ++ entry_of_op t l o ∷ []) c.same ∙ sym is) in
+    record {
+      part = record {
+        steps = steps;
+        ahead = ahead;
+        outcome = h.outcome;
+        trace = subst (λ is. IsTrace p x.func x.args is h.outcome) (ap (λ ss. items ss ++ h.ahead) whole ∙ (items_ahead steps c.behind h.ahead)) h.trace;
+        woven = woven_front p plans (unborn x.versions) steps c.behind h.ahead (subst (λ ss. AreWoven p plans (unborn x.versions) ss h.ahead) whole h.woven);
+        tells = tells;
+        taken = walked_coming p plans t (unborn x.versions) steps
+            ∙ (ap (λ us. drop (takings us) x.versions) (tells ∙ sym h.tells) ∙ (sym (walked_coming p plans t (unborn x.versions) h.steps) ∙ h.taken));
+      };
+      before = c.before;
+      last = refl;
+    }
+
+op_told : (t l : ℕ) (o : Op) → told t (makes l o ∷ []) ≡ entry_of_op t l o ∷ []
+op_told t l o = refl
+
+pub making_turns : HasMakingTurns
+making_turns s es h open_ t l o m =
+    let x : Own = own_with s es t m.state (entry_of_op t l o) in
+    let c : OpPart s.program (plans s) x l o = cut_part s.program (plans s) x (entries_of t es) l o refl (asked_part s es t m.state l o m.asks) in
+    let before : HasMoved s.program (plans s) x c.before = moved s.program (plans s) x c.part c.before (makes l o) (entry_of_op t l o) c.last (op_told t l o) in
+    operation_turns s es h open_ t l o
+    (record {
+      state = m.state;
+      there = m.there;
+      part = c.part;
+      before = c.before;
+      last = c.last;
+      goes_on = m.goes_on;
+      not_held_off = m.not_held_off;
+      crosses = m.crosses;
+      away = λ k is some.
+          let away : KeptAway s x k = m.away k is some in
+          subst (λ ss. KeepsAway (IsFlagged s k) (led s.program (plans s) x ss)) (one_move s.program (plans s) x away.steps c.before away.moved before) away.away;
+      no_begin = λ k is b. let no : false ≡ true = sym (op_no_begin t l o) ∙ b in cc;
+      needs = m.needs;
+    })
+
+-- A thread is blocked by its last entry
+
+taking_blocked : (z : Walk) (vs : List Version) → Walk.is_blocked (taking z vs) ≡ z.is_blocked
+taking_blocked z [] = refl
+taking_blocked z (v ∷ vs) = refl
+
+crossing_blocked : (p : Source) (plans : Plans) (z : Walk) (vs : List Version) (v : ℕ) → first_number vs ≡ Some v → Walk.is_blocked (crossing p plans z vs) ≡ false
+crossing_blocked p plans z [] v h = cc
+crossing_blocked p plans z (u ∷ vs) v h = refl
+
+pub walked_blocked : (p : Source) (plans : Plans) (t : ℕ) (z : Walk) (ss : List Step) (ahead : List Item) → AreWoven p plans z ss ahead
+    → Walk.is_blocked (walked p plans z ss) ≡ blocked_behind z.is_blocked (told t ss)
+walked_blocked p plans t z [] ahead h = refl
+walked_blocked p plans t z (goes (made l begin) ∷ ss) ahead h =
+    walked_blocked p plans t (taking (entered_journal z) z.coming) ss ahead h.1
+    ∙ ap (λ b. blocked_behind b (told t ss)) (taking_blocked (entered_journal z) z.coming)
+walked_blocked p plans t z (makes l (cross x v n) ∷ ss) ahead h =
+    let c : MayCross p z (items ss ++ ahead) l x v n = h.0 in
+    walked_blocked p plans t (crossing p plans z z.coming) ss ahead h.1
+    ∙ ap (λ b. blocked_behind b (told t ss)) (crossing_blocked p plans z z.coming v c.version)
+walked_blocked p plans t z (goes (made l end) ∷ ss) ahead h = walked_blocked p plans t (after p plans z (goes (made l end))) ss ahead h.1
+walked_blocked p plans t z (goes (made l (trap c)) ∷ ss) ahead h = walked_blocked p plans t (after p plans z (goes (made l (trap c)))) ss ahead h.1
+walked_blocked p plans t z (goes (made l (read x v)) ∷ ss) ahead h = walked_blocked p plans t (after p plans z (goes (made l (read x v)))) ss ahead h.1
+walked_blocked p plans t z (goes (made l (write x v)) ∷ ss) ahead h = walked_blocked p plans t (after p plans z (goes (made l (write x v)))) ss ahead h.1
+walked_blocked p plans t z (goes (made l (lock x)) ∷ ss) ahead h = walked_blocked p plans t (after p plans z (goes (made l (lock x)))) ss ahead h.1
+walked_blocked p plans t z (goes (made l (unlock x)) ∷ ss) ahead h = walked_blocked p plans t (after p plans z (goes (made l (unlock x)))) ss ahead h.1
+walked_blocked p plans t z (goes (made l (down x)) ∷ ss) ahead h = walked_blocked p plans t (after p plans z (goes (made l (down x)))) ss ahead h.1
+walked_blocked p plans t z (goes (made l (up x)) ∷ ss) ahead h = walked_blocked p plans t (after p plans z (goes (made l (up x)))) ss ahead h.1
+walked_blocked p plans t z (goes (made l (spawn c f ws)) ∷ ss) ahead h = walked_blocked p plans t (after p plans z (goes (made l (spawn c f ws)))) ss ahead h.1
+walked_blocked p plans t z (goes (made l (join c)) ∷ ss) ahead h = walked_blocked p plans t (after p plans z (goes (made l (join c)))) ss ahead h.1
+walked_blocked p plans t z (goes (made l (print v)) ∷ ss) ahead h = walked_blocked p plans t (after p plans z (goes (made l (print v)))) ss ahead h.1
+walked_blocked p plans t z (goes (begins l env) ∷ ss) ahead h = walked_blocked p plans t (after p plans z (goes (begins l env))) ss ahead h.1
+walked_blocked p plans t z (goes (done l) ∷ ss) ahead h = walked_blocked p plans t (after p plans z (goes (done l))) ss ahead h.1
+walked_blocked p plans t z (goes (edge l) ∷ ss) ahead h = walked_blocked p plans t (after p plans z (goes (edge l))) ss ahead h.1
+walked_blocked p plans t z (goes (enter f env) ∷ ss) ahead h = walked_blocked p plans t (after p plans z (goes (enter f env))) ss ahead h.1
+walked_blocked p plans t z (goes (out f) ∷ ss) ahead h = walked_blocked p plans t (after p plans z (goes (out f))) ss ahead h.1
+walked_blocked p plans t z (makes l (wait k n) ∷ ss) ahead h = walked_blocked p plans t (after p plans z (makes l (wait k n))) ss ahead h.1
+walked_blocked p plans t z (makes l (enters k c) ∷ ss) ahead h = walked_blocked p plans t (after p plans z (makes l (enters k c))) ss ahead h.1
+walked_blocked p plans t z (makes l (at k ns) ∷ ss) ahead h = walked_blocked p plans t (after p plans z (makes l (at k ns))) ss ahead h.1
+walked_blocked p plans t z (makes l (past k ns) ∷ ss) ahead h = walked_blocked p plans t (after p plans z (makes l (past k ns))) ss ahead h.1
+walked_blocked p plans t z (makes l (post k n) ∷ ss) ahead h = walked_blocked p plans t (after p plans z (makes l (post k n))) ss ahead h.1
+walked_blocked p plans t z (makes l (leave k c) ∷ ss) ahead h = walked_blocked p plans t (after p plans z (makes l (leave k c))) ss ahead h.1
+walked_blocked p plans t z (makes l back ∷ ss) ahead h = walked_blocked p plans t (after p plans z (makes l back)) ss ahead h.1
+walked_blocked p plans t z (makes l (tick x) ∷ ss) ahead h = walked_blocked p plans t (after p plans z (makes l (tick x))) ss ahead h.1
+walked_blocked p plans t z (makes l (blocked what) ∷ ss) ahead h = walked_blocked p plans t (after p plans z (makes l (blocked what))) ss ahead h.1
+
+-- A request that can be disabled
+
+abbrev act_of_what : What → Option Act
+act_of_what (w.Lock m) = Some (lock m)
+act_of_what (w.Down k) = Some (down k)
+act_of_what (w.Join c) = Some (join c)
+act_of_what _ = None
+
+record CanWait (q : Request) (l : ℕ) (what : What) : Type 0 where
+  act : Act
+  grants : granted q (pos 0) ≡ Some (record { line = l; act = act })
+  no_trap : (c : ℕ) → act ≡ trap (not_spawned (pos c)) → ⊥
+  asks : (z : Walk) → z.owed ≡ [] → AsksFor z (made l act ∷ []) l what
+
+acts_there : (os : Owed) (l : ℕ) (a : Act) → os ≡ [] → Acts os (made l a ∷ []) l a
+acts_there [] l a h = refl
+acts_there (o ∷ os) l a h = cc
+
+can_wait : (l : ℕ) (what : What) (q : Request) → request_of l what ≡ Some q → CanWait q l what
+can_wait l (w.Lock m) q h =
+    let is : r.Lock l m ≡ q = cc in
+    subst (λ u. CanWait u l (w.Lock m)) is (record { act = lock m; grants = refl; no_trap = λ c g. cc; asks = λ z none. acts_there z.owed l (lock m) none })
+can_wait l (w.Down k) q h =
+    let is : r.Down l k ≡ q = cc in
+    subst (λ u. CanWait u l (w.Down k)) is (record { act = down k; grants = refl; no_trap = λ c g. cc; asks = λ z none. acts_there z.owed l (down k) none })
+can_wait l (w.Join d) q h =
+    let is : r.Join l (pos d) ≡ q = cc in
+    subst (λ u. CanWait u l (w.Join d)) is (record { act = join d; grants = refl; no_trap = λ c g. cc; asks = λ z none. acts_there z.owed l (join d) none })
+can_wait l (w.Enter k c) q h = cc
+can_wait l (w.Wait k n) q h = cc
+
+pub blocks : HasBlocks
+blocks p plans x q l what h is free =
+    let c : CanWait q l what = can_wait l what q is in
+    let d : Deed = record { line = l; act = c.act } in
+    let steps : List Step = h.steps in
+    let last : List Step = makes l (blocked what) ∷ [] in
+    let ahead : List Item = made l c.act ∷ [] in
+    let trace : IsTrace p x.func x.args (items steps ++ ahead) Open = goes_with p plans x q d h (inl (pos 0, c.grants)) in
+    let woven : AreWoven p plans (unborn x.versions) steps ahead =
+    woven_ahead p plans x q d h (inl (pos 0, c.grants)) (λ before m e behind whole trapped. c.no_trap e trapped) in
+    let not_yet : Walk.is_blocked (led p plans x steps) ≡ false =
+    walked_blocked p plans x.thread (unborn x.versions) steps ahead woven ∙ (ap (blocked_behind false) h.tells ∙ free) in
+    record {
+      steps = steps ++ last;
+      ahead = ahead;
+      outcome = Open;
+      trace = subst (λ us. IsTrace p x.func x.args us Open) (sym (items_ahead steps last ahead)) trace;
+      woven = woven_last p plans (unborn x.versions) steps (makes l (blocked what)) ahead woven (record { asks = c.asks (led p plans x steps) h.rests; not_yet = not_yet });
+      tells = told_append x.thread steps last ∙ ap (λ us. us ++ e.Blocked x.thread l what ∷ []) h.tells;
+      taken = ap (λ z. Walk.coming z) (walked_append p plans (unborn x.versions) steps last) ∙ h.taken;
+    }

@@ -1,0 +1,69 @@
+-- What a lawful journal promises to an operator, entry by entry.
+use Rattle.std.specs.Prelude.{ℕ, ◌≡◌, true, List, [], ◌∷◌, ◌++◌, Some}
+use Rattle.std.specs.List.{AllByRecursion}
+use Rattle.loom_trace.specs.declared.entry.Entry.{Entry}
+use Rattle.loom_trace.specs.declared.entry.Entry.TheVariants as e
+use Rattle.loom_lang.specs.Places.{Place}
+use Rattle.loom_event.specs.Event.{targets}
+use Rattle.loom_event.specs.Replay.{thread_at}
+use Rattle.loom_event.specs.Run.{IsRun}
+use Rattle.loom_law.specs.Filter.{Plan, before_in}
+use Rattle.loom_law.specs.Control.{Action, install, means, Command, command_at, Control, control}
+use Rattle.loom_law.specs.Lawful.{Setting, Front, front_at, plans, running, IsOutside, HasCompletions, is_held_by, IsObeyed, IsLawful}
+use Rattle.loom_law.specs.Laws.{Balances}
+
+-- An event of an order begins behind as many completions of the one before it as the order asks for.
+abbrev pub FollowsOrders : Setting → Front → Entry → Type 0
+FollowsOrders s f (e.At t l k ns) = AllByRecursion (λ n. HasCompletions f.entries k (before_in n (Plan.rulings (plans s k)))) ns
+FollowsOrders s f x = Unit {0}
+
+-- The installed filters are obeyed: orders, regions that exclude each other, and regions that exclude everything.
+pub record ObeysFilters (s : Setting) (f : Front) (x : Entry) : Type 0 where
+  pub orders : FollowsOrders s f x
+  pub regions : IsObeyed s f x
+
+-- The command installs this filter, and wherever a thread may stand it is inside none of the regions, and none of the events is under way.
+pub record FindsNobodyInside (s : Setting) (f : Front) (k : ℕ) : Type 0 where
+  pub command : Command
+  pub is : command_at s.commands k ≡ Some command
+  pub plan : Plan
+  pub installs : command.action ≡ install (means plan)
+  pub place : ℕ → Place
+  pub outside : (t : ℕ) → IsOutside s f.entries t (running (thread_at f.store t)) plan (place t)
+
+abbrev pub InstallsOutside : Setting → Front → Entry → Type 0
+InstallsOutside s f (e.Installed k v row) = FindsNobodyInside s f k
+InstallsOutside s f x = Unit {0}
+
+-- A clause has one holder at most.
+abbrev pub HasOneHolder : Control → Type 0
+HasOneHolder c = (k n t u : ℕ) → is_held_by c k n t ≡ true → is_held_by c k n u ≡ true → t ≡ u
+
+-- What is refused, stalls or isn't reached changes neither the version nor its filters.
+abbrev pub ChangesNothing : Setting → Front → Entry → Type 0
+ChangesNothing s f (e.Refused k n c) = (control s.commands (f.entries ++ e.Refused k n c ∷ [])).version ≡ f.control.version
+ChangesNothing s f (e.Stalled k t l) = (control s.commands (f.entries ++ e.Stalled k t l ∷ [])).version ≡ f.control.version
+ChangesNothing s f (e.Cut k) = (control s.commands (f.entries ++ e.Cut k ∷ [])).version ≡ f.control.version
+ChangesNothing s f (e.Unreached k) = (control s.commands (f.entries ++ e.Unreached k ∷ [])).version ≡ f.control.version
+ChangesNothing s f x = Unit {0}
+
+-- What holds where an entry stands, behind those of the front.
+pub record KeepsPromises (s : Setting) (f : Front) (x : Entry) : Type 0 where
+  -- from its installation to its removal a filter is obeyed
+  pub obeyed : ObeysFilters s f x
+  -- at an installation no thread is inside the regions
+  pub outside : InstallsOutside s f x
+  -- filter locks balance
+  pub balanced : Balances f x
+  pub one_holder : HasOneHolder f.control
+  -- refused commands change nothing
+  pub unchanged : ChangesNothing s f x
+
+-- Without the entries of filters and commands the journal is a run of the program, and each of its entries keeps the promises.
+pub record Promises (s : Setting) (es : List Entry) (h : IsLawful s es) : Type 0 where
+  pub run : IsRun s.program (targets es)
+  pub entries : (front : List Entry) (x : Entry) (rest : List Entry) → es ≡ front ++ x ∷ rest → KeepsPromises s (front_at s h.events front) x
+
+-- So it is with each lawful journal.
+abbrev pub AlwaysPromises : Type 0
+AlwaysPromises = (s : Setting) (es : List Entry) (h : IsLawful s es) → Promises s es h

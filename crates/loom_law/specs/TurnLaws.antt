@@ -1,0 +1,128 @@
+-- From what a thread asks for to one more entry of a lawful journal.
+use Rattle.std.specs.Prelude.{ℕ, ◌≡◌, ◌⊎◌, ◌++◌, ◌∷◌, Bool, false, true, List, [], ℤ, pos, Option, Some, None}
+use Rattle.std.specs.List.{list_any}
+use Rattle.loom_tree.specs.Tree.{Source}
+use Rattle.loom_trace.specs.declared.entry.Entry.{Entry}
+use Rattle.loom_trace.specs.declared.entry.Entry.TheVariants as e
+use Rattle.loom_trace.specs.declared.entry.What.{What}
+use Rattle.loom_trace.specs.declared.entry.What.TheVariants as w
+use Rattle.loom_trace.specs.declared.request.Request.{Request}
+use Rattle.loom_trace.specs.declared.request.Request.TheVariants as r
+use Rattle.loom_lang.specs.Trace.{made}
+use Rattle.loom_lang.specs.Acts.{Deed, IsAlike}
+use Rattle.loom_event.specs.Answer.{granted, trapped}
+use Rattle.loom_event.specs.Event.{Event, entry_by}
+use Rattle.loom_event.specs.Replay.{Spawned, start, thread_at, replay, IsAllowed}
+use Rattle.loom_law.specs.Walk.{Plans, Op, cross, blocked, goes, makes, entry_of_op}
+use Rattle.loom_law.specs.Walk as walk
+use Rattle.loom_law.specs.Part.{Own, led, KeepsAway, AsksToMake, AsksToCross, AsksToAct}
+use Rattle.loom_law.specs.Control.{Control, control, listed, since_asked, entries_of}
+use Rattle.loom_law.specs.Lawful.{Setting, front_of, plans, own, IsFlagged, IsHeldOff, IsOpen, is_cross, owes_cross, is_begin, is_spawn_of, has_any, KeptAway, IsLawful}
+use Rattle.loom_law.specs.Laws.{IsUnfinished, own_with, Needs, MayTurn}
+
+-- The deed grants the request, with some value, or it is the trap that may stand in its place.
+abbrev pub IsAnswered : Request → Deed → Type 0
+IsAnswered q d = ((v : ℤ) × (granted q v ≡ Some d)) ⊎ (trapped q ≡ Some d)
+
+abbrev pub event_of_deed : ℕ → Deed → Event
+event_of_deed t d = record { thread = t; line = d.line; act = d.act }
+
+-- Behind the entries and events so far thread t asks for an act, the store allows this answer, and nothing keeps the thread from making it.
+pub record MayAnswer (s : Setting) (es : List Entry) (xs : List Event) (t : ℕ) (q : Request) (d : Deed) : Type 0 where
+  pub state : Spawned
+  pub there : thread_at (replay (start s.program) xs) t ≡ Some state
+  pub asks : AsksToAct s.program (plans s) (own s es t state) q
+  pub answer : IsAnswered q d
+  pub allowed : IsAllowed (replay (start s.program) xs) (event_of_deed t d)
+  pub goes_on : IsOpen s (front_of s es xs)
+  pub not_held_off : IsHeldOff s (front_of s es xs) t → ⊥
+  pub no_cross : owes_cross (entry_by t d.line d.act) (listed t es) ≡ false
+  -- the thread keeps away from the places that are flagged for the command that was asked
+  pub away : (k : ℕ) → Control.asked (control s.commands es) ≡ Some k → has_any (entries_of t (since_asked es)) ≡ true
+      → KeepsAway (IsFlagged s k) (led s.program (plans s) (own s es t state) asks.steps)
+  pub no_begin : (k : ℕ) → Control.asked (control s.commands es) ≡ Some k → is_begin (entry_by t d.line d.act) ≡ true
+      → list_any (is_spawn_of t) (since_asked es) ≡ false
+
+-- So it may make that turn: the steps before it are those with which it asks. (Shown.)
+abbrev pub HasAnswers : Type 0
+HasAnswers = (s : Setting) (es : List Entry) (h : IsLawful s es) (t : ℕ) (q : Request) (d : Deed) (m : MayAnswer s es h.events t q d)
+    → (turn : MayTurn s es h.events t (entry_by t d.line d.act) (goes (made d.line d.act)))
+    × ((turn.state ≡ m.state) × (turn.before ≡ m.asks.steps))
+
+-- And the journal with the answer is lawful. (Shown.)
+abbrev pub HasAnswerTurns : Type 0
+HasAnswerTurns = (s : Setting) (es : List Entry) (h : IsLawful s es) → IsUnfinished es → (t : ℕ) (q : Request) (d : Deed) → MayAnswer s es h.events t q d
+    → (h' : IsLawful s (es ++ entry_by t d.line d.act ∷ [])) × (h'.events ≡ h.events ++ event_of_deed t d ∷ [])
+
+-- The thread asks to make an operation: for `Cross` with the newest version.
+abbrev pub AsksToDo : Setting → List Entry → Own → ℕ → Op → Type 0
+AsksToDo s es x l (cross y n m) =
+    (n ≡ walk.Version.number (Control.version (control s.commands es))) × AsksToCross s.program (plans s) x l y m (Control.version (control s.commands es))
+AsksToDo s es x l o = AsksToMake s.program (plans s) x l o
+
+-- Behind the entries and events so far thread t asks to make an operation, and nothing keeps it from making it.
+pub record MayMake (s : Setting) (es : List Entry) (xs : List Event) (t l : ℕ) (o : Op) : Type 0 where
+  pub state : Spawned
+  pub there : thread_at (replay (start s.program) xs) t ≡ Some state
+  pub asks : AsksToDo s es (own s es t state) l o
+  pub goes_on : IsOpen s (front_of s es xs)
+  pub not_held_off : IsHeldOff s (front_of s es xs) t → ⊥
+  pub crosses : is_cross (entry_of_op t l o) ≡ owes_cross (entry_of_op t l o) (listed t es)
+  pub away : (k : ℕ) → Control.asked (control s.commands es) ≡ Some k → has_any (entries_of t (since_asked es)) ≡ true
+      → KeptAway s (own_with s es t state (entry_of_op t l o)) k
+  pub needs : Needs s (front_of s es xs) (entry_of_op t l o)
+
+-- So the journal with the operation is lawful. (Shown.)
+abbrev pub HasMakingTurns : Type 0
+HasMakingTurns = (s : Setting) (es : List Entry) (h : IsLawful s es) → IsUnfinished es → (t l : ℕ) (o : Op) → MayMake s es h.events t l o
+    → (h' : IsLawful s (es ++ entry_of_op t l o ∷ [])) × (h'.events ≡ h.events)
+
+-- Requests that are disabled
+
+-- the last of these entries is `Blocked`
+abbrev pub is_blocked_entry : Entry → Bool
+is_blocked_entry (e.Blocked t l what) = true
+is_blocked_entry _ = false
+
+abbrev pub blocked_behind : Bool → List Entry → Bool
+blocked_behind b [] = b
+blocked_behind b (x ∷ xs) = blocked_behind (is_blocked_entry x) xs
+
+abbrev pub ends_blocked : List Entry → Bool
+ends_blocked es = blocked_behind false es
+
+-- the request on a line for which a thread may be blocked, where no filter makes it ask
+abbrev pub request_of : ℕ → What → Option Request
+request_of l (w.Lock m) = Some (r.Lock l m)
+request_of l (w.Down k) = Some (r.Down l k)
+request_of l (w.Join c) = Some (r.Join l (pos c))
+request_of l (w.Enter k c) = None
+request_of l (w.Wait k n) = None
+
+-- A thread that asks for it, and whose last entry isn't `Blocked`, may ask to be told as blocked there. (Shown.)
+abbrev pub HasBlocks : Type 0
+HasBlocks = (p : Source) (plans : Plans) (x : Own) (q : Request) (l : ℕ) (what : What) → AsksToAct p plans x q → request_of l what ≡ Some q
+    → ends_blocked x.entries ≡ false → AsksToMake p plans x l (blocked what)
+
+-- What a thread asks for is one
+
+-- an operation that a filter or a limit makes a thread owe
+abbrev pub is_owed : Op → Bool
+is_owed (cross x v n) = false
+is_owed (blocked what) = false
+is_owed _ = true
+
+-- Two acts for which a thread asks answer the same. (Shown.)
+abbrev pub HasOneRequest : Type 0
+HasOneRequest = (p : Source) (plans : Plans) (x : Own) (q q' : Request) (d d' : Deed) → AsksToAct p plans x q → IsAnswered q d → AsksToAct p plans x q' → IsAnswered q' d'
+    → IsAlike d d'
+
+-- Where it asks for an act it owes no operation. (Shown.)
+abbrev pub HasNoSplit : Type 0
+HasNoSplit = (p : Source) (plans : Plans) (x : Own) (q : Request) (d : Deed) (l : ℕ) (o : Op) → AsksToAct p plans x q → IsAnswered q d → is_owed o ≡ true
+    → AsksToMake p plans x l o → ⊥
+
+-- It owes one operation at a time. (Shown.)
+abbrev pub HasOneOperation : Type 0
+HasOneOperation = (p : Source) (plans : Plans) (x : Own) (l l' : ℕ) (o o' : Op) → is_owed o ≡ true → is_owed o' ≡ true → AsksToMake p plans x l o
+    → AsksToMake p plans x l' o' → (l ≡ l') × (o ≡ o')

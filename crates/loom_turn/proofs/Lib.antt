@@ -1,0 +1,4 @@
+pub mod Changes
+pub mod Locks
+pub mod Tables
+pub mod Seats

@@ -1,0 +1,5 @@
+pub mod Lock
+pub mod TicketRule
+pub mod Steps
+pub mod Seat
+pub mod Laws

@@ -1,6 +1,6 @@
 -- A line has its fields in one way.
 use Rattle.std.proofs.Common.{ℕ, ◌≡◌, inl, inr, Bool, true, false, not, List, [], ◌∷◌, ◌++◌, refl, sym, ap, subst, ◌∙◌}
-use Rattle.loom_lexer.specs.Lexeme.{Each, Stops}
+use Rattle.loom_lexer.specs.Lexeme.{Each, BeginsWithout}
 use Rattle.loom_lexer.proofs.Unique.{one_cut}
 use Rattle.loom_command.specs.FilterText.{is_blank}
 use Rattle.loom_command.specs.Script.{is_dark, IsField, HasFields}
@@ -10,7 +10,7 @@ same_behind [] ys zs e = e
 same_behind (x ∷ xs) ys zs e = same_behind xs ys zs (let t : xs ++ ys ≡ xs ++ zs = cc in t)
 
 -- blanks end where a field begins
-dark_stops : (f more : List ℕ) → IsField f → Stops is_blank (f ++ more)
+dark_stops : (f more : List ℕ) → IsField f → BeginsWithout is_blank (f ++ more)
 dark_stops [] more h = absurd h
 dark_stops (b ∷ bs) more h = go (is_blank b) refl h.0
   where
@@ -27,7 +27,7 @@ pub record SameField (f g xs ys : List ℕ) : Type 0 where
   pub field : f ≡ g
   pub behind : xs ≡ ys
 
-pub one_field : (ps bs f g xs ys : List ℕ) → Each is_blank ps → Each is_blank bs → IsField f → IsField g → Stops is_dark xs → Stops is_dark ys
+pub one_field : (ps bs f g xs ys : List ℕ) → Each is_blank ps → Each is_blank bs → IsField f → IsField g → BeginsWithout is_dark xs → BeginsWithout is_dark ys
     → ps ++ (f ++ xs) ≡ bs ++ (g ++ ys) → SameField f g xs ys
 one_field ps bs f g xs ys ha hb hf hg hx hy e =
     let blanks : ps ≡ bs = one_cut is_blank ps bs (f ++ xs) (g ++ ys) ha hb (dark_stops f xs hf) (dark_stops g ys hg) e in

@@ -1,6 +1,6 @@
 -- The same bytes are at most one script.
 use Rattle.std.proofs.Common.{ℕ, suc, ◌≡◌, inl, inr, Bool, true, false, List, [], ◌∷◌, ◌++◌, refl, sym, ap, subst, ◌∙◌, codes, arith}
-use Rattle.loom_lexer.specs.Lexeme.{Each, Stops}
+use Rattle.loom_lexer.specs.Lexeme.{Each, BeginsWithout}
 use Rattle.loom_tree.specs.Decimal.{decimal}
 use Rattle.loom_command.specs.FilterText.{is_blank}
 use Rattle.loom_command.specs.Script.{Trigger, at, stall, ScriptAction, install, remove, ScriptCommand, HasFields, IsSkipped, EndsDark, IsTrimmed, WhenFields, ActionFields, IsCommandLine, AreCommands, lines, IsScript}

@@ -2,12 +2,12 @@
 use Rattle.std.specs.Prelude.{ℕ, suc, ◌≤◌, ◌≡◌, List, [], ◌∷◌, ◌++◌, length, map, Option, Some, None, codes}
 use Rattle.std.specs.List.{AllByRecursion}
 use Rattle.loom_tree.specs.Tree.{Expression}
-use Rattle.loom_tree.specs.Token.{Placed, Token}
-use Rattle.loom_lexer.specs.declared.lexeme.Kind.{Kind}
-use Rattle.loom_lexer.specs.declared.lexeme.Kind.TheVariants as k
+use Rattle.loom_tree.specs.Token.{LineToken, Token}
+use Rattle.loom_lexer.specs.declared.lexeme.LexemeKind.{LexemeKind}
+use Rattle.loom_lexer.specs.declared.lexeme.LexemeKind.TheVariants as k
 use Rattle.loom_lexer.specs.Lexeme.{Lexeme, Each, is, is_letter, is_digit, is_part, IsLexed}
 use Rattle.loom_lexer.specs.Tokens.{value_from, keyword_of, tokens_from}
-use Rattle.loom_expression.specs.Written.{IsExpression}
+use Rattle.loom_expression.specs.Text.{IsExpression}
 use Rattle.std.specs.Prelude.{Bool, true, false, not, ◌||◌, nat_eq, nat_le}
 use Rattle.loom_command.specs.Filter as tree
 use Rattle.loom_command.specs.Filter.{Filter}
@@ -63,7 +63,7 @@ pub record IsNumber (digits : List ℕ) : Type 0 where
   pub least : 1 ≤ value_from 0 digits
   pub most : value_from 0 digits ≤ largest_number
 
-abbrev pub is_comment : Kind → Bool
+abbrev pub is_comment : LexemeKind → Bool
 is_comment k.Comment = true
 is_comment _ = false
 
@@ -73,7 +73,7 @@ pub record IsTest (x : TestForm) : Type 0 where
   pub lexed : IsLexed lexemes x.bytes
   pub one_line : Each (λ b. not (nat_eq b 10)) x.bytes
   pub no_comment : AllByRecursion (λ (l : Lexeme). is_comment l.kind ≡ false) lexemes
-  pub is : IsExpression (map (λ (t : Placed). t.token) (tokens_from 1 lexemes)) x.tree
+  pub is : IsExpression (map (λ (t : LineToken). t.token) (tokens_from 1 lexemes)) x.tree
 
 abbrev pub IsTestIf : Option TestForm → Type 0
 IsTestIf None = Unit {0}

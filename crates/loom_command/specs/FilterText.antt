@@ -1,7 +1,7 @@
 -- The text of a filter: tokens with blanks before, between and behind them.
 use Rattle.std.specs.Prelude.{ℕ, suc, ◌≤◌, ◌≡◌, List, [], ◌∷◌, ◌++◌, length, map, Option, Some, None, codes, Bool, ◌||◌, nat_eq}
 use Rattle.std.specs.List.{AllByRecursion}
-use Rattle.loom_lexer.specs.Lexeme.{Each, Stops}
+use Rattle.loom_lexer.specs.Lexeme.{Each, BeginsWithout}
 use Rattle.loom_command.specs.Filter.{Filter}
 use Rattle.loom_command.specs.FilterForm.{TestForm, EventForm, StepForm, RegionForm, between, whole, ClauseForm, order, exclusive, unilateral, is_file_part, IsClause, filter_tree}
 
@@ -23,7 +23,7 @@ bytes_of (test bs) = bs
 
 -- with this behind it
 abbrev pub Stands : Piece → List ℕ → Type 0
-Stands (word bs) rest = Stops is_file_part rest
+Stands (word bs) rest = BeginsWithout is_file_part rest
 Stands _ rest = Unit {0}
 
 -- the bytes are these pieces, one behind the other, and then the rest

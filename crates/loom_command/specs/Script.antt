@@ -1,6 +1,6 @@
 -- Scripts: lines of an operator, each a command.
 use Rattle.std.specs.Prelude.{ℕ, suc, ◌+◌, ◌-◌, ◌≤◌, ◌≡◌, ◌⊎◌, Bool, true, false, not, ◌||◌, nat_eq, List, [], ◌∷◌, ◌++◌, length, take, slice_get, Option, Some, None, codes, if◌then◌else◌}
-use Rattle.loom_lexer.specs.Lexeme.{Each, Stops, is_letter, is_part}
+use Rattle.loom_lexer.specs.Lexeme.{Each, BeginsWithout, is_letter, is_part}
 use Rattle.loom_tree.specs.Decimal.{decimal}
 use Rattle.loom_command.specs.FilterText.{is_blank}
 
@@ -50,7 +50,7 @@ IsField (b ∷ bs) = Each is_dark (b ∷ bs)
 abbrev pub HasFields : List (List ℕ) → List ℕ → List ℕ → Type 0
 HasFields [] rest bytes = bytes ≡ rest
 HasFields (f ∷ fs) rest bytes =
-    (blanks : List ℕ) × (more : List ℕ) × (bytes ≡ blanks ++ (f ++ more)) × Each is_blank blanks × IsField f × Stops is_dark more × HasFields fs rest more
+    (blanks : List ℕ) × (more : List ℕ) × (bytes ≡ blanks ++ (f ++ more)) × Each is_blank blanks × IsField f × BeginsWithout is_dark more × HasFields fs rest more
 
 -- A line without a field, or of which the first begins with `#`
 -- (35 is `#`)
@@ -91,7 +91,7 @@ pub record IsTrimmed (rest text : List ℕ) : Type 0 where
   pub is : rest ≡ before ++ (text ++ behind)
   pub blank_before : Each is_blank before
   pub blank_behind : Each is_blank behind
-  pub begins : Stops is_blank text
+  pub begins : BeginsWithout is_blank text
   pub ends : EndsDark text
 
 abbrev pub ActionFields : ScriptAction → List ℕ → List ℕ → Type 0

@@ -1,5 +1,5 @@
 -- Worked programs, their runs, and lists that are no run.
-use Rattle.std.proofs.Common.{ℕ, ◌≡◌, inl, inr, pos, List, [], ◌∷◌, ◌++◌, map, Some, None, refl, ap, subst, codes, arith}
+use Rattle.std.proofs.Common.{ℕ, ◌≡◌, inl, inr, pos, List, [], ◌∷◌, ◌++◌, map, Some, None, refl, ap, subst, codes, arith, rules}
 use Rattle.loom_trace.specs.declared.entry.Entry.{Entry}
 use Rattle.loom_trace.specs.declared.entry.Entry.TheVariants as e
 use Rattle.loom_tree.specs.declared.expression.Op.TheVariants as o
@@ -8,9 +8,9 @@ use Rattle.loom_tree.specs.Tree as tree
 use Rattle.loom_lang.specs.Rules.{KeepsRules}
 use Rattle.loom_lang.specs.Trace.{Act, begin, end, trap, threads, overflow, read, write, lock, spawn, join, print, Finished, Open}
 use Rattle.loom_lang.specs.Acts.{Deed, IsAlike}
-use Rattle.loom_lang.proofs.Shown.{tested}
+use Rattle.loom_lang.proofs.Examples.{tested}
 use Rattle.loom_lang.proofs.NextAct.{one_next_act}
-use Rattle.loom_lang.proofs.Shown.{calls}
+use Rattle.loom_lang.proofs.Examples.{calls}
 use Rattle.loom_event.specs.Event.{Event}
 use Rattle.loom_event.specs.Replay.{start, thread_at, replay, AreAllowed}
 use Rattle.loom_event.specs.Run.{IsTraced, IsThreadTraced, IsRun}
@@ -56,7 +56,7 @@ adds = record {
 }
 
 pub adds_lawful : KeepsRules adds
-adds_lawful = tested adds refl
+adds_lawful = tested adds (search rules) refl
 
 abbrev pub adds_events : List Event
 adds_events =
@@ -244,7 +244,7 @@ spawns = record {
 }
 
 pub spawns_lawful : KeepsRules spawns
-spawns_lawful = tested spawns refl
+spawns_lawful = tested spawns (search rules) refl
 
 abbrev pub spawns_events : List Event
 spawns_events =
@@ -324,7 +324,7 @@ full = record {
 }
 
 pub full_lawful : KeepsRules full
-full_lawful = tested full refl
+full_lawful = tested full (search rules) refl
 
 abbrev pub full_events : List Event
 full_events =
@@ -374,7 +374,7 @@ locks = record {
 }
 
 pub locks_lawful : KeepsRules locks
-locks_lawful = tested locks refl
+locks_lawful = tested locks (search rules) refl
 
 abbrev pub locks_events : List Event
 locks_events =

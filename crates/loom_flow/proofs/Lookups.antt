@@ -6,6 +6,7 @@ use Rattle.std.proofs.lemmas.List.{length-map}
 use Rattle.loom_tree.specs.declared.item.Word.{Word}
 use Rattle.loom_tree.specs.declared.item.Sema.{Sema}
 use Rattle.loom_tree.specs.Tree.{Source}
+use Rattle.loom_lang.specs.Limits.{name_limit}
 use Rattle.loom_lang.specs.Numbers.{Cells, position}
 use Rattle.loom_lang.specs.Rules.{KeepsRules}
 use Rattle.loom_flow.specs.FlatCode.{first_cell, array_of}
@@ -36,7 +37,7 @@ pub first_of_array : (c : Option Cells) → (array_of c).first ≡ first_cell c
 first_of_array None = refl
 first_of_array (Some c) = refl
 
-few_names : (p : Source) → KeepsRules p → length p.words + (length p.mutexes + length p.semas) ≤ 64
+few_names : (p : Source) → KeepsRules p → length p.words + (length p.mutexes + length p.semas) ≤ name_limit
 few_names p h =
     let words = length-map p.words (λ (w : Word). w.name) in
     let semas = length-map p.semas (λ (s : Sema). s.name) in
@@ -45,8 +46,8 @@ few_names p h =
     let few = h.name_count in
     omega arith
 
-pub few_mutexes : (p : Source) → KeepsRules p → length p.mutexes ≤ 64
+pub few_mutexes : (p : Source) → KeepsRules p → length p.mutexes ≤ name_limit
 few_mutexes p h = let few = few_names p h in omega arith
 
-pub few_semas : (p : Source) → KeepsRules p → length p.semas ≤ 64
+pub few_semas : (p : Source) → KeepsRules p → length p.semas ≤ name_limit
 few_semas p h = let few = few_names p h in omega arith

@@ -1,6 +1,7 @@
 -- A thread before an instruction: its values, its locals and its frames.
 use Rattle.std.specs.Prelude.{slice_get, ℕ, zero, suc, List, [], ◌∷◌, ℤ, pos, Option, Some, None, take, drop, reverse}
 use Rattle.loom_tree.specs.Tree.{Function}
+use Rattle.loom_lang.specs.Limits.{local_limit}
 use Rattle.loom_lang.specs.Rules.{locals_of}
 use Rattle.loom_lang.specs.Trace.{Locals}
 use Rattle.loom_flow.specs.declared.code.Operand.{Operand}
@@ -89,7 +90,7 @@ without_arguments z n = record z { values = drop n z.values }
 
 -- A frame has room for as many locals as a function may have.
 abbrev pub frame_room : ℕ
-frame_room = 32
+frame_room = local_limit
 
 -- the locals of a new frame: an argument for each parameter, and 0 for the others
 abbrev pub frame_locals : Entrance → List ℤ → List ℤ

@@ -1,6 +1,7 @@
 //! The functions that a function calls, as a set with one bit for each.
 ghost use Rattle.std.specs.Prelude.{◌≡◌, ◌^◌, ◌<◌, bit_or};
 ghost use Rattle.loom_tree.specs.Tree.{body_of, behind, end, right_of};
+ghost use Rattle.loom_lang.specs.Limits.{function_limit};
 ghost use Rattle.loom_lang.specs.Numbers.{function_number};
 ghost use Rattle.loom_flow.specs.FlatCode.{or_zero, calls_right, calls_body, set_of};
 
@@ -9,7 +10,7 @@ use loom_tree::name::Name;
 use loom_tree::statement::{Kind, Right, Stmts};
 
 fn bit(number: u8) -> u64
-    requires { number < 64 }
+    requires { number < function_limit }
     ensures { result ≡ 2 ^ number }
 {
     1 << number

@@ -1,6 +1,7 @@
 //! From a program to its flat code.
 ghost use Rattle.std.specs.Prelude.{◌≡◌, ◌<◌, ◌≤◌, ◌+◌, ◌∷◌, ◌++◌, [], true, OnOk, IfOk, length};
 ghost use Rattle.loom_tree.specs.Tree.{body_of, function_of, functions_of};
+ghost use Rattle.loom_lang.specs.Limits.{param_limit};
 ghost use Rattle.loom_lang.specs.Rules.{KeepsRules, FunctionKeepsRules, locals_of};
 ghost use Rattle.loom_flow.specs.Laws.{HasTraces, HasPlaces, HasInstructionPlaces, HasCalls};
 ghost use Rattle.loom_flow.specs.FlatCode.{place_count, functions_code, functions_sites, entrances, calls_body, set_of, lowered, place_limit};
@@ -22,7 +23,7 @@ use std::sync::Arc;
 /// Where the function stands that is put next.
 fn entrance(code: &[Instr], sites: &[Site], f: &Func) -> Result<Entrance, NoMemory>
     requires room { length sites.now < place_limit }
-    requires params { length f.now.params ≤ 4 }
+    requires params { length f.now.params ≤ param_limit }
     ensures { IfOk result (λ e. e ≡ record { start = length code.now; place = length sites.now; params = length f.now.params }) }
 {
     Ok(Entrance {

@@ -3,6 +3,7 @@ ghost use Rattle.std.specs.Prelude.{◌≡◌, ◌==◌, ◌<◌, ◌≤◌, IfS
 ghost use Rattle.std.specs.Cmp.Lexicographic.{pointwise};
 ghost use Rattle.loom_tree.specs.declared.item.Sema as sema;
 ghost use Rattle.loom_tree.specs.Tree.{Function, functions_of};
+ghost use Rattle.loom_lang.specs.Limits.{function_limit, local_limit, name_limit, cell_limit};
 ghost use Rattle.loom_lang.specs.Numbers.{position, cells_from, mutex_number, sema_number, function_number};
 ghost use Rattle.loom_lang.specs.Rules.{cells_of, cell_count};
 ghost use Rattle.loom_flow.specs.FlatCode.{array_of, array_named, word_named, or_zero};
@@ -21,7 +22,7 @@ fn is_same(x: &Name, y: &Name) -> bool
 
 #[tactic(auto, using(crate::proofs::Lookups::from_zero))]
 fn position(names: &[Name], x: &Name) -> Option<u8>
-    requires { length names.now ≤ 64 }
+    requires { length names.now ≤ name_limit }
     ensures { result ≡ position x.now names.now }
 {
     'scan: for (i, y) in names.iter().enumerate() {
@@ -34,7 +35,7 @@ fn position(names: &[Name], x: &Name) -> Option<u8>
 
 #[tactic(auto, using(crate::proofs::Lookups::from_zero))]
 fn sema_position(semas: &[Sema], x: &Name) -> Option<u8>
-    requires { length semas.now ≤ 64 }
+    requires { length semas.now ≤ name_limit }
     ensures { result ≡ position x.now (map (λ (s : sema.Sema). s.name) semas.now) }
 {
     'scan: for (i, s) in semas.iter().enumerate() {
@@ -47,9 +48,9 @@ fn sema_position(semas: &[Sema], x: &Name) -> Option<u8>
 
 #[tactic(auto, using(crate::proofs::Lookups::from_zero))]
 fn func_position(funcs: &[Func], x: &Name) -> Option<u8>
-    requires { length funcs.now ≤ 64 }
+    requires { length funcs.now ≤ function_limit }
     ensures number { result ≡ position x.now (map (λ (f : Function). f.name) (functions_of funcs.now)) }
-    ensures within { IfSome result (λ n. n < 64) }
+    ensures within { IfSome result (λ n. n < function_limit) }
 {
     'scan: for (i, f) in funcs.iter().enumerate() {
         if is_same(&f.name, x) {
@@ -61,7 +62,7 @@ fn func_position(funcs: &[Func], x: &Name) -> Option<u8>
 
 /// How many cells a word or an array has, a plain word one.
 fn cell_count(w: &Word) -> u16
-    requires { cells_of w.now ≤ 1024 }
+    requires { cells_of w.now ≤ cell_limit }
     ensures { result ≡ cells_of w.now }
 {
     match w.cells {
@@ -72,7 +73,7 @@ fn cell_count(w: &Word) -> u16
 
 /// The cells from a number on. A plain word counts as none.
 fn cells_at(first: u16, w: &Word) -> Array
-    requires { cells_of w.now ≤ 1024 }
+    requires { cells_of w.now ≤ cell_limit }
     ensures { result ≡ record { first = first; count = or_zero w.now.cells } }
 {
     match w.cells {
@@ -86,7 +87,7 @@ fn cells_at(first: u16, w: &Word) -> Array
 
 /// The cells of the word or array of a name.
 fn cells(words: &[Word], x: &Name) -> Array
-    requires { cell_count words.now ≤ 1024 }
+    requires { cell_count words.now ≤ cell_limit }
     ensures { result ≡ array_of (cells_from 0 words.now x.now) }
 {
     let mut first: u16 = 0;
@@ -104,7 +105,7 @@ fn cells(words: &[Word], x: &Name) -> Array
 pub struct Scope {
     pub program: Program,
     pub locals: Names,
-    ghost few: { length locals ≤ 32 },
+    ghost few: { length locals ≤ local_limit },
 }
 
 impl Scope {
@@ -149,7 +150,7 @@ impl Scope {
     /// The number of a function.
     pub fn function(&self, x: &Name) -> u8
         ensures number { result ≡ or_zero (function_number self.now.program x.now) }
-        ensures below { result < 64 }
+        ensures below { result < function_limit }
     {
         match func_position(&self.program.funcs().0, x) {
             Some(n) => n,

@@ -15,20 +15,20 @@ use Rattle.loom_lang.proofs.NextItem.{one_next_item}
 use Rattle.loom_event.specs.Answer.{granted, trapped}
 use Rattle.loom_event.specs.Event.{Event, entry_by, targets}
 use Rattle.loom_event.specs.Entries.{thread_of, is_thread}
-use Rattle.loom_event.specs.Replay.{Spawned, Store, start, thread_at, replay, IsAllowed}
-use Rattle.loom_law.specs.Walk.{Version, Plans, Op, wait, enters, at, past, post, leave, back, tick, cross, blocked, Owed, Step, goes, makes, items, told, entry_of_op, Walk, unborn, entered_journal, crossing, after, walked, request_place, place_of_item, place_of_next, Acts, AsksFor, MayCross, MayBlock, MayStand, AreWoven}
+use Rattle.loom_event.specs.Replay.{ThreadState, Store, start, thread_at, replay, IsAllowed}
+use Rattle.loom_law.specs.Walk.{Version, Plans, Operation, wait, enters, at, past, post, leave, back, tick, cross, blocked, Queue, Step, goes, makes, items, told, entry_of_operation, Walk, unborn, behind_entry, crossing, after, walked, request_place, place_of_item, place_of_next, Acts, AsksFor, MayCross, MayBlock, MayStand, AreWoven}
 use Rattle.loom_law.specs.Part.{Own, led, IsPart, KeepsAway, AsksToAct, GoesOn}
 use Rattle.loom_law.specs.Control.{Control, control, taken, entries_of}
-use Rattle.loom_law.specs.Lawful.{Setting, Front, front_of, plans, own, IsFlagged, is_begin, is_cross, owes_cross, IsLawful, Stands}
-use Rattle.loom_law.specs.Laws.{with_newest, own_with, Needs, MayTurn}
+use Rattle.loom_law.specs.Lawful.{Setting, Front, front_of, plans, own, IsFlagged, is_begin, is_cross, owes_cross, IsLawful, MayFollow, Permits}
+use Rattle.loom_law.specs.Laws.{with_newest, own_with, MayTurn}
 use Rattle.loom_law.specs.TurnLaws.{IsAnswered, event_of_deed, MayAnswer, HasAnswers, HasAnswerTurns}
 use Rattle.loom_law.proofs.OnePart.{told_append}
 use Rattle.loom_law.proofs.Earlier.{items_ahead, to_take, an_own, stays, by_test, if_true, if_false, IsOf}
-use Rattle.loom_law.proofs.Turns.{event_turns}
+use Rattle.loom_law.proofs.Lawful.{event_turns}
 
 -- A walk with more versions to take than it takes
 
-place_same : (z : Walk) (vs us : List Version) (os : Owed) (is : List Item) (y : Place) → place_of_next (to_take z vs) os is ≡ Some y → place_of_next (to_take z us) os is ≡ Some y
+place_same : (z : Walk) (vs us : List Version) (os : Queue) (is : List Item) (y : Place) → place_of_next (to_take z vs) os is ≡ Some y → place_of_next (to_take z us) os is ≡ Some y
 place_same z vs us (o ∷ os) is y h = h
 place_same z vs us [] [] y h = h
 place_same z vs us [] (made l begin ∷ is) y h = h
@@ -66,7 +66,7 @@ more : (p : Source) (plans : Plans) (z : Walk) (vs us : List Version) (ss : List
 more p plans z vs us [] ahead h = (tt, refl)
 more p plans z [] us (goes (made l begin) ∷ ss) ahead h = absurd h.0.1
 more p plans z (v ∷ vs) us (goes (made l begin) ∷ ss) ahead h =
-    let ih = more p plans (record (entered_journal z) { active = v.active }) vs us ss ahead h.1 in (((h.0.0, tt), ih.0), ih.1)
+    let ih = more p plans (record (behind_entry z) { active = v.active }) vs us ss ahead h.1 in (((h.0.0, tt), ih.0), ih.1)
 more p plans z vs us (goes (made l end) ∷ ss) ahead h =
     let ih = more p plans (after p plans z (goes (made l end))) vs us ss ahead h.1 in ((h.0, ih.0), ih.1)
 more p plans z vs us (goes (made l (trap c)) ∷ ss) ahead h =
@@ -166,7 +166,7 @@ join_same c (spawn d f vs) h free = h
 join_same c (join d) h free = h
 join_same c (print v) h free = h
 
-act_same : (os : Owed) (m l : ℕ) (b a x : Act) → AnswerTheSame b a → (b ≡ x → x ≡ a) → Acts os (made m b ∷ []) l x → Acts os (made m a ∷ []) l x
+act_same : (os : Queue) (m l : ℕ) (b a x : Act) → AnswerTheSame b a → (b ≡ x → x ≡ a) → Acts os (made m b ∷ []) l x → Acts os (made m a ∷ []) l x
 act_same (o ∷ os) m l b a x like same h = h
 act_same [] m l b a x like same h =
     let line : m ≡ l = cc in
@@ -249,13 +249,13 @@ head_place z (edge l) is js y h = h
 head_place z (enter f env) is js y h = h
 head_place z (out f) is js y h = h
 
-place_ahead : (z : Walk) (os : Owed) (is : List Item) (m : ℕ) (b a : Act) (y : Place) → AnswerTheSame b a → place_of_next z os (is ++ made m b ∷ []) ≡ Some y
+place_ahead : (z : Walk) (os : Queue) (is : List Item) (m : ℕ) (b a : Act) (y : Place) → AnswerTheSame b a → place_of_next z os (is ++ made m b ∷ []) ≡ Some y
     → place_of_next z os (is ++ made m a ∷ []) ≡ Some y
 place_ahead z (o ∷ os) is m b a y like h = h
 place_ahead z [] [] m b a y like h = act_place z m b a y like h
 place_ahead z [] (i ∷ is) m b a y like h = head_place z i (is ++ made m b ∷ []) (is ++ made m a ∷ []) y h
 
-head_acts : (os : Owed) (i : Item) (is js : List Item) (l : ℕ) (x : Act) → Acts os (i ∷ is) l x → Acts os (i ∷ js) l x
+head_acts : (os : Queue) (i : Item) (is js : List Item) (l : ℕ) (x : Act) → Acts os (i ∷ is) l x → Acts os (i ∷ js) l x
 head_acts (o ∷ os) i is js l x h = h
 head_acts [] i is js l x h = h
 
@@ -423,12 +423,12 @@ entry_in t (y ∷ es) us x vs h =
     mine (u ∷ us) g ih = let others : entries_of t es ≡ us ++ x ∷ vs = cc in behind (ih us x vs others)
 
 -- what stood spawned is spawned
-still_there : (s : Setting) (es : List Entry) (h : IsLawful s es) (front : List Entry) (c : ℕ) (y : Spawned)
+still_there : (s : Setting) (es : List Entry) (h : IsLawful s es) (front : List Entry) (c : ℕ) (y : ThreadState)
     → thread_at (replay (start s.program) (take (length (targets front)) h.events)) c ≡ Some y → thread_at (replay (start s.program) h.events) c ≡ None → ⊥
 still_there s es h front c y there none =
     let p : Source = s.program in
     let n : ℕ = length (targets front) in
-    let o : Option Spawned = thread_at (replay (start p) h.events) c in
+    let o : Option ThreadState = thread_at (replay (start p) h.events) c in
     let kept : IsOf (thread_at (replay (start p) (take n h.events)) c) (thread_at (replay (start p) (take n h.events ++ drop n h.events)) c) =
     stays p (take n h.events) (drop n h.events) c in
     let whole : IsOf (thread_at (replay (start p) (take n h.events)) c) o =
@@ -442,7 +442,7 @@ free_steps s es h t d steps tells ok before l c behind is trapped =
     let whole : entries_of t es ≡ told t before ++ x ∷ told t behind =
     sym tells ∙ (ap (told t) is ∙ told_append t before (makes l (blocked (w.Join c)) ∷ behind)) in
     let found = entry_in t es (told t before) x (told t behind) whole in
-    let stood : Stands s (front_of s found.0 (take (length (targets found.0)) h.events)) x found.1.0 = h.stands found.0 x found.1.0 found.1.1 in
+    let stood : MayFollow s (front_of s found.0 (take (length (targets found.0)) h.events)) x found.1.0 = h.follows found.0 x found.1.0 found.1.1 in
     let caused : IsAllowed (replay (start s.program) h.events) (event_of_deed t (record { line = d.line; act = trap (not_spawned (pos c)) })) =
     subst (λ a. IsAllowed (replay (start s.program) h.events) (event_of_deed t (record { line = d.line; act = a }))) trapped ok in
     still_there s es h found.0 c stood.1.0 stood.1.1 (caused.1 c refl)
@@ -463,19 +463,19 @@ act_no_cross t l (spawn c f ws) = refl
 act_no_cross t l (join c) = refl
 act_no_cross t l (print v) = refl
 
-act_needs : (s : Setting) (f : Front) (t l : ℕ) (a : Act) → Needs s f (entry_by t l a)
-act_needs s g t l begin = tt
-act_needs s g t l end = tt
-act_needs s g t l (trap c) = tt
-act_needs s g t l (read x v) = tt
-act_needs s g t l (write x v) = tt
-act_needs s g t l (lock x) = tt
-act_needs s g t l (unlock x) = tt
-act_needs s g t l (down x) = tt
-act_needs s g t l (up x) = tt
-act_needs s g t l (spawn c f ws) = tt
-act_needs s g t l (join c) = tt
-act_needs s g t l (print v) = tt
+act_permits : (s : Setting) (f : Front) (t l : ℕ) (a : Act) → Permits s f (entry_by t l a)
+act_permits s g t l begin = tt
+act_permits s g t l end = tt
+act_permits s g t l (trap c) = tt
+act_permits s g t l (read x v) = tt
+act_permits s g t l (write x v) = tt
+act_permits s g t l (lock x) = tt
+act_permits s g t l (unlock x) = tt
+act_permits s g t l (down x) = tt
+act_permits s g t l (up x) = tt
+act_permits s g t l (spawn c f ws) = tt
+act_permits s g t l (join c) = tt
+act_permits s g t l (print v) = tt
 
 pub goes_with : (p : Source) (plans : Plans) (x : Own) (q : Request) (d : Deed) (h : AsksToAct p plans x q) → IsAnswered q d
     → IsTrace p x.func x.args (items h.steps ++ made d.line d.act ∷ []) Open
@@ -519,7 +519,7 @@ answers s es h t q d m =
         crosses = act_no_cross t d.line d.act ∙ sym m.no_cross;
         away = λ k is some. subst (KeepsAway (IsFlagged s k)) (sym a.walk) (keeps_taking (IsFlagged s k) (walked p (plans s) (unborn vs) steps) a.coming (m.away k is some));
         no_begin = m.no_begin;
-        needs = act_needs s (front_of s es h.events) t d.line d.act;
+        permits = act_permits s (front_of s es h.events) t d.line d.act;
       },
       (refl, refl),
     )

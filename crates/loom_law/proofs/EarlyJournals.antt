@@ -12,17 +12,18 @@ use Rattle.loom_lang.specs.Trace.{begin, end, read, write, spawn, join, print, m
 use Rattle.loom_command.specs.Filter.{Region, Clause}
 use Rattle.loom_command.specs.Script as script
 use Rattle.loom_event.specs.Event.{Event}
-use Rattle.loom_event.specs.Replay.{Spawned, start, thread_at, replay}
+use Rattle.loom_event.specs.Replay.{ThreadState, start, thread_at, replay}
 use Rattle.loom_event.specs.Run.{AreRun}
 use Rattle.loom_event.proofs.Runs.{next, given, threads_traced, does}
 use Rattle.loom_event.proofs.Runs as runs
+use Rattle.loom_event.proofs.Stops as stops
 use Rattle.loom_event.proofs.Shown.{event}
 use Rattle.loom_law.specs.Filter.{plan_of}
 use Rattle.loom_law.specs.Walk.{wait, past, post, blocked, Step, goes, makes, items}
 use Rattle.loom_law.specs.Walk as walk
 use Rattle.loom_law.specs.Control.{refused, means, install, Command}
-use Rattle.loom_law.specs.Lawful.{Setting, HasPart, StandsAt, IsOutside, MayInstall, IsDue, IsLawful}
-use Rattle.loom_law.proofs.Fronts.{front_at, Each, each_one, StandsBehind, nothing_made}
+use Rattle.loom_law.specs.Lawful.{Setting, HasPart, StandsAt, running, IsOutside, MayInstall, front_at, IsLawful}
+use Rattle.loom_law.proofs.Fronts.{Each, behind, each_one, FollowsBehind, nothing_made}
 use Rattle.loom_law.proofs.Journals.{not_due, moves}
 
 -- A use waits for the initialisation.
@@ -45,7 +46,7 @@ abbrev order_commands : List Command
 order_commands = (record { trigger = script.at 0; name = (codes "ord"); action = install (means (plan_of order_program ((Clause.order (record { event = record { file = (codes "use.lm"); line = 8; test = None }; count = 1 } ∷ record { event = record { file = (codes "use.lm"); line = 3; test = None }; count = 1 } ∷ [])) ∷ []))) } ∷ [])
 
 abbrev pub order_setting : Setting
-order_setting = record { program = order_program; commands = order_commands; limit = 100000; stop = λ x. false }
+order_setting = record { program = order_program; commands = order_commands; limit = 100000; stop = stops.never }
 
 abbrev pub order_journal : List Entry
 order_journal =
@@ -59,7 +60,7 @@ order_events =
     event 1 5 begin ∷ event 1 6 (spawn 2 0 []) ∷ event 2 2 begin ∷ event 1 7 (print (pos 1)) ∷ event 1 8 (write 0 (pos 5)) ∷ event 2 3 (read 0 (pos 5))
     ∷ event 2 3 (print (pos 2)) ∷ event 2 2 end ∷ event 1 9 (join 2) ∷ event 1 5 end ∷ []
 
-order_ended : (t : ℕ) (x : Spawned) → thread_at (replay (start order_program) order_events) t ≡ Some x → x.ended ≡ true
+order_ended : (t : ℕ) (x : ThreadState) → thread_at (replay (start order_program) order_events) t ≡ Some x → x.ended ≡ true
 order_ended zero x h = cc
 order_ended (suc zero) x h = cc
 order_ended (suc (suc zero)) x h = cc
@@ -70,7 +71,7 @@ order_nowhere zero = refl
 order_nowhere (suc zero) = refl
 order_nowhere (suc (suc t)) = refl
 
-order_outside : (t : ℕ) → IsOutside order_setting (e.Asked 1 ∷ []) t (thread_at (start order_program) t) (plan_of order_program ((Clause.order (record { event = record { file = (codes "use.lm"); line = 8; test = None }; count = 1 } ∷ record { event = record { file = (codes "use.lm"); line = 3; test = None }; count = 1 } ∷ [])) ∷ [])) nowhere
+order_outside : (t : ℕ) → IsOutside order_setting (e.Asked 1 ∷ []) t (running (thread_at (start order_program) t)) (plan_of order_program ((Clause.order (record { event = record { file = (codes "use.lm"); line = 8; test = None }; count = 1 } ∷ record { event = record { file = (codes "use.lm"); line = 3; test = None }; count = 1 } ∷ [])) ∷ [])) nowhere
 order_outside zero = tt
 order_outside (suc zero) = tt
 order_outside (suc (suc t)) = tt
@@ -142,9 +143,18 @@ order_run = record {
       runs.begins refl refl (does refl (refl, omega arith) (runs.begins refl refl (does refl tt (does refl tt (does refl refl (does refl tt (does refl tt (does refl (record { state = _; is = refl; ended = refl }) (does refl tt (tt))))))))));
 }
 
-order_stands : Each (StandsBehind order_setting order_events) [] order_journal
-order_stands =
-    ((record { command = _; is = refl; answered = refl; not_closing = refl; runs = refl; triggered = omega arith }, refl), ((refl, order_installs), ((moves {s = order_setting} refl tt, tt), (moves {s = order_setting} refl tt, ((moves {s = order_setting} refl tt, tt), (moves {s = order_setting} refl tt, ((moves {s = order_setting} refl tt, omega arith), ((moves {s = order_setting} refl tt, (refl, (tt, tt))), (moves {s = order_setting} refl tt, ((moves {s = order_setting} refl tt, refl), ((moves {s = order_setting} refl tt, refl), ((moves {s = order_setting} refl tt, (refl, omega arith)), ((moves {s = order_setting} refl tt, (_, refl, refl)), ((moves {s = order_setting} refl tt, (refl, (omega arith, tt))), (moves {s = order_setting} refl tt, (moves {s = order_setting} refl tt, ((moves {s = order_setting} refl tt, refl), ((moves {s = order_setting} refl tt, refl), (moves {s = order_setting} refl tt, ((moves {s = order_setting} refl tt, refl), ((refl, (refl, (omega arith, (refl, (order_ended, not_due order_setting _ refl))))), tt)))))))))))))))))))))
+order_follows : Each (FollowsBehind order_setting order_events) [] order_journal
+order_follows =
+    behind (record { command = _; is = refl; answered = refl; not_closing = refl; runs = refl; triggered = omega arith }, refl) (
+    behind (refl, order_installs) (behind (moves {s = order_setting} refl tt, tt) (behind (moves {s = order_setting} refl tt, tt) (
+    behind (moves {s = order_setting} refl tt, tt) (behind (moves {s = order_setting} refl tt, tt) (
+    behind (moves {s = order_setting} refl tt, omega arith) (behind (moves {s = order_setting} refl tt, (tt, tt)) (
+    behind (moves {s = order_setting} refl tt, tt) (behind (moves {s = order_setting} refl tt, tt) (behind (moves {s = order_setting} refl tt, tt) (
+    behind (moves {s = order_setting} refl tt, omega arith) (behind (moves {s = order_setting} refl tt, (_, refl, refl)) (
+    behind (moves {s = order_setting} refl tt, (omega arith, tt)) (behind (moves {s = order_setting} refl tt, tt) (
+    behind (moves {s = order_setting} refl tt, tt) (behind (moves {s = order_setting} refl tt, tt) (behind (moves {s = order_setting} refl tt, tt) (
+    behind (moves {s = order_setting} refl tt, tt) (behind (moves {s = order_setting} refl tt, tt) (
+    behind (refl, (refl, (omega arith, (refl, (order_ended, not_due order_setting _ refl))))) (tt)))))))))))))))))))))
 
 pub order_lawful : IsLawful order_setting order_journal
 order_lawful = record {
@@ -152,7 +162,7 @@ order_lawful = record {
   tells = refl;
   run = order_run;
   parts = order_parts;
-  stands = each_one (StandsBehind order_setting order_events) order_journal order_stands;
+  follows = each_one (FollowsBehind order_setting order_events) order_journal order_follows;
 }
 
 -- A region is a function that calls itself: the filter is refused, and the run goes on as without it.
@@ -189,7 +199,7 @@ abbrev nested_commands : List Command
 nested_commands = record { trigger = script.at 0; name = codes "r"; action = install (refused 7 1) } ∷ []
 
 abbrev pub nested_setting : Setting
-nested_setting = record { program = nested_program; commands = nested_commands; limit = 100000; stop = λ x. false }
+nested_setting = record { program = nested_program; commands = nested_commands; limit = 100000; stop = stops.never }
 
 abbrev pub nested_journal : List Entry
 nested_journal =
@@ -199,7 +209,7 @@ abbrev nested_events : List Event
 nested_events =
     event 1 6 begin ∷ event 1 8 (print (pos 0)) ∷ event 1 6 end ∷ []
 
-nested_ended : (t : ℕ) (x : Spawned) → thread_at (replay (start nested_program) nested_events) t ≡ Some x → x.ended ≡ true
+nested_ended : (t : ℕ) (x : ThreadState) → thread_at (replay (start nested_program) nested_events) t ≡ Some x → x.ended ≡ true
 nested_ended zero x h = cc
 nested_ended (suc zero) x h = cc
 nested_ended (suc (suc t)) x h = cc
@@ -238,9 +248,11 @@ nested_run = record {
       runs.begins refl refl (does refl tt (does refl tt (tt)));
 }
 
-nested_stands : Each (StandsBehind nested_setting nested_events) [] nested_journal
-nested_stands =
-    ((record { command = _; is = refl; answered = refl; not_closing = refl; runs = refl; triggered = omega arith }, refl), ((refl, refl), ((moves {s = nested_setting} refl tt, tt), (moves {s = nested_setting} refl tt, ((moves {s = nested_setting} refl tt, refl), ((refl, (refl, (omega arith, (refl, (nested_ended, not_due nested_setting _ refl))))), tt))))))
+nested_follows : Each (FollowsBehind nested_setting nested_events) [] nested_journal
+nested_follows =
+    behind (record { command = _; is = refl; answered = refl; not_closing = refl; runs = refl; triggered = omega arith }, refl) (behind (refl, refl) (
+    behind (moves {s = nested_setting} refl tt, tt) (behind (moves {s = nested_setting} refl tt, tt) (
+    behind (moves {s = nested_setting} refl tt, tt) (behind (refl, (refl, (omega arith, (refl, (nested_ended, not_due nested_setting _ refl))))) (tt))))))
 
 pub nested_lawful : IsLawful nested_setting nested_journal
 nested_lawful = record {
@@ -248,7 +260,7 @@ nested_lawful = record {
   tells = refl;
   run = nested_run;
   parts = nested_parts;
-  stands = each_one (StandsBehind nested_setting nested_events) nested_journal nested_stands;
+  follows = each_one (FollowsBehind nested_setting nested_events) nested_journal nested_follows;
 }
 
 -- The limit comes before the command, and between the command and its answer.
@@ -274,7 +286,7 @@ abbrev late_commands : List Command
 late_commands = (record { trigger = script.at 2; name = (codes "f"); action = install (means (plan_of late_program ((Clause.unilateral (Region.between (record { file = (codes "call.lm"); line = 8; test = None } ∷ []) (record { file = (codes "call.lm"); line = 9; test = None } ∷ []))) ∷ []))) } ∷ [])
 
 abbrev pub unreached_setting : Setting
-unreached_setting = record { program = late_program; commands = late_commands; limit = 2; stop = λ x. false }
+unreached_setting = record { program = late_program; commands = late_commands; limit = 2; stop = stops.never }
 
 abbrev pub unreached_journal : List Entry
 unreached_journal =
@@ -316,9 +328,10 @@ unreached_run = record {
       runs.begins refl refl (does refl refl (tt));
 }
 
-unreached_stands : Each (StandsBehind unreached_setting unreached_events) [] unreached_journal
-unreached_stands =
-    ((moves {s = unreached_setting} refl tt, tt), (moves {s = unreached_setting} refl tt, ((refl, (refl, (omega arith, (k.Limit, (refl, refl))))), ((refl, (refl, (omega arith, (refl, refl)))), tt))))
+unreached_follows : Each (FollowsBehind unreached_setting unreached_events) [] unreached_journal
+unreached_follows =
+    behind (moves {s = unreached_setting} refl tt, tt) (behind (moves {s = unreached_setting} refl tt, tt) (
+    behind (refl, (refl, (omega arith, (k.Limit, (refl, refl))))) (behind (refl, (refl, (omega arith, (refl, refl)))) (tt))))
 
 pub unreached_lawful : IsLawful unreached_setting unreached_journal
 unreached_lawful = record {
@@ -326,11 +339,11 @@ unreached_lawful = record {
   tells = refl;
   run = unreached_run;
   parts = unreached_parts;
-  stands = each_one (StandsBehind unreached_setting unreached_events) unreached_journal unreached_stands;
+  follows = each_one (FollowsBehind unreached_setting unreached_events) unreached_journal unreached_follows;
 }
 
 abbrev pub cut_setting : Setting
-cut_setting = record { program = late_program; commands = late_commands; limit = 3; stop = λ x. false }
+cut_setting = record { program = late_program; commands = late_commands; limit = 3; stop = stops.never }
 
 abbrev pub cut_journal : List Entry
 cut_journal =
@@ -372,9 +385,12 @@ cut_run = record {
       runs.begins refl refl (does refl refl (does refl tt (tt)));
 }
 
-cut_stands : Each (StandsBehind cut_setting cut_events) [] cut_journal
-cut_stands =
-    ((moves {s = cut_setting} refl tt, tt), (moves {s = cut_setting} refl tt, ((record { command = _; is = refl; answered = refl; not_closing = refl; runs = refl; triggered = omega arith }, refl), (moves {s = cut_setting} refl ((λ h. let no : false ≡ true = h in cc), (λ h. let no : false ≡ true = h in cc)), ((refl, refl), ((refl, (refl, (omega arith, (refl, refl)))), tt))))))
+cut_follows : Each (FollowsBehind cut_setting cut_events) [] cut_journal
+cut_follows =
+    behind (moves {s = cut_setting} refl tt, tt) (behind (moves {s = cut_setting} refl tt, tt) (
+    behind (record { command = _; is = refl; answered = refl; not_closing = refl; runs = refl; triggered = omega arith }, refl) (
+    behind (moves {s = cut_setting} refl ((λ h. let no : false ≡ true = h in cc), (λ h. let no : false ≡ true = h in cc)), tt) (behind (refl, refl) (
+    behind (refl, (refl, (omega arith, (refl, refl)))) (tt))))))
 
 pub cut_lawful : IsLawful cut_setting cut_journal
 cut_lawful = record {
@@ -382,5 +398,5 @@ cut_lawful = record {
   tells = refl;
   run = cut_run;
   parts = cut_parts;
-  stands = each_one (StandsBehind cut_setting cut_events) cut_journal cut_stands;
+  follows = each_one (FollowsBehind cut_setting cut_events) cut_journal cut_follows;
 }

@@ -12,8 +12,9 @@ use Rattle.loom_command.specs.Filter.{Region, Clause}
 use Rattle.loom_law.specs.Filter.{plan_of}
 use Rattle.loom_law.specs.Walk.{wait, enters, past, post, leave, back, tick, cross, blocked, Step, goes, makes, told, unborn, AreWoven}
 use Rattle.loom_law.specs.Walk as walk
+use Rattle.loom_command.specs.Script.{stall}
 use Rattle.loom_command.specs.Script as script
-use Rattle.loom_law.specs.Control.{stall, refused, means, install, remove, Command, plans_of}
+use Rattle.loom_law.specs.Control.{refused, means, install, remove, Command, plans_of}
 use Rattle.loom_law.specs.Control as control
 use Rattle.loom_law.specs.Part.{Own, IsPart}
 use Rattle.loom_law.specs.Walk.{Walk, walked, place_of_next, place_number}

@@ -10,20 +10,21 @@ use Rattle.loom_trace.specs.declared.request.Request.TheVariants as r
 use Rattle.loom_lang.specs.Trace.{Act, begin, end, trap, read, write, lock, unlock, down, up, spawn, join, print, Item, made, begins, done, edge, enter, out, not_spawned, Open, IsTrace}
 use Rattle.loom_lang.specs.Acts.{Deed}
 use Rattle.loom_event.specs.Answer.{granted}
-use Rattle.loom_event.specs.Replay.{Spawned}
-use Rattle.loom_law.specs.Walk.{Version, Plans, Op, wait, enters, at, past, post, leave, back, tick, cross, blocked, Owed, Step, goes, makes, items, told, entry_of_op, Walk, unborn, entered_journal, taking, crossing, after, walked, first_number, Acts, AsksFor, MayCross, AreWoven}
+use Rattle.loom_event.specs.Replay.{ThreadState}
+use Rattle.loom_law.specs.Walk.{Version, Plans, Operation, wait, enters, at, past, post, leave, back, tick, cross, blocked, Queue, Step, goes, makes, items, told, entry_of_operation, Walk, unborn, behind_entry, taking, crossing, after, walked, first_number, Acts, AsksFor, MayCross, AreWoven}
 use Rattle.loom_law.specs.Part.{Own, led, IsPart, HasMoved, KeepsAway, AsksToMake, AsksToAct}
 use Rattle.loom_law.specs.Control.{Control, control, entries_of}
-use Rattle.loom_law.specs.Lawful.{Setting, plans, own, IsFlagged, is_begin, KeptAway, IsLawful}
+use Rattle.loom_law.specs.Lawful.{Setting, plans, own, IsFlagged, is_begin, StaysAway, IsLawful}
 use Rattle.loom_law.specs.Laws.{own_with}
 use Rattle.loom_law.specs.TurnLaws.{AsksToDo, MayMake, HasMakingTurns, is_blocked_entry, blocked_behind, ends_blocked, request_of, HasBlocks}
 use Rattle.loom_law.proofs.OnePart.{told_append, one_move}
 use Rattle.loom_law.proofs.Earlier.{append_assoc, items_ahead, woven_front, takings}
-use Rattle.loom_law.proofs.Turns.{BeforeOp, before_op, moved, walked_coming, operation_turns}
+use Rattle.loom_law.proofs.Turns.{BeforeOp, before_op, moved, walked_coming}
+use Rattle.loom_law.proofs.Lawful.{operation_turns}
 use Rattle.loom_law.proofs.Answers.{IsFree, goes_with, woven_ahead, walked_append, woven_last}
 
-asked_part : (s : Setting) (es : List Entry) (t : ℕ) (z : Spawned) (l : ℕ) (o : Op) → AsksToDo s es (own s es t z) l o
-    → IsPart s.program (plans s) (own_with s es t z (entry_of_op t l o))
+asked_part : (s : Setting) (es : List Entry) (t : ℕ) (z : ThreadState) (l : ℕ) (o : Operation) → AsksToDo s es (own s es t z) l o
+    → IsPart s.program (plans s) (own_with s es t z (entry_of_operation t l o))
 asked_part s es t z l (wait k n) h = h
 asked_part s es t z l (enters k c) h = h
 asked_part s es t z l (at k ns) h = h
@@ -35,7 +36,7 @@ asked_part s es t z l (tick x) h = h
 asked_part s es t z l (blocked what) h = h
 asked_part s es t z l (cross y n m) h = subst (λ v. IsPart s.program (plans s) (own_with s es t z (e.Cross t l y v m))) (sym h.0) h.1
 
-op_no_begin : (t l : ℕ) (o : Op) → is_begin (entry_of_op t l o) ≡ false
+op_no_begin : (t l : ℕ) (o : Operation) → is_begin (entry_of_operation t l o) ≡ false
 op_no_begin t l (wait k n) = refl
 op_no_begin t l (enters k c) = refl
 op_no_begin t l (at k ns) = refl
@@ -48,19 +49,19 @@ op_no_begin t l (cross y n m) = refl
 op_no_begin t l (blocked what) = refl
 
 -- the part that ends with the operation
-pub record OpPart (p : Source) (plans : Plans) (x : Own) (l : ℕ) (o : Op) : Type 0 where
+pub record OpPart (p : Source) (plans : Plans) (x : Own) (l : ℕ) (o : Operation) : Type 0 where
   pub part : IsPart p plans x
   pub before : List Step
   pub last : part.steps ≡ before ++ makes l o ∷ []
 
-pub cut_part : (p : Source) (plans : Plans) (x : Own) (es : List Entry) (l : ℕ) (o : Op) → x.entries ≡ es ++ entry_of_op x.thread l o ∷ [] → IsPart p plans x → OpPart p plans x l o
+pub cut_part : (p : Source) (plans : Plans) (x : Own) (es : List Entry) (l : ℕ) (o : Operation) → x.entries ≡ es ++ entry_of_operation x.thread l o ∷ [] → IsPart p plans x → OpPart p plans x l o
 cut_part p plans x es l o is h =
     let t : ℕ = x.thread in
     let c : BeforeOp t h.steps es l o = before_op t h.steps es l o (h.tells ∙ is) in
     let steps : List Step = c.before ++ makes l o ∷ [] in
     let ahead : List Item = items c.behind ++ h.ahead in
     let whole : h.steps ≡ steps ++ c.behind = c.whole ∙ sym (append_assoc c.before (makes l o ∷ []) c.behind) in
-    let tells : told t steps ≡ x.entries = told_append t c.before (makes l o ∷ []) ∙ (ap (λ us. us ++ entry_of_op t l o ∷ []) c.same ∙ sym is) in
+    let tells : told t steps ≡ x.entries = told_append t c.before (makes l o ∷ []) ∙ (ap (λ us. us ++ entry_of_operation t l o ∷ []) c.same ∙ sym is) in
     record {
       part = record {
         steps = steps;
@@ -76,14 +77,14 @@ cut_part p plans x es l o is h =
       last = refl;
     }
 
-op_told : (t l : ℕ) (o : Op) → told t (makes l o ∷ []) ≡ entry_of_op t l o ∷ []
+op_told : (t l : ℕ) (o : Operation) → told t (makes l o ∷ []) ≡ entry_of_operation t l o ∷ []
 op_told t l o = refl
 
 pub making_turns : HasMakingTurns
 making_turns s es h open_ t l o m =
-    let x : Own = own_with s es t m.state (entry_of_op t l o) in
+    let x : Own = own_with s es t m.state (entry_of_operation t l o) in
     let c : OpPart s.program (plans s) x l o = cut_part s.program (plans s) x (entries_of t es) l o refl (asked_part s es t m.state l o m.asks) in
-    let before : HasMoved s.program (plans s) x c.before = moved s.program (plans s) x c.part c.before (makes l o) (entry_of_op t l o) c.last (op_told t l o) in
+    let before : HasMoved s.program (plans s) x c.before = moved s.program (plans s) x c.part c.before (makes l o) (entry_of_operation t l o) c.last (op_told t l o) in
     operation_turns s es h open_ t l o
     (record {
       state = m.state;
@@ -95,10 +96,10 @@ making_turns s es h open_ t l o m =
       not_held_off = m.not_held_off;
       crosses = m.crosses;
       away = λ k is some.
-          let away : KeptAway s x k = m.away k is some in
+          let away : StaysAway s x k = m.away k is some in
           subst (λ ss. KeepsAway (IsFlagged s k) (led s.program (plans s) x ss)) (one_move s.program (plans s) x away.steps c.before away.moved before) away.away;
       no_begin = λ k is b. let no : false ≡ true = sym (op_no_begin t l o) ∙ b in cc;
-      needs = m.needs;
+      permits = m.permits;
     })
 
 -- A thread is blocked by its last entry
@@ -115,8 +116,8 @@ pub walked_blocked : (p : Source) (plans : Plans) (t : ℕ) (z : Walk) (ss : Lis
     → Walk.is_blocked (walked p plans z ss) ≡ blocked_behind z.is_blocked (told t ss)
 walked_blocked p plans t z [] ahead h = refl
 walked_blocked p plans t z (goes (made l begin) ∷ ss) ahead h =
-    walked_blocked p plans t (taking (entered_journal z) z.coming) ss ahead h.1
-    ∙ ap (λ b. blocked_behind b (told t ss)) (taking_blocked (entered_journal z) z.coming)
+    walked_blocked p plans t (taking (behind_entry z) z.coming) ss ahead h.1
+    ∙ ap (λ b. blocked_behind b (told t ss)) (taking_blocked (behind_entry z) z.coming)
 walked_blocked p plans t z (makes l (cross x v n) ∷ ss) ahead h =
     let c : MayCross p z (items ss ++ ahead) l x v n = h.0 in
     walked_blocked p plans t (crossing p plans z z.coming) ss ahead h.1
@@ -161,7 +162,7 @@ record CanWait (q : Request) (l : ℕ) (what : What) : Type 0 where
   no_trap : (c : ℕ) → act ≡ trap (not_spawned (pos c)) → ⊥
   asks : (z : Walk) → z.owed ≡ [] → AsksFor z (made l act ∷ []) l what
 
-acts_there : (os : Owed) (l : ℕ) (a : Act) → os ≡ [] → Acts os (made l a ∷ []) l a
+acts_there : (os : Queue) (l : ℕ) (a : Act) → os ≡ [] → Acts os (made l a ∷ []) l a
 acts_there [] l a h = refl
 acts_there (o ∷ os) l a h = cc
 

@@ -10,14 +10,14 @@ use Rattle.loom_lang.specs.Acts.{Deed}
 use Rattle.loom_event.specs.Event.{Event, entry_by, targets}
 use Rattle.loom_event.specs.Entries.{thread_of, is_stopped, is_at_limit}
 use Rattle.loom_event.specs.Replay.{AllEnded}
-use Rattle.loom_event.specs.Replay.{Spawned, start, thread_at, replay, IsAllowed}
+use Rattle.loom_event.specs.Replay.{ThreadState, start, thread_at, replay, IsAllowed}
 use Rattle.loom_law.specs.Walk.{tick, blocked}
 use Rattle.loom_law.specs.Part.{AsksToMake, AsksToAct}
 use Rattle.loom_law.specs.Control.{Command, command_at, Control, control, first_control, controlled, after_entry, listing, listed, listed_from}
-use Rattle.loom_law.specs.Lawful.{Setting, Front, front_of, plans, own, over, owes_cross, is_held_by, is_installed, IsDisabledFor, IsHeldOff, IsDue, IsStalled, IsOpen, Ends, Stands, IsLawful}
-use Rattle.loom_law.specs.Laws.{IsUnfinished}
+use Rattle.loom_law.specs.Lawful.{Setting, Front, front_of, plans, own, over, owes_cross, is_held_by, is_installed, IsDisabledFor, IsHeldOff, IsDue, IsStalled, IsOpen, Ends, front_at, MayFollow, IsLawful}
+use Rattle.loom_law.specs.Laws.{Balances, IsUnfinished}
 use Rattle.loom_law.specs.TurnLaws.{IsAnswered, event_of_deed}
-use Rattle.loom_law.proofs.Turns.{control_turns}
+use Rattle.loom_law.proofs.Lawful.{always_balanced, control_turns}
 use Rattle.loom_law.proofs.Answers.{answer_turns}
 use Rattle.loom_law.proofs.Makings.{making_turns}
 
@@ -54,42 +54,42 @@ none_held f k c t is h = let no : false ≡ true = sym (ap (λ d. is_held_by d k
 few : (cs : List Command) → cs ≡ [] → length cs ≡ 0
 few cs h = ap (λ (ds : List Command). length ds) h
 
-quiet : (s : Setting) (f : Front) (x : Entry) (rest : List Entry) → s.commands ≡ [] → f.control ≡ first_control → Stands s f x rest → IsQuiet s x
-quiet s f (e.Begin u l) rest none is h = record { control = refl; lists = λ t. none_either (u == t) }
-quiet s f (e.End u l) rest none is h = record { control = refl; lists = λ t. none_either (u == t) }
-quiet s f (e.Trap u l r) rest none is h = record { control = refl; lists = λ t. none_either (u == t) }
-quiet s f (e.Read u l x v) rest none is h = record { control = refl; lists = λ t. none_either (u == t) }
-quiet s f (e.Write u l x v) rest none is h = record { control = refl; lists = λ t. none_either (u == t) }
-quiet s f (e.Lock u l m) rest none is h = record { control = refl; lists = λ t. none_either (u == t) }
-quiet s f (e.Unlock u l m) rest none is h = record { control = refl; lists = λ t. none_either (u == t) }
-quiet s f (e.Down u l m) rest none is h = record { control = refl; lists = λ t. none_either (u == t) }
-quiet s f (e.Up u l m) rest none is h = record { control = refl; lists = λ t. none_either (u == t) }
-quiet s f (e.Spawn u l d g vs) rest none is h = record { control = refl; lists = λ t. none_either (u == t) }
-quiet s f (e.Join u l d) rest none is h = record { control = refl; lists = λ t. none_either (u == t) }
-quiet s f (e.Print u l v) rest none is h = record { control = refl; lists = λ t. none_either (u == t) }
-quiet s f (e.Tick u l y) rest none is h = record { control = refl; lists = λ t. none_either (u == t) }
-quiet s f (e.Blocked u l y) rest none is h = record { control = refl; lists = λ t. none_either (u == t) }
-quiet s f (e.At u l k ns) rest none is h = record { control = refl; lists = λ t. none_either (u == t) }
-quiet s f (e.Past u l k ns) rest none is h = record { control = refl; lists = λ t. none_either (u == t) }
-quiet s f (e.Back u l) rest none is h = record { control = refl; lists = λ t. none_either (u == t) }
-quiet s f (e.Enter u l k c) rest none is h = absurd (none_installed f k is h.1.0)
-quiet s f (e.Leave u l k c) rest none is h = absurd (none_held f k c u is h.1)
-quiet s f (e.Post u l k n) rest none is h = record { control = refl; lists = λ t. none_either (u == t) }
-quiet s f (e.Wait u l k n) rest none is h = record { control = refl; lists = λ t. none_either (u == t) }
-quiet s f (e.Cross u l y v n) rest none is h = record { control = refl; lists = λ t. none_either (u == t) }
-quiet s f (e.Asked k) rest none is h = absurd (no_due s f none h.0)
-quiet s f (e.Refused k n m) rest none is h = absurd (none_asked f k is h.0)
-quiet s f (e.Installed k v ps) rest none is h = absurd (none_asked f k is h.1.asked)
-quiet s f (e.Removed k v ps) rest none is h = absurd (none_asked f k is h.1.asked)
-quiet s f (e.Stalled k u l) rest none is h = absurd (none_asked f k is h.1.asked)
-quiet s f (e.Cut k) rest none is h = absurd (none_asked f k is h.1)
-quiet s f (e.Unreached k) rest none is h =
+quiet : (s : Setting) (f : Front) (x : Entry) (rest : List Entry) → s.commands ≡ [] → f.control ≡ first_control → MayFollow s f x rest → Balances f x → IsQuiet s x
+quiet s f (e.Begin u l) rest none is h b = record { control = refl; lists = λ t. none_either (u == t) }
+quiet s f (e.End u l) rest none is h b = record { control = refl; lists = λ t. none_either (u == t) }
+quiet s f (e.Trap u l r) rest none is h b = record { control = refl; lists = λ t. none_either (u == t) }
+quiet s f (e.Read u l x v) rest none is h b = record { control = refl; lists = λ t. none_either (u == t) }
+quiet s f (e.Write u l x v) rest none is h b = record { control = refl; lists = λ t. none_either (u == t) }
+quiet s f (e.Lock u l m) rest none is h b = record { control = refl; lists = λ t. none_either (u == t) }
+quiet s f (e.Unlock u l m) rest none is h b = record { control = refl; lists = λ t. none_either (u == t) }
+quiet s f (e.Down u l m) rest none is h b = record { control = refl; lists = λ t. none_either (u == t) }
+quiet s f (e.Up u l m) rest none is h b = record { control = refl; lists = λ t. none_either (u == t) }
+quiet s f (e.Spawn u l d g vs) rest none is h b = record { control = refl; lists = λ t. none_either (u == t) }
+quiet s f (e.Join u l d) rest none is h b = record { control = refl; lists = λ t. none_either (u == t) }
+quiet s f (e.Print u l v) rest none is h b = record { control = refl; lists = λ t. none_either (u == t) }
+quiet s f (e.Tick u l y) rest none is h b = record { control = refl; lists = λ t. none_either (u == t) }
+quiet s f (e.Blocked u l y) rest none is h b = record { control = refl; lists = λ t. none_either (u == t) }
+quiet s f (e.At u l k ns) rest none is h b = record { control = refl; lists = λ t. none_either (u == t) }
+quiet s f (e.Past u l k ns) rest none is h b = record { control = refl; lists = λ t. none_either (u == t) }
+quiet s f (e.Back u l) rest none is h b = record { control = refl; lists = λ t. none_either (u == t) }
+quiet s f (e.Enter u l k c) rest none is h b = absurd (none_installed f k is b)
+quiet s f (e.Leave u l k c) rest none is h b = absurd (none_held f k c u is b)
+quiet s f (e.Post u l k n) rest none is h b = record { control = refl; lists = λ t. none_either (u == t) }
+quiet s f (e.Wait u l k n) rest none is h b = record { control = refl; lists = λ t. none_either (u == t) }
+quiet s f (e.Cross u l y v n) rest none is h b = record { control = refl; lists = λ t. none_either (u == t) }
+quiet s f (e.Asked k) rest none is h b = absurd (no_due s f none h.0)
+quiet s f (e.Refused k n m) rest none is h b = absurd (none_asked f k is h.0)
+quiet s f (e.Installed k v ps) rest none is h b = absurd (none_asked f k is h.1.asked)
+quiet s f (e.Removed k v ps) rest none is h b = absurd (none_asked f k is h.1.asked)
+quiet s f (e.Stalled k u l) rest none is h b = absurd (none_asked f k is h.1.asked)
+quiet s f (e.Cut k) rest none is h b = absurd (none_asked f k is h.1)
+quiet s f (e.Unreached k) rest none is h b =
     let first : k ≡ 1 = h.1.0 ∙ ap (λ (c : Control). c.next) is in
     let none_left : length s.commands ≡ 0 = few s.commands none in
     let most : k ≤ length s.commands = h.1.1.0 in
     let no : ⊥ = omega arith in
     absurd no
-quiet s f (e.Finish k) rest none is h = record { control = refl; lists = λ t. refl }
+quiet s f (e.Finish k) rest none is h b = record { control = refl; lists = λ t. refl }
 
 abbrev AllQuiet : Setting → List Entry → Type 0
 AllQuiet s [] = Unit {0}
@@ -106,7 +106,7 @@ append_one (x ∷ xs) y ys = ap (◌∷◌ x) (append_one xs y ys)
 quiet_from : (s : Setting) (es : List Entry) (h : IsLawful s es) → s.commands ≡ [] → (front todo : List Entry) → es ≡ front ++ todo → control s.commands front ≡ first_control → AllQuiet s todo
 quiet_from s es h none front [] is so = tt
 quiet_from s es h none front (x ∷ todo) is so =
-    let here : IsQuiet s x = quiet s (front_of s front (take (length (targets front)) h.events)) x todo none so (h.stands front x todo is) in (
+    let here : IsQuiet s x = quiet s (front_at s h.events front) x todo none so (h.follows front x todo is) (always_balanced s es h front x todo is) in (
       here,
       quiet_from s es h none (front ++ x ∷ []) todo (is ∙ sym (append_one front x todo))
           (controlled_last s.commands first_control front x ∙ (ap (λ c. after_entry s.commands c x) so ∙ here.control)),
@@ -160,7 +160,7 @@ owes_no_cross s es h none x t = ap (owes_cross x) (nothing_listed s es h none t)
 
 -- An answer that the store allows to what a thread asks for.
 pub answer_without : (s : Setting) (es : List Entry) (h : IsLawful s es) → s.commands ≡ [] → IsUnfinished es → over s (front_of s es h.events) ≡ false
-    → (t : ℕ) (z : Spawned) → thread_at (replay (start s.program) h.events) t ≡ Some z
+    → (t : ℕ) (z : ThreadState) → thread_at (replay (start s.program) h.events) t ≡ Some z
     → (q : Request) (d : Deed) → AsksToAct s.program (plans s) (own s es t z) q → IsAnswered q d → IsAllowed (replay (start s.program) h.events) (event_of_deed t d)
     → (h' : IsLawful s (es ++ entry_by t d.line d.act ∷ [])) × (h'.events ≡ h.events ++ event_of_deed t d ∷ [])
 answer_without s es h none open_ runs t z there q d asks answer allowed =
@@ -181,7 +181,7 @@ answer_without s es h none open_ runs t z there q d asks answer allowed =
 
 -- A tick that a thread asks for.
 pub tick_without : (s : Setting) (es : List Entry) (h : IsLawful s es) → s.commands ≡ [] → IsUnfinished es → over s (front_of s es h.events) ≡ false
-    → (t : ℕ) (z : Spawned) → thread_at (replay (start s.program) h.events) t ≡ Some z
+    → (t : ℕ) (z : ThreadState) → thread_at (replay (start s.program) h.events) t ≡ Some z
     → (l n : ℕ) → AsksToMake s.program (plans s) (own s es t z) l (tick n) → (h' : IsLawful s (es ++ e.Tick t l n ∷ [])) × (h'.events ≡ h.events)
 tick_without s es h none open_ runs t z there l n asks =
     let quiet : (k : ℕ) → Control.asked (control s.commands es) ≡ Some k → ⊥ = λ k is. none_asked (front_of s es h.events) k (nothing_controlled s es h none) is in
@@ -194,12 +194,12 @@ tick_without s es h none open_ runs t z there l n asks =
       not_held_off = nobody_held_off s es h none h.events t;
       crosses = sym (owes_no_cross s es h none (e.Tick t l n) t);
       away = λ k is some. absurd (quiet k is);
-      needs = tt;
+      permits = tt;
     })
 
 -- A thread that is blocked.
 pub blocked_without : (s : Setting) (es : List Entry) (h : IsLawful s es) → s.commands ≡ [] → IsUnfinished es → over s (front_of s es h.events) ≡ false
-    → (t : ℕ) (z : Spawned) → thread_at (replay (start s.program) h.events) t ≡ Some z
+    → (t : ℕ) (z : ThreadState) → thread_at (replay (start s.program) h.events) t ≡ Some z
     → (l : ℕ) (what : What) → AsksToMake s.program (plans s) (own s es t z) l (blocked what) → IsDisabledFor s (front_of s es h.events) t what
     → (h' : IsLawful s (es ++ e.Blocked t l what ∷ [])) × (h'.events ≡ h.events)
 blocked_without s es h none open_ runs t z there l what asks disabled =
@@ -213,7 +213,7 @@ blocked_without s es h none open_ runs t z there l what asks disabled =
       not_held_off = nobody_held_off s es h none h.events t;
       crosses = sym (owes_no_cross s es h none (e.Blocked t l what) t);
       away = λ k is some. absurd (quiet k is);
-      needs = disabled;
+      permits = disabled;
     })
 
 -- The end

@@ -7,7 +7,7 @@ use Rattle.loom_lang.specs.Trace.{Act, Item, made, begins, done, edge, enter, ou
 use Rattle.loom_lang.specs.Acts.{Deed}
 use Rattle.loom_lang.specs.Alike.{AreAlike}
 use Rattle.loom_lang.proofs.NextItem.{one_next_item, Agree, traces_agree}
-use Rattle.loom_law.specs.Walk.{Plans, Op, wait, enters, at, past, post, leave, back, tick, cross, blocked, Owed, Step, goes, makes, items, told, entry_of_op, Walk, unborn, after_op, after, walked, Owes, MayStand, AreWoven}
+use Rattle.loom_law.specs.Walk.{Plans, Operation, wait, enters, at, past, post, leave, back, tick, cross, blocked, Queue, Step, goes, makes, items, told, entry_of_operation, Walk, unborn, after_operation, after, walked, Owes, MayStand, AreWoven}
 use Rattle.loom_law.specs.Part.{Own, led, IsPart, with_entry, AsksToMake, AsksToAct}
 use Rattle.loom_law.specs.Laws.{SameMade}
 use Rattle.loom_law.specs.TurnLaws.{IsAnswered, is_owed, HasOneRequest, HasNoSplit, HasOneOperation}
@@ -156,7 +156,7 @@ act_point p plans x q d h answer =
       trace = trace;
     }
 
-op_owes : (p : Source) (z : Walk) (l : ℕ) (o : Op) (rest : List Item) → is_owed o ≡ true → MayStand p z (makes l o) rest → Owes z.owed l o
+op_owes : (p : Source) (z : Walk) (l : ℕ) (o : Operation) (rest : List Item) → is_owed o ≡ true → MayStand p z (makes l o) rest → Owes z.owed l o
 op_owes p z l (wait k n) rest is h = h
 op_owes p z l (enters k c) rest is h = h
 op_owes p z l (at k ns) rest is h = h
@@ -168,7 +168,7 @@ op_owes p z l (tick x) rest is h = h
 op_owes p z l (cross x v n) rest is h = cc
 op_owes p z l (blocked what) rest is h = cc
 
-op_coming : (p : Source) (plans : Plans) (z : Walk) (o : Op) → is_owed o ≡ true → Walk.coming (after_op p plans z o) ≡ z.coming
+op_coming : (p : Source) (plans : Plans) (z : Walk) (o : Operation) → is_owed o ≡ true → Walk.coming (after_operation p plans z o) ≡ z.coming
 op_coming p plans z (wait k n) is = refl
 op_coming p plans z (enters k c) is = refl
 op_coming p plans z (at k ns) is = refl
@@ -180,19 +180,19 @@ op_coming p plans z (tick x) is = refl
 op_coming p plans z (cross x v n) is = cc
 op_coming p plans z (blocked what) is = cc
 
-none_owed : (os : Owed) (l : ℕ) (o : Op) → Owes os l o → os ≡ [] → ⊥
+none_owed : (os : Queue) (l : ℕ) (o : Operation) → Owes os l o → os ≡ [] → ⊥
 none_owed [] l o h is = h
 none_owed (x ∷ os) l o h is = cc
 
 -- with the operation that it owes there
-record OpPoint (p : Source) (plans : Plans) (x : Own) (l : ℕ) (o : Op) : Type 0 where
+record OpPoint (p : Source) (plans : Plans) (x : Own) (l : ℕ) (o : Operation) : Type 0 where
   asks : Asks p plans x
   owes : Owes (Walk.owed (led p plans x asks.part.steps)) l o
 
-op_point : (p : Source) (plans : Plans) (x : Own) (l : ℕ) (o : Op) → is_owed o ≡ true → AsksToMake p plans x l o → OpPoint p plans x l o
+op_point : (p : Source) (plans : Plans) (x : Own) (l : ℕ) (o : Operation) → is_owed o ≡ true → AsksToMake p plans x l o → OpPoint p plans x l o
 op_point p plans x l o is h =
     let t : ℕ = x.thread in
-    let y : Own = with_entry x (entry_of_op t l o) in
+    let y : Own = with_entry x (entry_of_operation t l o) in
     let c : OpPart p plans y l o = cut_part p plans y x.entries l o refl h in
     let part : IsPart p plans y = c.part in
     let before : List Step = c.before in
@@ -200,7 +200,7 @@ op_point p plans x l o is h =
     let trace : IsTrace p x.func x.args (items (before ++ last) ++ part.ahead) part.outcome =
     subst (λ ss. IsTrace p x.func x.args (items ss ++ part.ahead) part.outcome) c.last part.trace in
     let woven : AreWoven p plans (unborn x.versions) (before ++ last) part.ahead = subst (λ ss. AreWoven p plans (unborn x.versions) ss part.ahead) c.last part.woven in
-    let tells : told t before ++ entry_of_op t l o ∷ [] ≡ x.entries ++ entry_of_op t l o ∷ [] =
+    let tells : told t before ++ entry_of_operation t l o ∷ [] ≡ x.entries ++ entry_of_operation t l o ∷ [] =
     sym (told_append t before last) ∙ (ap (told t) (sym c.last) ∙ part.tells) in
     let owes : Owes (Walk.owed (walked p plans (unborn x.versions) before)) l o =
     op_owes p (walked p plans (unborn x.versions) before) l o part.ahead is (stands_there p plans (unborn x.versions) before (makes l o) [] part.ahead woven) in
@@ -212,7 +212,7 @@ op_point p plans x l o is h =
           outcome = part.outcome;
           trace = subst (λ us. IsTrace p x.func x.args us part.outcome) (items_ahead before last part.ahead) trace;
           woven = woven_front p plans (unborn x.versions) before last part.ahead woven;
-          tells = same_front (told t before) x.entries (entry_of_op t l o) (entry_of_op t l o) tells;
+          tells = same_front (told t before) x.entries (entry_of_operation t l o) (entry_of_operation t l o) tells;
           taken = sym (op_coming p plans (walked p plans (unborn x.versions) before) o is)
               ∙ (ap (λ z. Walk.coming z) (sym (walked_append p plans (unborn x.versions) before last) ∙ ap (walked p plans (unborn x.versions)) (sym c.last)) ∙ part.taken);
         };
@@ -238,9 +238,9 @@ no_split p plans x q d l o h answer is k =
     let same : a.asks.part.steps ≡ b.asks.part.steps = one_point p plans x a.asks b.asks in
     none_owed (Walk.owed (led p plans x b.asks.part.steps)) l o b.owes (ap (λ ss. Walk.owed (led p plans x ss)) (sym same) ∙ a.rests)
 
-both_owed : (os : Owed) (l m : ℕ) (o q : Op) → Owes os l o → Owes os m q → (l ≡ m) × (o ≡ q)
+both_owed : (os : Queue) (l m : ℕ) (o q : Operation) → Owes os l o → Owes os m q → (l ≡ m) × (o ≡ q)
 both_owed [] l m o q h k = absurd h
-both_owed (x ∷ os) l m o q h k = let both : (l, o) ≡ (m, q) = sym h ∙ k in (ap (λ (y : ℕ × Op). y.0) both, ap (λ (y : ℕ × Op). y.1) both)
+both_owed (x ∷ os) l m o q h k = let both : (l, o) ≡ (m, q) = sym h ∙ k in (ap (λ (y : ℕ × Operation). y.0) both, ap (λ (y : ℕ × Operation). y.1) both)
 
 pub one_operation : HasOneOperation
 one_operation p plans x l l' o o' is is' h k =

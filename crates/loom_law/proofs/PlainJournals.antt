@@ -9,20 +9,21 @@ use Rattle.loom_trace.specs.declared.entry.What.TheVariants as w
 use Rattle.loom_trace.specs.declared.entry.Ending.TheVariants as k
 use Rattle.loom_lang.specs.Trace.{Locals, division, begin, end, trap, read, write, lock, spawn, join, print, made, begins, done, enter, out, Finished, Open, IsTrace}
 use Rattle.loom_event.specs.Event.{Event}
-use Rattle.loom_event.specs.Replay.{Spawned, start, thread_at, replay}
+use Rattle.loom_event.specs.Replay.{ThreadState, start, thread_at, replay}
 use Rattle.loom_event.specs.Run.{AreRun}
 use Rattle.loom_event.proofs.Runs.{next, given, threads_traced, does}
 use Rattle.loom_event.proofs.Runs as runs
+use Rattle.loom_event.proofs.Stops as stops
 use Rattle.loom_event.proofs.Shown.{event, adds, locks}
 use Rattle.loom_law.specs.Walk.{blocked, Step, goes, makes, items}
-use Rattle.loom_law.specs.Lawful.{Setting, HasPart, Lives, IsBlocked, IsHeldOff, IsStalled, IsLawful}
-use Rattle.loom_law.proofs.Fronts.{front_at, Each, each_one, StandsBehind, nothing_made}
+use Rattle.loom_law.specs.Lawful.{Setting, HasPart, Lives, IsBlocked, IsHeldOff, IsStalled, front_at, IsLawful}
+use Rattle.loom_law.proofs.Fronts.{Each, behind, each_one, FollowsBehind, nothing_made}
 use Rattle.loom_law.proofs.Journals.{not_due, moves}
 
 -- An update is lost: both threads read before either writes.
 
 abbrev pub lost_setting : Setting
-lost_setting = record { program = adds; commands = []; limit = 100000; stop = λ x. false }
+lost_setting = record { program = adds; commands = []; limit = 100000; stop = stops.never }
 
 abbrev pub lost_journal : List Entry
 lost_journal =
@@ -34,7 +35,7 @@ lost_events =
     event 1 5 begin ∷ event 1 6 (spawn 2 0 []) ∷ event 2 2 begin ∷ event 1 7 (read 0 (pos 0)) ∷ event 2 3 (read 0 (pos 0)) ∷ event 1 7 (write 0 (pos 1))
     ∷ event 2 3 (write 0 (pos 1)) ∷ event 2 2 end ∷ event 1 8 (join 2) ∷ event 1 9 (read 0 (pos 1)) ∷ event 1 9 (print (pos 1)) ∷ event 1 5 end ∷ []
 
-lost_ended : (t : ℕ) (x : Spawned) → thread_at (replay (start adds) lost_events) t ≡ Some x → x.ended ≡ true
+lost_ended : (t : ℕ) (x : ThreadState) → thread_at (replay (start adds) lost_events) t ≡ Some x → x.ended ≡ true
 lost_ended zero x h = cc
 lost_ended (suc zero) x h = cc
 lost_ended (suc (suc zero)) x h = cc
@@ -94,9 +95,14 @@ lost_run = record {
       runs.begins refl refl (does refl (refl, omega arith) (runs.begins refl refl (does refl refl (does refl refl (does refl tt (does refl tt (does refl tt (does refl (record { state = _; is = refl; ended = refl }) (does refl refl (does refl tt (does refl tt (tt))))))))))));
 }
 
-lost_stands : Each (StandsBehind lost_setting lost_events) [] lost_journal
-lost_stands =
-    ((moves {s = lost_setting} refl tt, tt), (moves {s = lost_setting} refl tt, ((moves {s = lost_setting} refl tt, tt), (moves {s = lost_setting} refl tt, (moves {s = lost_setting} refl tt, (moves {s = lost_setting} refl tt, (moves {s = lost_setting} refl tt, ((moves {s = lost_setting} refl tt, (_, refl, refl)), ((moves {s = lost_setting} refl tt, refl), (moves {s = lost_setting} refl tt, (moves {s = lost_setting} refl tt, (moves {s = lost_setting} refl tt, ((moves {s = lost_setting} refl tt, refl), ((refl, (refl, (omega arith, (refl, (lost_ended, not_due lost_setting _ refl))))), tt))))))))))))))
+lost_follows : Each (FollowsBehind lost_setting lost_events) [] lost_journal
+lost_follows =
+    behind (moves {s = lost_setting} refl tt, tt) (behind (moves {s = lost_setting} refl tt, tt) (behind (moves {s = lost_setting} refl tt, tt) (
+    behind (moves {s = lost_setting} refl tt, tt) (behind (moves {s = lost_setting} refl tt, tt) (behind (moves {s = lost_setting} refl tt, tt) (
+    behind (moves {s = lost_setting} refl tt, tt) (behind (moves {s = lost_setting} refl tt, (_, refl, refl)) (
+    behind (moves {s = lost_setting} refl tt, tt) (behind (moves {s = lost_setting} refl tt, tt) (behind (moves {s = lost_setting} refl tt, tt) (
+    behind (moves {s = lost_setting} refl tt, tt) (behind (moves {s = lost_setting} refl tt, tt) (
+    behind (refl, (refl, (omega arith, (refl, (lost_ended, not_due lost_setting _ refl))))) (tt))))))))))))))
 
 pub lost_lawful : IsLawful lost_setting lost_journal
 lost_lawful = record {
@@ -104,13 +110,13 @@ lost_lawful = record {
   tells = refl;
   run = lost_run;
   parts = lost_parts;
-  stands = each_one (StandsBehind lost_setting lost_events) lost_journal lost_stands;
+  follows = each_one (FollowsBehind lost_setting lost_events) lost_journal lost_follows;
 }
 
 -- Three thread entries and no more.
 
 abbrev pub limit_setting : Setting
-limit_setting = record { program = adds; commands = []; limit = 3; stop = λ x. false }
+limit_setting = record { program = adds; commands = []; limit = 3; stop = stops.never }
 
 abbrev pub limit_journal : List Entry
 limit_journal =
@@ -169,9 +175,10 @@ limit_run = record {
       runs.begins refl refl (does refl (refl, omega arith) (runs.begins refl refl (tt)));
 }
 
-limit_stands : Each (StandsBehind limit_setting limit_events) [] limit_journal
-limit_stands =
-    ((moves {s = limit_setting} refl tt, tt), (moves {s = limit_setting} refl tt, ((moves {s = limit_setting} refl tt, tt), ((refl, (refl, (omega arith, (refl, refl)))), tt))))
+limit_follows : Each (FollowsBehind limit_setting limit_events) [] limit_journal
+limit_follows =
+    behind (moves {s = limit_setting} refl tt, tt) (behind (moves {s = limit_setting} refl tt, tt) (behind (moves {s = limit_setting} refl tt, tt) (
+    behind (refl, (refl, (omega arith, (refl, refl)))) (tt))))
 
 pub limit_lawful : IsLawful limit_setting limit_journal
 limit_lawful = record {
@@ -179,13 +186,13 @@ limit_lawful = record {
   tells = refl;
   run = limit_run;
   parts = limit_parts;
-  stands = each_one (StandsBehind limit_setting limit_events) limit_journal limit_stands;
+  follows = each_one (FollowsBehind limit_setting limit_events) limit_journal limit_follows;
 }
 
 -- A thread waits for its own mutex.
 
 abbrev pub stuck_setting : Setting
-stuck_setting = record { program = locks; commands = []; limit = 100000; stop = λ x. false }
+stuck_setting = record { program = locks; commands = []; limit = 100000; stop = stops.never }
 
 abbrev pub stuck_journal : List Entry
 stuck_journal =
@@ -239,9 +246,11 @@ stuck_run = record {
       runs.begins refl refl (does refl refl (tt));
 }
 
-stuck_stands : Each (StandsBehind stuck_setting stuck_events) [] stuck_journal
-stuck_stands =
-    ((moves {s = stuck_setting} refl tt, tt), (moves {s = stuck_setting} refl tt, ((moves {s = stuck_setting} refl tt, (_, refl)), ((refl, (refl, (omega arith, (refl, (stuck_stalled, not_due stuck_setting _ refl))))), tt))))
+stuck_follows : Each (FollowsBehind stuck_setting stuck_events) [] stuck_journal
+stuck_follows =
+    behind (moves {s = stuck_setting} refl tt, tt) (behind (moves {s = stuck_setting} refl tt, tt) (
+    behind (moves {s = stuck_setting} refl tt, (_, refl)) (
+    behind (refl, (refl, (omega arith, (refl, (stuck_stalled, not_due stuck_setting _ refl))))) (tt))))
 
 pub stuck_lawful : IsLawful stuck_setting stuck_journal
 stuck_lawful = record {
@@ -249,7 +258,7 @@ stuck_lawful = record {
   tells = refl;
   run = stuck_run;
   parts = stuck_parts;
-  stands = each_one (StandsBehind stuck_setting stuck_events) stuck_journal stuck_stands;
+  follows = each_one (FollowsBehind stuck_setting stuck_events) stuck_journal stuck_follows;
 }
 
 -- A divisor of 0 ends the thread.
@@ -267,7 +276,7 @@ divides = record {
 }
 
 abbrev pub trap_setting : Setting
-trap_setting = record { program = divides; commands = []; limit = 100000; stop = λ x. false }
+trap_setting = record { program = divides; commands = []; limit = 100000; stop = stops.never }
 
 abbrev pub trap_journal : List Entry
 trap_journal =
@@ -277,7 +286,7 @@ abbrev trap_events : List Event
 trap_events =
     event 1 2 begin ∷ event 1 3 (read 0 (pos 0)) ∷ event 1 3 (trap division) ∷ event 1 2 end ∷ []
 
-trap_ended : (t : ℕ) (x : Spawned) → thread_at (replay (start divides) trap_events) t ≡ Some x → x.ended ≡ true
+trap_ended : (t : ℕ) (x : ThreadState) → thread_at (replay (start divides) trap_events) t ≡ Some x → x.ended ≡ true
 trap_ended zero x h = cc
 trap_ended (suc zero) x h = cc
 trap_ended (suc (suc t)) x h = cc
@@ -312,9 +321,10 @@ trap_run = record {
       runs.begins refl refl (does refl refl (does refl tt (does refl tt (tt))));
 }
 
-trap_stands : Each (StandsBehind trap_setting trap_events) [] trap_journal
-trap_stands =
-    ((moves {s = trap_setting} refl tt, tt), (moves {s = trap_setting} refl tt, (moves {s = trap_setting} refl tt, ((moves {s = trap_setting} refl tt, refl), ((refl, (refl, (omega arith, (refl, (trap_ended, not_due trap_setting _ refl))))), tt)))))
+trap_follows : Each (FollowsBehind trap_setting trap_events) [] trap_journal
+trap_follows =
+    behind (moves {s = trap_setting} refl tt, tt) (behind (moves {s = trap_setting} refl tt, tt) (behind (moves {s = trap_setting} refl tt, tt) (
+    behind (moves {s = trap_setting} refl tt, tt) (behind (refl, (refl, (omega arith, (refl, (trap_ended, not_due trap_setting _ refl))))) (tt)))))
 
 pub trap_lawful : IsLawful trap_setting trap_journal
 trap_lawful = record {
@@ -322,5 +332,5 @@ trap_lawful = record {
   tells = refl;
   run = trap_run;
   parts = trap_parts;
-  stands = each_one (StandsBehind trap_setting trap_events) trap_journal trap_stands;
+  follows = each_one (FollowsBehind trap_setting trap_events) trap_journal trap_follows;
 }

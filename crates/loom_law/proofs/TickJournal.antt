@@ -16,12 +16,13 @@ use Rattle.loom_event.specs.Replay.{start, thread_at, replay}
 use Rattle.loom_event.specs.Run.{AreRun}
 use Rattle.loom_event.proofs.Runs.{next, threads_traced}
 use Rattle.loom_event.proofs.Runs as runs
+use Rattle.loom_event.proofs.Stops as stops
 use Rattle.loom_event.proofs.Shown.{event}
-use Rattle.loom_law.specs.Walk.{Plans, tick, Step, goes, makes, items, told, Spot, beginning, elsewhere, Owed, Walk, with_tick, after, walked, AreWoven}
+use Rattle.loom_law.specs.Walk.{Plans, tick, Step, goes, makes, items, told, Spot, beginning, elsewhere, Queue, Walk, with_tick, after, walked, AreWoven}
 use Rattle.loom_law.specs.Control.{Command, remove}
 use Rattle.loom_law.specs.Lawful.{Setting, plans, HasPart, IsLawful}
 use Rattle.loom_law.proofs.Earlier.{if_true, if_false}
-use Rattle.loom_law.proofs.Fronts.{Each, each_one, StandsBehind, nothing_made}
+use Rattle.loom_law.proofs.Fronts.{Each, behind, each_one, FollowsBehind, nothing_made}
 use Rattle.loom_law.proofs.Journals.{moves}
 
 -- 1  fn main() {
@@ -42,7 +43,7 @@ abbrev tick_commands : List Command
 tick_commands = record { trigger = script.at 9; name = codes "a"; action = remove } ∷ []
 
 abbrev pub tick_setting : Setting
-tick_setting = record { program = endless; commands = tick_commands; limit = 2; stop = λ x. false }
+tick_setting = record { program = endless; commands = tick_commands; limit = 2; stop = stops.never }
 
 abbrev pub tick_journal : List Entry
 tick_journal = e.Begin 1 1 ∷ e.Tick 1 2 3 ∷ e.Unreached 1 ∷ e.Finish k.Limit ∷ []
@@ -106,7 +107,7 @@ rounds_woven ps (suc n) s ys few more ahead h =
     let none : with_tick endless (place.back_edge 2) (suc (length ys)) [] ≡ [] = no_tick (length ys) (omega arith) in
     let ih : AreWoven endless ps (in_loop elsewhere zs) (rounds n more) ahead =
     rounds_woven ps n elsewhere zs (omega arith) more ahead (λ t us is. h t us (omega arith)) in
-    let P : Owed → Type 0 = λ os. AreWoven endless ps (record (in_loop elsewhere zs) { owed = os }) (rounds n more) ahead in
+    let P : Queue → Type 0 = λ os. AreWoven endless ps (record (in_loop elsewhere zs) { owed = os }) (rounds n more) ahead in
     (refl, (refl, (refl, subst P (sym none) ih)))
 
 -- the last round, with the tick
@@ -119,7 +120,7 @@ last_woven ps s ys is =
     let zs : List Place = place.back_edge 2 ∷ ys in
     let owed : with_tick endless (place.back_edge 2) (suc (length ys)) [] ≡ (2, tick 3) ∷ [] =
     if_true (suc (length ys) == 1000) ((2, tick 3) ∷ []) [] (ap (λ n. suc n == 1000) is) in
-    let P : Owed → Type 0 = λ os. AreWoven endless ps (record (in_loop elsewhere zs) { owed = os }) at_last [] in
+    let P : Queue → Type 0 = λ os. AreWoven endless ps (record (in_loop elsewhere zs) { owed = os }) at_last [] in
     (refl, (refl, (refl, subst P (sym owed) (refl, tt))))
 
 last_items : (n : ℕ) → items (rounds n (rounds 1 at_last)) ≡ items (rounds (suc n) [])
@@ -185,14 +186,10 @@ tick_run = record {
   allowed = runs.begins refl refl tt;
 }
 
-tick_stands : Each (StandsBehind tick_setting tick_events) [] tick_journal
-tick_stands = (
-  (moves {s = tick_setting} refl tt, tt),
-  (
-    moves {s = tick_setting} refl tt,
-    ((refl, (refl, (omega arith, (k.Limit, (refl, refl))))), ((refl, (refl, (omega arith, (refl, refl)))), tt)),
-  ),
-)
+tick_follows : Each (FollowsBehind tick_setting tick_events) [] tick_journal
+tick_follows =
+    behind (moves {s = tick_setting} refl tt, tt) (behind (moves {s = tick_setting} refl tt, tt)
+    (behind (refl, (refl, (omega arith, (k.Limit, (refl, refl))))) (behind (refl, (refl, (omega arith, (refl, refl)))) tt)))
 
 pub tick_lawful : IsLawful tick_setting tick_journal
 tick_lawful = record {
@@ -200,5 +197,5 @@ tick_lawful = record {
   tells = refl;
   run = tick_run;
   parts = tick_parts;
-  stands = each_one (StandsBehind tick_setting tick_events) tick_journal tick_stands;
+  follows = each_one (FollowsBehind tick_setting tick_events) tick_journal tick_follows;
 }

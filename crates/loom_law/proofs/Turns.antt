@@ -429,11 +429,11 @@ event_turns s es h open_ y m ok =
 -- Before an operation
 
 -- these steps stand before the operation
-record BeforeOp (t : ℕ) (ss : List Step) (es : List Entry) (l : ℕ) (o : Operation) : Type 0 where
-  before : List Step
-  behind : List Step
-  whole : ss ≡ before ++ makes l o ∷ behind
-  same : told t before ≡ es
+pub record BeforeOp (t : ℕ) (ss : List Step) (es : List Entry) (l : ℕ) (o : Operation) : Type 0 where
+  pub before : List Step
+  pub behind : List Step
+  pub whole : ss ≡ before ++ makes l o ∷ behind
+  pub same : told t before ≡ es
 
 op_here : (t m : ℕ) (q : Operation) (l : ℕ) (o : Operation) (ss : List Step) → entry_of_operation t m q ∷ told t ss ≡ entry_of_operation t l o ∷ [] → BeforeOp t (makes m q ∷ ss) [] l o
 op_here t m q l o ss h =
@@ -452,7 +452,7 @@ with_told t s ss x y es fs l o tells h go =
     let c : BeforeOp t ss es l o = go others in
     record { before = s ∷ c.before; behind = c.behind; whole = ap (◌∷◌ s) c.whole; same = tells c.before ∙ (ap (λ z. z ∷ told t c.before) first ∙ ap (◌∷◌ y) c.same) }
 
-before_op : (t : ℕ) (ss : List Step) (es : List Entry) (l : ℕ) (o : Operation) → told t ss ≡ es ++ entry_of_operation t l o ∷ [] → BeforeOp t ss es l o
+pub before_op : (t : ℕ) (ss : List Step) (es : List Entry) (l : ℕ) (o : Operation) → told t ss ≡ es ++ entry_of_operation t l o ∷ [] → BeforeOp t ss es l o
 before_op t [] es l o h = absurd (never_empty es (entry_of_operation t l o) h)
 before_op t (makes m q ∷ ss) [] l o h = op_here t m q l o ss h
 before_op t (goes (made m a) ∷ ss) [] l o h = let first : entry_by t m a ≡ entry_of_operation t l o = cc in absurd (act_is_no_op t m l a o first)

@@ -5,11 +5,12 @@ use Rattle.loom_tree.specs.Tree.{Source}
 use Rattle.loom_trace.specs.declared.entry.Entry.{Entry}
 use Rattle.loom_trace.specs.declared.entry.Entry.TheVariants as e
 use Rattle.loom_trace.specs.declared.entry.Ending.{Ending}
-use Rattle.loom_lang.specs.Places.{Place, nowhere}
+use Rattle.loom_lang.specs.Places.{Place, nowhere, place_at}
+use Rattle.loom_lang.specs.Rules as rules
 use Rattle.loom_lang.specs.Trace.{end, made}
 use Rattle.loom_command.specs.Filter.{Filter}
 use Rattle.loom_law.specs.Filter.{Plan, has, plan_of}
-use Rattle.loom_law.specs.Walk.{Version, Plans, Operation, leave, entry_of_operation, Step, goes, makes, holds, told, filter_of, Owes}
+use Rattle.loom_law.specs.Walk.{Version, Plans, place_number, Operation, leave, entry_of_operation, Step, goes, makes, holds, told, filter_of, Owes}
 use Rattle.loom_law.specs.Part.{Own, led, IsPart, Point, IsPlaceOf, HasMoved, KeepsAway, IsInside}
 use Rattle.loom_law.specs.View.{IsClear, view_behind}
 use Rattle.loom_law.specs.Paths.{IsUnsafe}
@@ -214,3 +215,7 @@ abbrev pub HasControlTurns : Type 0
 HasControlTurns = (s : Setting) (es : List Entry) (h : IsLawful s es) → IsUnfinished es
     → (x : Entry) → thread_of x ≡ None → MayFollow s (front_of s es h.events) x []
     → (h' : IsLawful s (es ++ x ∷ [])) × (h'.events ≡ h.events)
+
+-- A place has one number, as a number has one place.
+abbrev pub HasOneNumber : Type 0
+HasOneNumber = (p : Source) → rules.KeepsRules p → (k : ℕ) (x : Place) → place_at p k ≡ Some x → place_number p x ≡ k

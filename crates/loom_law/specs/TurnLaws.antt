@@ -12,13 +12,13 @@ use Rattle.loom_lang.specs.Trace.{made}
 use Rattle.loom_lang.specs.Acts.{Deed, IsAlike}
 use Rattle.loom_event.specs.Answer.{granted, trapped}
 use Rattle.loom_event.specs.Event.{Event, entry_by}
-use Rattle.loom_event.specs.Replay.{Spawned, start, thread_at, replay, IsAllowed}
-use Rattle.loom_law.specs.Walk.{Plans, Op, cross, blocked, goes, makes, entry_of_op}
+use Rattle.loom_event.specs.Replay.{ThreadState, start, thread_at, replay, IsAllowed}
+use Rattle.loom_law.specs.Walk.{Plans, Operation, cross, blocked, goes, makes, entry_of_operation}
 use Rattle.loom_law.specs.Walk as walk
 use Rattle.loom_law.specs.Part.{Own, led, KeepsAway, AsksToMake, AsksToCross, AsksToAct}
 use Rattle.loom_law.specs.Control.{Control, control, listed, since_asked, entries_of}
-use Rattle.loom_law.specs.Lawful.{Setting, front_of, plans, own, IsFlagged, IsHeldOff, IsOpen, is_cross, owes_cross, is_begin, is_spawn_of, has_any, KeptAway, IsLawful}
-use Rattle.loom_law.specs.Laws.{IsUnfinished, own_with, Needs, MayTurn}
+use Rattle.loom_law.specs.Lawful.{Setting, front_of, plans, own, IsFlagged, IsHeldOff, IsOpen, is_cross, owes_cross, is_begin, is_spawn_of, has_any, StaysAway, Permits, IsLawful}
+use Rattle.loom_law.specs.Laws.{IsUnfinished, own_with, MayTurn}
 
 -- The deed grants the request, with some value, or it is the trap that may stand in its place.
 abbrev pub IsAnswered : Request → Deed → Type 0
@@ -29,7 +29,7 @@ event_of_deed t d = record { thread = t; line = d.line; act = d.act }
 
 -- Behind the entries and events so far thread t asks for an act, the store allows this answer, and nothing keeps the thread from making it.
 pub record MayAnswer (s : Setting) (es : List Entry) (xs : List Event) (t : ℕ) (q : Request) (d : Deed) : Type 0 where
-  pub state : Spawned
+  pub state : ThreadState
   pub there : thread_at (replay (start s.program) xs) t ≡ Some state
   pub asks : AsksToAct s.program (plans s) (own s es t state) q
   pub answer : IsAnswered q d
@@ -55,27 +55,27 @@ HasAnswerTurns = (s : Setting) (es : List Entry) (h : IsLawful s es) → IsUnfin
     → (h' : IsLawful s (es ++ entry_by t d.line d.act ∷ [])) × (h'.events ≡ h.events ++ event_of_deed t d ∷ [])
 
 -- The thread asks to make an operation: for `Cross` with the newest version.
-abbrev pub AsksToDo : Setting → List Entry → Own → ℕ → Op → Type 0
+abbrev pub AsksToDo : Setting → List Entry → Own → ℕ → Operation → Type 0
 AsksToDo s es x l (cross y n m) =
     (n ≡ walk.Version.number (Control.version (control s.commands es))) × AsksToCross s.program (plans s) x l y m (Control.version (control s.commands es))
 AsksToDo s es x l o = AsksToMake s.program (plans s) x l o
 
 -- Behind the entries and events so far thread t asks to make an operation, and nothing keeps it from making it.
-pub record MayMake (s : Setting) (es : List Entry) (xs : List Event) (t l : ℕ) (o : Op) : Type 0 where
-  pub state : Spawned
+pub record MayMake (s : Setting) (es : List Entry) (xs : List Event) (t l : ℕ) (o : Operation) : Type 0 where
+  pub state : ThreadState
   pub there : thread_at (replay (start s.program) xs) t ≡ Some state
   pub asks : AsksToDo s es (own s es t state) l o
   pub goes_on : IsOpen s (front_of s es xs)
   pub not_held_off : IsHeldOff s (front_of s es xs) t → ⊥
-  pub crosses : is_cross (entry_of_op t l o) ≡ owes_cross (entry_of_op t l o) (listed t es)
+  pub crosses : is_cross (entry_of_operation t l o) ≡ owes_cross (entry_of_operation t l o) (listed t es)
   pub away : (k : ℕ) → Control.asked (control s.commands es) ≡ Some k → has_any (entries_of t (since_asked es)) ≡ true
-      → KeptAway s (own_with s es t state (entry_of_op t l o)) k
-  pub needs : Needs s (front_of s es xs) (entry_of_op t l o)
+      → StaysAway s (own_with s es t state (entry_of_operation t l o)) k
+  pub permits : Permits s (front_of s es xs) (entry_of_operation t l o)
 
 -- So the journal with the operation is lawful. (Shown.)
 abbrev pub HasMakingTurns : Type 0
-HasMakingTurns = (s : Setting) (es : List Entry) (h : IsLawful s es) → IsUnfinished es → (t l : ℕ) (o : Op) → MayMake s es h.events t l o
-    → (h' : IsLawful s (es ++ entry_of_op t l o ∷ [])) × (h'.events ≡ h.events)
+HasMakingTurns = (s : Setting) (es : List Entry) (h : IsLawful s es) → IsUnfinished es → (t l : ℕ) (o : Operation) → MayMake s es h.events t l o
+    → (h' : IsLawful s (es ++ entry_of_operation t l o ∷ [])) × (h'.events ≡ h.events)
 
 -- Requests that are disabled
 
@@ -107,7 +107,7 @@ HasBlocks = (p : Source) (plans : Plans) (x : Own) (q : Request) (l : ℕ) (what
 -- What a thread asks for is one
 
 -- an operation that a filter or a limit makes a thread owe
-abbrev pub is_owed : Op → Bool
+abbrev pub is_owed : Operation → Bool
 is_owed (cross x v n) = false
 is_owed (blocked what) = false
 is_owed _ = true
@@ -119,10 +119,10 @@ HasOneRequest = (p : Source) (plans : Plans) (x : Own) (q q' : Request) (d d' : 
 
 -- Where it asks for an act it owes no operation. (Shown.)
 abbrev pub HasNoSplit : Type 0
-HasNoSplit = (p : Source) (plans : Plans) (x : Own) (q : Request) (d : Deed) (l : ℕ) (o : Op) → AsksToAct p plans x q → IsAnswered q d → is_owed o ≡ true
+HasNoSplit = (p : Source) (plans : Plans) (x : Own) (q : Request) (d : Deed) (l : ℕ) (o : Operation) → AsksToAct p plans x q → IsAnswered q d → is_owed o ≡ true
     → AsksToMake p plans x l o → ⊥
 
 -- It owes one operation at a time. (Shown.)
 abbrev pub HasOneOperation : Type 0
-HasOneOperation = (p : Source) (plans : Plans) (x : Own) (l l' : ℕ) (o o' : Op) → is_owed o ≡ true → is_owed o' ≡ true → AsksToMake p plans x l o
+HasOneOperation = (p : Source) (plans : Plans) (x : Own) (l l' : ℕ) (o o' : Operation) → is_owed o ≡ true → is_owed o' ≡ true → AsksToMake p plans x l o
     → AsksToMake p plans x l' o' → (l ≡ l') × (o ≡ o')

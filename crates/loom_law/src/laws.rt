@@ -1,6 +1,6 @@
 //! Laws of full parts and of lawful journals, each the contract of a function that does nothing. Their statements stand in `specs/Laws.antt`.
 ghost use Rattle.loom_law.specs.Promises.{AlwaysPromises};
-ghost use Rattle.loom_law.specs.Laws.{HasHeldRegions, HasOnePart, HasOneMove, HasOneMade, HasBalance, IsAlwaysBalanced, HasNewInstalls, HasExclusion, IsAlwaysObeyed, HasNewest, HasOwedActive, HasOwedInstalled, HasHeldLeaves, HasRightLeaves, HasFronts, HasEmptyEnds, HasBeginning, HasEventTurns, HasOperationTurns, HasControlTurns, HasSoundPlaces, IsOutsideWhereFlagged};
+ghost use Rattle.loom_law.specs.Laws.{HasHeldRegions, HasOnePart, HasOneMove, HasOneMade, HasBalance, IsAlwaysBalanced, HasNewInstalls, HasExclusion, IsAlwaysObeyed, HasNewest, HasOwedActive, HasOwedInstalled, HasHeldLeaves, HasRightLeaves, HasFronts, HasEmptyEnds, HasBeginning, HasEventTurns, HasOperationTurns, HasControlTurns, HasSoundPlaces, IsOutsideWhereFlagged, HasOneNumber};
 
 /// At each point of its full part a thread holds each clause whose regions it is inside.
 pub fn held_regions()

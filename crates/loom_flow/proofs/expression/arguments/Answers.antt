@@ -1,5 +1,5 @@
 use Rattle.std.proofs.Common.{◌∙◌}
-use Rattle.loom_lang.proofs.Noted.{drop_at}
+use Rattle.loom_lang.proofs.Faults.{drop_at}
 use Rattle.loom_flow.proofs.Sizes.{arguments_step}
 use Rattle.loom_flow.proofs.expression.arguments.Goals as goal
 

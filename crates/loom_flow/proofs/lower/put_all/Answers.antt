@@ -2,7 +2,7 @@ use Rattle.std.proofs.Common.{◌≡◌, ◌+◌, List, [], ◌∷◌, ◌++◌,
 use Rattle.loom_tree.specs.Tree.{Function, Source, function_of, functions_of}
 use Rattle.loom_lang.specs.Rules.{FunctionsKeepRules}
 use Rattle.loom_flow.specs.FlatCode.{functions_code, functions_sites, entrances, calls_body, set_of}
-use Rattle.loom_lang.proofs.Noted.{drop_at}
+use Rattle.loom_lang.proofs.Faults.{drop_at}
 use Rattle.loom_flow.proofs.Functions.{functions_code_step, functions_sites_step, entrances_step, calls_on, room_for}
 use Rattle.loom_flow.proofs.lower.put_all.Goals as goal
 

@@ -8,7 +8,7 @@ use Rattle.loom_trace.specs.declared.entry.Entry.TheVariants as e
 use Rattle.loom_event.specs.Event.{entry_by}
 use Rattle.loom_law.specs.Walk.{tick_after}
 use Rattle.loom_law.specs.Filter.{statement, function}
-use Rattle.loom_law.specs.Walk.{Version, Plans, Op, tick, Step, goes, makes, items, told_item, told, entry_of_op, Walk, Owed, unborn, owed_at, owed_behind, owed_out, owed_trap, with_tick, with_back, place_number, function_line, begun_with, without_first, after, walked, Owes, MayStand, AreWoven}
+use Rattle.loom_law.specs.Walk.{Version, Plans, Operation, tick, Step, goes, makes, items, told_item, told, entry_of_operation, Walk, Queue, unborn, owed_at, owed_behind, owed_out, owed_trap, with_tick, with_back, place_number, function_line, begun_with, without_first, after, walked, Owes, MayStand, AreWoven}
 use Rattle.loom_strand.specs.PlainWalk.{first_version, IsPlain, IsPlainWalk}
 
 -- Lists of steps
@@ -33,7 +33,7 @@ told_item_append t (out f) es fs = refl
 told_append : (t : ℕ) (ss us : List Step) → told t (ss ++ us) ≡ told t ss ++ told t us
 told_append t [] us = refl
 told_append t (goes i ∷ ss) us = ap (told_item t i) (told_append t ss us) ∙ told_item_append t i (told t ss) (told t us)
-told_append t (makes l o ∷ ss) us = ap (◌∷◌ (entry_of_op t l o)) (told_append t ss us)
+told_append t (makes l o ∷ ss) us = ap (◌∷◌ (entry_of_operation t l o)) (told_append t ss us)
 
 items_ahead : (ss us : List Step) (ahead : List Item) → items (ss ++ us) ++ ahead ≡ items ss ++ (items us ++ ahead)
 items_ahead ss us ahead = ap (λ z. z ++ ahead) (items_append ss us) ∙ append_assoc (items ss) (items us) ahead
@@ -45,7 +45,7 @@ woven_more p plans z (u ∷ ss) s ahead h may =
     (subst (MayStand p z u) (sym (items_ahead ss (s ∷ []) ahead)) (h (items (s ∷ []) ++ ahead)).0, woven_more p plans (after p plans z u) ss s ahead (λ more. (h more).1) may)
 
 -- A step that may stand there leads on.
-walk_more : (p : Source) (t : ℕ) (ss : List Step) (es fs : List Entry) (os ps : Owed) (n k : ℕ) (s : Step) → IsPlainWalk p t ss es os n
+walk_more : (p : Source) (t : ℕ) (ss : List Step) (es fs : List Entry) (os ps : Queue) (n k : ℕ) (s : Step) → IsPlainWalk p t ss es os n
     → ((z : Walk) → IsPlain os n z → (ahead : List Item) → MayStand p z s ahead)
     → ((plans : Plans) (z : Walk) → IsPlain os n z → IsPlain ps k (after p plans z s)) → told t (s ∷ []) ≡ fs
     → IsPlainWalk p t (ss ++ s ∷ []) (es ++ fs) ps k
@@ -56,7 +56,7 @@ walk_more p t ss es fs os ps n k s h may leads tells = record {
 }
 
 -- a mark, where nothing is owed
-walk_mark : (p : Source) (t : ℕ) (ss : List Step) (es : List Entry) (ps : Owed) (n k : ℕ) (i : Item) → IsPlainWalk p t ss es [] n
+walk_mark : (p : Source) (t : ℕ) (ss : List Step) (es : List Entry) (ps : Queue) (n k : ℕ) (i : Item) → IsPlainWalk p t ss es [] n
     → ((z : Walk) → IsPlain [] n z → (ahead : List Item) → MayStand p z (goes i) ahead)
     → ((plans : Plans) (z : Walk) → IsPlain [] n z → IsPlain ps k (after p plans z (goes i))) → told t (goes i ∷ []) ≡ []
     → IsPlainWalk p t (ss ++ goes i ∷ []) es ps k

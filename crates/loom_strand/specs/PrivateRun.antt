@@ -7,7 +7,7 @@ use Rattle.loom_flow.specs.Flat.{Flat}
 use Rattle.loom_flow.specs.Position.{Position}
 use Rattle.loom_flow.specs.Progress.{ends, progress}
 use Rattle.loom_trace.specs.declared.entry.Entry.{Entry}
-use Rattle.loom_law.specs.Walk.{tick_after, tick, Step, items, Owed}
+use Rattle.loom_law.specs.Walk.{tick_after, tick, Step, items, Queue}
 use Rattle.loom_strand.specs.declared.turn.Mark.{Mark}
 use Rattle.loom_strand.specs.declared.turn.Mark.TheVariants as m
 use Rattle.loom_strand.specs.declared.turn.Stop.{Stop}
@@ -42,11 +42,11 @@ Carries c z marks y = (f : ℕ) (vs : List ℤ) (so_far : List Item)
     → GoesOnFrom c (thread_with c.program f) f vs so_far z → GoesOnFrom c (thread_with c.program f) f vs (so_far ++ marks) y
 
 -- The walk goes on with these steps, which no entry tells.
-abbrev pub WalksOn : Source → List Step → ℕ → Owed → ℕ → Type 0
+abbrev pub WalksOn : Source → List Step → ℕ → Queue → ℕ → Type 0
 WalksOn p marks n os k = (t : ℕ) (steps : List Step) (es : List Entry) → IsPlainWalk p t steps es [] n → IsPlainWalk p t (steps ++ marks) es os k
 
 -- The machine went on past marks: this is owed then.
-pub record HasGone (c : Flat) (old new : Machine) (n k : ℕ) (os : Owed) : Type 0 where
+pub record HasGone (c : Flat) (old new : Machine) (n k : ℕ) (os : Queue) : Type 0 where
   pub marks : List Step
   pub carries : Carries c (position old) (items marks) (position new)
   pub walks : WalksOn c.program marks n os k

@@ -12,7 +12,7 @@ use Rattle.loom_strand.specs.declared.stage.Birth.{Birth}
 use Rattle.loom_strand.specs.declared.stage.Stage.{Stage}
 use Rattle.loom_strand.specs.declared.stage.Want.{Want}
 use Rattle.loom_strand.specs.declared.stage.Want.TheVariants as w
-use Rattle.loom_strand.specs.Machine.{Machine}
+use Rattle.loom_strand.specs.Machine.{Machine, frames_below}
 use Rattle.loom_strand.specs.Alone.{has_one_thread, NeedsNoOther}
 use Rattle.loom_strand.specs.Entries.{asks_begin, has_none, has_ended, versions_with}
 
@@ -42,6 +42,8 @@ pub record IsNew (p : Source) (t n : ℕ) (s : Strand) : Type 0 where
   pub birth : s.birth ≡ None
   pub entries : s.entries ≡ []
   pub wanted : s.wanted ≡ None
+  -- and for as many frames as there may be below the newest one
+  pub frames : s.inside.machine.most_frames ≡ frames_below
 
 -- It is the same thread, with these entries and this birth.
 pub record IsSame (old : Strand) (b : Option Birth) (es : List Entry) (new : Strand) : Type 0 where

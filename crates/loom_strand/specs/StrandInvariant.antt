@@ -15,7 +15,7 @@ use Rattle.loom_trace.specs.declared.entry.Entry.{Entry}
 use Rattle.loom_trace.specs.declared.request.Request.{Request}
 use Rattle.loom_trace.specs.declared.request.Request.TheVariants as r
 use Rattle.loom_event.specs.Answer.{IsFunctionWith}
-use Rattle.loom_law.specs.Walk.{tick_after, tick, Step, items, Owed}
+use Rattle.loom_law.specs.Walk.{tick_after, tick, Step, items, Queue}
 use Rattle.loom_strand.specs.declared.stage.Birth.{Birth}
 use Rattle.loom_strand.specs.declared.stage.Stage.{Stage}
 use Rattle.loom_strand.specs.declared.stage.Stage.TheVariants as stage
@@ -38,20 +38,20 @@ abbrev pub AllGoOn : Flat → List Frame → Type 0
 AllGoOn c [] = Unit {0}
 AllGoOn c (f ∷ fs) = GoesOnIn c f × AllGoOn c fs
 
-pub record HasFrames (c : Flat) (z : State) : Type 0 where
-  pub few : length z.below ≤ frames_below
-  pub go_on : AllGoOn c z.below
+pub record HasFrames (c : Flat) (fs : List Frame) : Type 0 where
+  pub few : length fs ≤ frames_below
+  pub go_on : AllGoOn c fs
 
 -- Before an instruction of the code as many values wait as are foreseen there.
 pub record IsBefore (c : Flat) (z : State) : Type 0 where
   pub inside : z.at < length c.code
   pub values : depth_before c z.at ≡ Some (length z.values)
-  pub frames : HasFrames c z
+  pub frames : HasFrames c z.below
 
 -- Where a frame is to end no value waits.
 pub record IsLeaving (c : Flat) (z : State) : Type 0 where
   pub values : length z.values ≡ 0
-  pub frames : HasFrames c z
+  pub frames : HasFrames c z.below
 
 abbrev pub IsSound : Flat → Position → Type 0
 IsSound c (before z) = IsBefore c z
@@ -79,16 +79,16 @@ thread_with p f = record { program = p; stopped = ended (end_line p f) }
 -- What is asked for
 
 -- nothing yet: nothing is owed, and no place more was passed than goes without a tick
-abbrev pub IsIdle : Option Request → Owed → ℕ → Type 0
-IsIdle wanted os n = (wanted ≡ None) × ((os ≡ []) × (n < tick_after))
+abbrev pub IsIdle : Option Request → Queue → ℕ → Type 0
+IsIdle wanted os n = (wanted ≡ None) × (os ≡ []) × (n < tick_after)
 
 -- the tick that is owed
-abbrev pub AsksTick : Option Request → Owed → Type 0
-AsksTick wanted os = (line : ℕ) × ((place : ℕ) × ((wanted ≡ Some (r.Tick line place)) × (os ≡ (line, tick place) ∷ [])))
+abbrev pub AsksTick : Option Request → Queue → Type 0
+AsksTick wanted os = (line : ℕ) × (place : ℕ) × (wanted ≡ Some (r.Tick line place)) × (os ≡ (line, tick place) ∷ [])
 
 -- what comes of the position
-abbrev pub AsksHere : Flat → ℕ → Position → Option Request → Owed → Type 0
-AsksHere c line z wanted os = (q : Request) × ((wanted ≡ Some q) × ((request_at line (progress c z) ≡ Some q) × (os ≡ [])))
+abbrev pub AsksHere : Flat → ℕ → Position → Option Request → Queue → Type 0
+AsksHere c line z wanted os = (q : Request) × (wanted ≡ Some q) × (request_at line (progress c z) ≡ Some q) × (os ≡ [])
 
 -- Stages
 
@@ -102,8 +102,9 @@ pub record IsWaiting (p : Source) (b : Birth) (es : List Entry) (wanted : Option
   pub asks : AsksBegin (end_line p b.func) wanted
 
 pub record IsRunning (p : Source) (t : ℕ) (b : Birth) (es : List Entry) (wanted : Option Request) (n : ℕ) (z : Position) : Type 0 where
+  pub function : IsFunctionWith p b.func b.args
   pub steps : List Step
-  pub owed : Owed
+  pub owed : Queue
   pub walk : IsPlainWalk p t steps es owed n
   pub goes : GoesOnFrom (lowered p) (thread_with p b.func) b.func b.args (items steps) z
   pub sound : IsSound (lowered p) z
@@ -113,7 +114,7 @@ pub record IsRunning (p : Source) (t : ℕ) (b : Birth) (es : List Entry) (wante
 
 pub record HasStopped (p : Source) (t : ℕ) (b : Birth) (es : List Entry) (wanted : Option Request) : Type 0 where
   pub steps : List Step
-  pub owed : Owed
+  pub owed : Queue
   pub passed : ℕ
   pub walk : IsPlainWalk p t steps es owed passed
   pub whole : IsTrace p b.func b.args (items steps) Finished

@@ -105,13 +105,6 @@ impl Machine {
         self.phase = Phase::Over;
     }
 
-    /// The number of the function of the newest frame.
-    pub fn func(&self) -> u8
-        ensures { result ≡ self.now.state.func }
-    {
-        self.func
-    }
-
     /// The number of the next instruction.
     pub fn at(&self) -> usize
         ensures { result ≡ self.now.state.at }

@@ -73,7 +73,7 @@ impl Model for Strand {
 
 // The line of a function.
 fn line_of(flow: &Flow, func: u8) -> u32
-    requires { func < length flow.now.entrances }
+    requires { func < length flow.now.program.funcs }
     ensures line { result ≡ line_of_function (slice_get flow.now.program.funcs func) }
     ensures lowered { IsLowered flow.now }
 {
@@ -140,7 +140,7 @@ impl Strand {
             return;
         }
         let Some(birth) = self.birth else {
-            return;
+            unreachable!();
         };
         match self.stage {
             Stage::Waits => {
@@ -148,14 +148,12 @@ impl Strand {
                 self.wanted = Some(Request::Begin { line });
             }
             Stage::Runs => {
-                let request = match run(&mut self.machine, &mut self.passed, flow) {
-                    Stop::Asks(request) => request,
-                    Stop::Ticks(line, place) => Request::Tick { line, place },
-                    Stop::Ends => Request::End {
-                        line: line_of(flow, birth.func),
-                    },
-                };
-                self.wanted = Some(request);
+                let line = line_of(flow, birth.func);
+                match run(&mut self.machine, &mut self.passed, flow) {
+                    Stop::Asks(request) => self.wanted = Some(request),
+                    Stop::Ticks(line, place) => self.wanted = Some(Request::Tick { line, place }),
+                    Stop::Ends => self.wanted = Some(Request::End { line }),
+                }
             }
             Stage::Over => {}
         }
@@ -172,6 +170,8 @@ impl Strand {
         let Some(birth) = self.birth else {
             unreachable!();
         };
+        // the flat code is that of its program
+        let _ = flow.code();
         let (stage, passed) = follow(&mut self.machine, flow, birth, answer_of(&e));
         self.stage = stage;
         self.passed = passed;

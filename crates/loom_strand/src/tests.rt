@@ -1,16 +1,18 @@
 //! What thread 1 of small programs does.
-ghost use Rattle.std.specs.Prelude.{◌≡◌, ◌<◌, ◌≤◌, ◌+◌, [], length, IfOk, IfSome, true};
-ghost use Rattle.loom_law.specs.Asked.{IsAnswerTo, IsFunctionWith};
+ghost use Rattle.std.specs.Prelude.{◌≡◌, ◌<◌, ◌≤◌, ◌+◌, [], length, slice_get, IfOk, IfSome, true};
+ghost use Rattle.loom_flow.specs.Code.{IsLowered};
+ghost use Rattle.loom_event.specs.Answer.{IsAnswerTo, IsFunctionWith};
 ghost use Rattle.loom_trace.specs.declared.request.Request.TheVariants as r;
 ghost use Rattle.loom_strand.specs.Strand.{IsSame, IsStarted};
 
 mod rows;
 
-use crate::progress::entrance_of;
 use crate::stage::Want;
 use crate::strand::Strand;
+use loom_flow::code::Entrance;
 use loom_flow::flow::Flow;
 use loom_flow::lower::lower;
+use loom_lang::limits::SOURCE_LIMIT;
 use loom_lang::parse::{LangError, parse_program};
 use loom_trace::entry::Entry;
 use loom_trace::line::Line;
@@ -23,10 +25,18 @@ use std::test::Fail;
 
 fn flow_of(alloc: Global, text: &str) -> Result<Flow, LangError> {
     let bytes = text.as_bytes();
-    if bytes.len() > 65536 {
+    if bytes.len() > SOURCE_LIMIT {
         return Err(LangError::Refused);
     }
     Ok(lower(alloc, &parse_program(alloc, bytes)?)?)
+}
+
+#[tactic(auto, using(std::proofs::lemmas::Option::slice_get_cases))]
+fn entrance_of(flow: &Flow, func: u8) -> Option<Entrance>
+    ensures found { result ≡ slice_get flow.now.entrances func }
+    ensures lowered { IsLowered flow.now }
+{
+    flow.entrances().get(func as usize).copied()
 }
 
 // The last function is `main`.

@@ -18,9 +18,6 @@ use Rattle.loom_flow.specs.FlatCode.{lowered}
 use Rattle.loom_flow.specs.Code.{IsLowered}
 use Rattle.loom_flow.proofs.Traces.{lowered_traces}
 use Rattle.loom_trace.specs.declared.entry.Entry.{Entry}
-use Rattle.loom_trace.specs.declared.entry.Entry.TheVariants as e
-use Rattle.loom_trace.specs.declared.request.Request.{Request}
-use Rattle.loom_trace.specs.declared.request.Request.TheVariants as r
 use Rattle.loom_event.specs.Event.{entry_by}
 use Rattle.loom_event.specs.Answer.{granted, trapped, IsAnswerTo}
 use Rattle.loom_strand.specs.declared.answer.Answer.TheVariants as a
@@ -261,7 +258,10 @@ pub begun_on : (c : Flat) (f : ℕ) (vs : List ℤ) (g : Function) (en : Entranc
 begun_on c f vs g en there place es q n h = record {
   most_steps = n;
   gives = subst (λ x. flat.thread c x f vs n (made (line_of_function x) begin ∷ enter f (locals_now c (at_start f en vs [] [])) ∷ es) q) (sym there)
-      (inr (enter f (locals_now c (at_start f en vs [] [])) ∷ es, refl,
-      subst (λ o. started c (record { program = c.program; stopped = ended g.line }) f vs n o (enter f (locals_now c (at_start f en vs [] [])) ∷ es) q) (sym place)
-      (inr (es, refl, subst (λ x. runs c (record { program = c.program; stopped = ended (line_of_function x) }) n (before (at_start f en vs [] [])) es q) there h))));
+      (inr (
+        enter f (locals_now c (at_start f en vs [] [])) ∷ es,
+        refl,
+        subst (λ o. started c (record { program = c.program; stopped = ended g.line }) f vs n o (enter f (locals_now c (at_start f en vs [] [])) ∷ es) q) (sym place)
+            (inr (es, refl, subst (λ x. runs c (record { program = c.program; stopped = ended (line_of_function x) }) n (before (at_start f en vs [] [])) es q) there h)),
+      ));
 }

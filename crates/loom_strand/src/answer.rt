@@ -62,7 +62,12 @@ fn give(machine: &mut Machine, flow: &Flow, v: i64)
 
 /// What an answer leaves: how far the thread is, and how many entry and back-edge places it passed since its last entry. Behind its begin it
 /// is in its first frame.
-pub(crate) fn follow(machine: &mut Machine, flow: &Flow, birth: Birth, answer: Answer) -> (Stage, u32)
+pub(crate) fn follow(
+    machine: &mut Machine,
+    flow: &Flow,
+    birth: Birth,
+    answer: Answer,
+) -> (Stage, u32)
     requires { CanFollow flow.now machine.old birth answer }
     ensures { Follows flow.now machine.old machine.new birth answer result.0 result.1 }
 {

@@ -17,7 +17,6 @@ pub(crate) struct Values {
 impl Model for Values {
     ghost use Rattle.std.specs.Prelude.{reverse, vec_capacity};
     ghost use Rattle.loom_strand.specs.Stack.{Stack};
-
     ghost use Rattle.std.specs.Prelude.{ℤ};
 
     ghost Value = { Stack ℤ };

@@ -1,4 +1,4 @@
-use Rattle.std.proofs.Common.{◌≡◌, ◌<◌, ◌∙◌, length, sym, ap, Some, slice_get, subst}
+use Rattle.std.proofs.Common.{◌<◌, ◌∙◌, length, sym, ap, slice_get, subst}
 use Rattle.std.proofs.lemmas.Option.{slice_get-get_or}
 use Rattle.loom_strand.proofs.Entrances.{entrances_within, entrance_place, entrance_line}
 use Rattle.loom_strand.proofs.strand.line_of.Goals as goal

@@ -1,5 +1,5 @@
 -- One step of the machine is one step of the thread.
-use Rattle.std.proofs.Common.{ℕ, ◌≡◌, ℤ, Option, Some, sym, ap, subst, slice_get}
+use Rattle.std.proofs.Common.{ℕ, ◌≡◌, ℤ, Some, sym, ap, subst, slice_get}
 use Rattle.loom_lang.specs.Trace.{out}
 use Rattle.loom_flow.specs.declared.code.Instr.{Instr}
 use Rattle.loom_flow.specs.Flat.{Flat}
@@ -10,7 +10,7 @@ use Rattle.loom_strand.specs.declared.machine.Phase.TheVariants as phase
 use Rattle.loom_strand.specs.declared.turn.Turn.{Turn}
 use Rattle.loom_strand.specs.Machine.{Machine, position_in, position}
 use Rattle.loom_strand.specs.Turn.{place_of_instr, place_here, Comes, Advances}
-use Rattle.loom_strand.specs.StrandInvariant.{IsBefore, IsLeaving, IsSound}
+use Rattle.loom_strand.specs.StrandInvariant.{IsSound}
 
 abbrev At : Flat → Machine → Machine → Turn → Position → Type 0
 At c old new turn z = Comes c (place_here c z) old new turn (progress c z)

@@ -1,5 +1,5 @@
 -- What is asked for of a cell.
-use Rattle.std.proofs.Common.{ℕ, ◌+◌, ◌≡◌, Bool, true, false, ℤ, pos, negsuc, Option, Some, None, nat_lt, sym, subst, if◌then◌else◌}
+use Rattle.std.proofs.Common.{ℕ, ◌+◌, ◌≡◌, Bool, true, false, ℤ, pos, negsuc, Some, None, nat_lt, sym, subst, if◌then◌else◌}
 use Rattle.loom_lang.specs.Trace.{index}
 use Rattle.loom_flow.specs.declared.code.Array.{Array}
 use Rattle.loom_flow.specs.Progress.{Progress, traps, in_array}

@@ -1,5 +1,5 @@
 -- What falls while a thread goes on by itself.
-use Rattle.std.proofs.Common.{ℕ, suc, ◌+◌, ◌-◌, ◌*◌, ◌&&◌, ◌≡◌, ◌≤◌, ◌<◌, Bool, true, false, List, [], ◌∷◌, ℤ, pos, negsuc, Option, Some, None, refl, sym, subst, nat_lt, slice_get, length, if◌then◌else◌, arith}
+use Rattle.std.proofs.Common.{ℕ, suc, ◌+◌, ◌-◌, ◌*◌, ◌&&◌, ◌≡◌, ◌≤◌, ◌<◌, Bool, true, false, List, [], ◌∷◌, ℤ, pos, negsuc, Option, Some, None, sym, subst, nat_lt, slice_get, length, if◌then◌else◌, arith}
 use Rattle.std.proofs.Math.Nat.{mul-le-mul_right}
 use Rattle.loom_lang.specs.Values.{is_zero, applied, divides}
 use Rattle.loom_lang.specs.Trace.{Item, edge, enter, frame_limit, division, index, frames}
@@ -15,14 +15,14 @@ use Rattle.loom_flow.specs.declared.code.Step.TheVariants as s
 use Rattle.loom_flow.specs.declared.code.Instr.{Instr}
 use Rattle.loom_flow.specs.declared.code.Entrance.{Entrance}
 use Rattle.loom_flow.specs.Flat.{Flat, resume}
-use Rattle.loom_flow.specs.State.{Frame, State, operand, without, given, forward, jumped, arguments, without_arguments}
+use Rattle.loom_flow.specs.State.{Frame, State, operand, without, given, jumped, arguments, without_arguments}
 use Rattle.loom_flow.specs.Position.{Position, before, leaves, over}
 use Rattle.loom_flow.specs.Question.{read, write}
-use Rattle.loom_flow.specs.Progress.{Progress, goes, asks, traps, on, of_compute, in_array, asks_value, asks_act, of_ask, calls, returns, of_control, of_step, of_instr, progress}
+use Rattle.loom_flow.specs.Progress.{Progress, goes, traps, on, of_compute, in_array, asks_value, asks_act, of_ask, calls, returns, of_control, of_step, of_instr, progress}
 use Rattle.loom_flow.specs.Code.{IsLowered}
 use Rattle.loom_flow.specs.Laws.{LeadsInto}
-use Rattle.loom_strand.specs.StrandInvariant.{HasFrames, IsBefore, IsSound}
-use Rattle.loom_strand.proofs.Sound.{leads_at, instr_at, keeps, Keeps}
+use Rattle.loom_strand.specs.StrandInvariant.{IsSound}
+use Rattle.loom_strand.proofs.Soundness.{leads_at, instr_at, keeps, Keeps}
 
 -- more steps than one frame can make to the end of the code
 abbrev pub frame_steps : Flat → ℕ

@@ -12,10 +12,10 @@ use Rattle.loom_flow.specs.declared.code.Step.TheVariants as s
 use Rattle.loom_flow.specs.declared.code.Instr.{Instr}
 use Rattle.loom_flow.specs.Flat.{Flat}
 use Rattle.loom_flow.specs.Code.{IsLowered}
-use Rattle.loom_flow.specs.Laws.{HasParams, HasProgramNumbers, HasStart, LeadsInto, JumpsForward}
+use Rattle.loom_flow.specs.Laws.{HasParams, HasProgramNumbers, LeadsInto, JumpsForward}
 use Rattle.loom_flow.proofs.Forward.{lawful_at, lowered_forward}
 use Rattle.loom_strand.specs.Machine.{AskHasFewArguments, CallsFunction, TakesFewArguments}
-use Rattle.loom_strand.proofs.Asking.{numbers_at}
+use Rattle.loom_strand.proofs.RequestKinds.{numbers_at}
 
 pub few_params : (p : Source) (f n : ℕ) → KeepsRules p → HasParams p f n → n ≤ 4
 few_params p f n l h =

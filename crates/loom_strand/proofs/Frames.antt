@@ -1,9 +1,9 @@
 -- Back into the frame below.
-use Rattle.std.proofs.Common.{ℕ, suc, ◌≡◌, ◌<◌, List, [], ◌∷◌, drop, length, ℤ, Option, Some, None, refl, sym, ap, subst, ◌∙◌, slice_get}
+use Rattle.std.proofs.Common.{◌≡◌, ◌<◌, List, [], ◌∷◌, drop, length, ℤ, Some, None, refl, ap, subst, slice_get}
 use Rattle.loom_flow.specs.declared.code.Site.{Site}
 use Rattle.loom_flow.specs.Flat.{Flat, resume}
-use Rattle.loom_flow.specs.State.{Frame, State}
-use Rattle.loom_flow.specs.Position.{Position, before, over}
+use Rattle.loom_flow.specs.State.{Frame}
+use Rattle.loom_flow.specs.Position.{before, over}
 use Rattle.loom_flow.specs.Progress.{returns}
 use Rattle.loom_strand.specs.Stack.{first}
 use Rattle.loom_strand.specs.Machine.{HasFirstSite}

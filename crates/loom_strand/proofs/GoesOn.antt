@@ -18,9 +18,6 @@ use Rattle.loom_flow.specs.FlatCode.{lowered}
 use Rattle.loom_flow.specs.Code.{IsLowered}
 use Rattle.loom_flow.proofs.Traces.{lowered_traces}
 use Rattle.loom_trace.specs.declared.entry.Entry.{Entry}
-use Rattle.loom_trace.specs.declared.entry.Entry.TheVariants as e
-use Rattle.loom_trace.specs.declared.request.Request.{Request}
-use Rattle.loom_trace.specs.declared.request.Request.TheVariants as r
 use Rattle.loom_event.specs.Event.{entry_by}
 use Rattle.loom_event.specs.Answer.{granted, trapped, IsAnswerTo}
 use Rattle.loom_strand.specs.declared.answer.Answer.TheVariants as a

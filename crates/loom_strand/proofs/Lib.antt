@@ -1,6 +1,6 @@
 pub mod Advance
-pub mod Answered
-pub mod Asking
+pub mod AnswerLaws
+pub mod RequestKinds
 pub mod Cells
 pub mod Entrances
 pub mod Falls
@@ -11,11 +11,11 @@ pub mod Locals
 pub mod Lone
 pub mod Marks
 pub mod Parts
-pub mod Resumed
+pub mod PrivateRuns
 pub mod Room
-pub mod Running
+pub mod RunSteps
 pub mod Small
-pub mod Sound
+pub mod Soundness
 pub mod Stacks
 pub mod Walks
-pub mod Wanted
+pub mod RequestLaws

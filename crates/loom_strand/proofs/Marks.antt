@@ -2,7 +2,7 @@
 use Rattle.std.proofs.Common.{ℕ, suc, ◌+◌, ◌&&◌, ◌≡◌, Bool, true, false, List, ℤ, pos, negsuc, Option, Some, None, refl, sym, ap, subst, ◌∙◌, nat_lt, slice_get, length, if◌then◌else◌}
 use Rattle.std.proofs.lemmas.Option.{slice_get_within}
 use Rattle.loom_lang.specs.Values.{is_zero, applied, divides}
-use Rattle.loom_lang.specs.Places.{Place, entry, back_edge, place_at}
+use Rattle.loom_lang.specs.Places.{entry, back_edge, place_at}
 use Rattle.loom_lang.specs.Trace.{Item, made, edge, enter, frame_limit, division, index, frames}
 use Rattle.loom_flow.specs.declared.code.Array.{Array}
 use Rattle.loom_flow.specs.declared.code.Compute.{Compute}
@@ -19,13 +19,13 @@ use Rattle.loom_flow.specs.Flat.{Flat}
 use Rattle.loom_flow.specs.State.{State, operand, without, given, jumped, arguments, without_arguments}
 use Rattle.loom_flow.specs.Position.{Position, before, leaves, over}
 use Rattle.loom_flow.specs.Question.{read, write}
-use Rattle.loom_flow.specs.Progress.{Progress, goes, asks, traps, on, of_compute, in_array, asks_value, asks_act, of_ask, calls, of_control, of_step, of_instr, progress}
+use Rattle.loom_flow.specs.Progress.{Progress, goes, traps, on, of_compute, in_array, asks_value, asks_act, of_ask, calls, of_control, of_step, of_instr, progress}
 use Rattle.loom_flow.specs.Code.{IsLowered}
 use Rattle.loom_flow.specs.Laws.{IsInFunction, place_of, HasInstructionPlaces}
 use Rattle.loom_flow.proofs.FlowLaws.{instructions_of}
 use Rattle.loom_strand.specs.Turn.{place_of_entrance, place_of_instr, place_here}
-use Rattle.loom_strand.specs.StrandInvariant.{IsBefore, IsSound}
-use Rattle.loom_strand.proofs.Sound.{instr_at}
+use Rattle.loom_strand.specs.StrandInvariant.{IsSound}
+use Rattle.loom_strand.proofs.Soundness.{instr_at}
 
 -- A mark that passes a place has its number, and no entry is a mark.
 abbrev pub HasMarkPlace : Flat → ℕ → Option Item → Type 0

@@ -1,8 +1,8 @@
 -- The parts of a thread where no filter is installed, and what it asks for.
-use Rattle.std.proofs.Common.{ℕ, ◌≡◌, true, false, List, [], ◌∷◌, ◌++◌, ℤ, Option, Some, None, refl, sym, ap, subst, ◌∙◌, append-nil}
+use Rattle.std.proofs.Common.{ℕ, ◌≡◌, false, List, [], ◌∷◌, ◌++◌, ℤ, Option, Some, None, refl, sym, subst, ◌∙◌, append-nil}
 use Rattle.loom_tree.specs.Tree.{Source}
 use Rattle.loom_lang.specs.Rules.{KeepsRules}
-use Rattle.loom_lang.specs.Trace.{Item, Outcome, Open, Finished, Cause, made, trap, end, begin, division, index, not_held, not_spawned, threads, frames, overflow, reason, IsTrace}
+use Rattle.loom_lang.specs.Trace.{Item, Outcome, Open, Finished, Cause, made, trap, end, division, index, not_held, not_spawned, threads, frames, overflow, reason, IsTrace}
 use Rattle.loom_lang.specs.Acts.{Deed}
 use Rattle.loom_flow.specs.Position.{Position}
 use Rattle.loom_flow.specs.Question.{Question, read, write, lock, unlock, down, up, spawn, join, print}
@@ -13,15 +13,15 @@ use Rattle.loom_trace.specs.declared.entry.Entry.TheVariants as e
 use Rattle.loom_trace.specs.declared.request.Request.{Request}
 use Rattle.loom_trace.specs.declared.request.Request.TheVariants as r
 use Rattle.loom_event.specs.Answer.{granted, trapped, cause_of, trap_at}
-use Rattle.loom_law.specs.Walk.{Version, Plans, tick, Step, goes, makes, items, told, unborn, Queue, walked, AreWoven}
-use Rattle.loom_law.specs.Part.{Own, led, IsPart, AsksToMake, AsksToAct, GoesOn}
-use Rattle.loom_strand.specs.PlainWalk.{first_version, IsPlain, IsPlainWalk}
+use Rattle.loom_law.specs.Walk.{Plans, tick, Step, makes, items, Queue}
+use Rattle.loom_law.specs.Part.{Own, IsPart, AsksToMake, AsksToAct, GoesOn}
+use Rattle.loom_strand.specs.PlainWalk.{first_version, IsPlainWalk}
 use Rattle.loom_strand.specs.Entries.{has_none, versions_with}
 use Rattle.loom_strand.specs.Question.{request_of}
 use Rattle.loom_strand.specs.Strand.{AsksNext, IsWholePart}
 use Rattle.loom_strand.specs.StrandInvariant.{GoesOnFrom, end_line, thread_with}
 use Rattle.loom_strand.proofs.Walks.{items_append, walk_tick}
-use Rattle.loom_strand.proofs.GoesOn.{tree_trace, open_so_far, ends_open, one_open, next_open, granted_open, trapped_open, own_trap_open}
+use Rattle.loom_strand.proofs.GoesOn.{tree_trace, ends_open, one_open, next_open, granted_open, trapped_open, own_trap_open}
 
 -- what is a thread's own, with the versions that these entries tell
 abbrev pub own_with : ℕ → ℕ → List ℤ → List Entry → Own

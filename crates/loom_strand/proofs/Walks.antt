@@ -1,5 +1,5 @@
 -- The walk of a thread where no filter is installed: one step more.
-use Rattle.std.proofs.Common.{ℕ, suc, ◌≡◌, ◌==◌, Bool, true, false, List, [], ◌∷◌, ◌++◌, length, Option, Some, None, refl, sym, ap, subst, ◌∙◌, append_assoc, append-nil, if◌then◌else◌}
+use Rattle.std.proofs.Common.{ℕ, suc, ◌≡◌, ◌==◌, Bool, true, false, List, [], ◌∷◌, ◌++◌, Some, refl, sym, ap, subst, ◌∙◌, append_assoc, append-nil, if◌then◌else◌}
 use Rattle.loom_tree.specs.Tree.{Source}
 use Rattle.loom_lang.specs.Places.{Place, entry, back_edge, line_of_place}
 use Rattle.loom_lang.specs.Trace.{Item, Locals, Act, begin, end, trap, read, write, lock, unlock, down, up, spawn, join, print, made, begins, done, edge, enter, out}

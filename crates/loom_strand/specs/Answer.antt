@@ -1,5 +1,5 @@
 -- What an answer does to a thread.
-use Rattle.std.specs.Prelude.{ℕ, ◌≡◌, ◌<◌, ℤ, pos, List, [], Option, Some, None, slice_get, length}
+use Rattle.std.specs.Prelude.{ℕ, ◌≡◌, ◌<◌, pos, [], Option, Some, None, slice_get, length}
 use Rattle.loom_flow.specs.declared.code.Entrance.{Entrance}
 use Rattle.loom_flow.specs.Flat.{Flat}
 use Rattle.loom_flow.specs.State.{at_start}

@@ -1,5 +1,6 @@
 -- The machine of a thread: where the thread is, and for how much it has room.
-use Rattle.std.specs.Prelude.{ℕ, ◌≡◌, ◌≤◌, ◌<◌, Bool, true, false, List, [], ◌∷◌, length, ℤ, pos, replicate}
+use Rattle.std.specs.Prelude.{ℕ, ◌-◌, ◌≡◌, ◌≤◌, ◌<◌, Bool, true, false, List, [], ◌∷◌, length, ℤ, pos, replicate}
+use Rattle.loom_lang.specs.Trace.{frame_limit}
 use Rattle.loom_flow.specs.declared.code.Ask.{Ask}
 use Rattle.loom_flow.specs.declared.code.Ask.TheVariants.{Spawn}
 use Rattle.loom_flow.specs.declared.code.Control.{Control}
@@ -45,7 +46,7 @@ blank = record { at = 0; values = []; func = 0; locals = replicate frame_room (p
 
 -- the frames that fit below the newest one
 abbrev pub frames_below : ℕ
-frames_below = 255
+frames_below = frame_limit - 1
 
 abbrev pub new_machine : ℕ → Machine
 new_machine n = record { phase = phase.Before; state = blank; most_values = n; most_frames = frames_below }

@@ -1,7 +1,6 @@
 -- A private run of a thread: what it passes, and what it comes to.
-use Rattle.std.specs.Prelude.{ℕ, ◌≡◌, ◌==◌, ◌<◌, suc, Bool, true, false, List, [], ◌∷◌, ◌++◌, ℤ, Option, Some, None}
+use Rattle.std.specs.Prelude.{ℕ, ◌≡◌, ◌==◌, suc, Bool, true, false, List, [], ◌∷◌, ◌++◌, ℤ, Option, Some, None}
 use Rattle.loom_tree.specs.Tree.{Source}
-use Rattle.loom_lang.specs.Places.{Place, line_of_place}
 use Rattle.loom_lang.specs.Trace.{Item}
 use Rattle.loom_flow.specs.Flat.{Flat}
 use Rattle.loom_flow.specs.Position.{Position}

@@ -1,5 +1,5 @@
 -- A thread.
-use Rattle.std.specs.Prelude.{ℕ, ◌≡◌, true, false, List, [], ◌++◌, Option, Some, None}
+use Rattle.std.specs.Prelude.{ℕ, ◌≡◌, true, false, List, [], Option, Some, None}
 use Rattle.loom_tree.specs.Tree.{Source}
 use Rattle.loom_lang.specs.Trace.{Finished, IsTrace}
 use Rattle.loom_trace.specs.declared.entry.Entry.{Entry}

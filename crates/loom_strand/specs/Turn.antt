@@ -4,7 +4,7 @@ use Rattle.loom_lang.specs.Trace.{Item, made, begins, done, edge, enter, out, re
 use Rattle.loom_flow.specs.declared.code.Instr.{Instr}
 use Rattle.loom_flow.specs.declared.code.Entrance.{Entrance}
 use Rattle.loom_flow.specs.Flat.{Flat}
-use Rattle.loom_flow.specs.Position.{Position, before, leaves, over}
+use Rattle.loom_flow.specs.Position.{Position, before}
 use Rattle.loom_flow.specs.Progress.{Progress, goes, asks, traps, ends, nothing, progress}
 use Rattle.loom_trace.specs.declared.request.Request.TheVariants as r
 use Rattle.loom_strand.specs.declared.turn.Mark.{Mark}

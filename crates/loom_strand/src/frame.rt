@@ -2,6 +2,7 @@
 ghost use Rattle.std.specs.Prelude.{◌≡◌, ◌<◌, [], ◌∷◌, IfOk, length, drop};
 ghost use Rattle.loom_strand.specs.Stack.{first};
 
+use loom_lang::limits::LOCAL_LIMIT;
 use loom_tree::name::NoMemory;
 use std::alloc::Global;
 use std::marker::Model;
@@ -10,7 +11,7 @@ use std::marker::Model;
 #[derive(Debug, Drop)]
 pub(crate) struct Frame {
     pub(crate) func: u8,
-    pub(crate) locals: [i64; 32],
+    pub(crate) locals: [i64; LOCAL_LIMIT],
     pub(crate) site: u16,
 }
 

@@ -12,6 +12,7 @@ ghost use Rattle.loom_strand.specs.Machine.{HasFirstSite, holding, standing, bla
 use crate::frame::{Frame, Frames};
 use crate::values::Values;
 use loom_flow::code::{Entrance, Operand, Site, Target};
+use loom_lang::limits::LOCAL_LIMIT;
 use loom_trace::row::Args;
 use loom_tree::name::NoMemory;
 use std::alloc::Global;
@@ -38,7 +39,7 @@ pub(crate) struct Machine {
     at: usize,
     values: Values,
     func: u8,
-    locals: [i64; 32],
+    locals: [i64; LOCAL_LIMIT],
     below: Frames,
 }
 
@@ -67,7 +68,7 @@ impl Machine {
             at: 0,
             values,
             func: 0,
-            locals: [0; 32],
+            locals: [0; LOCAL_LIMIT],
             below,
         })
     }
@@ -323,12 +324,12 @@ impl Machine {
 }
 
 // The locals of a new frame.
-fn first_locals(entrance: Entrance, args: Args) -> [i64; 32]
+fn first_locals(entrance: Entrance, args: Args) -> [i64; LOCAL_LIMIT]
     ensures { result ≡ frame_locals entrance args }
 {
     let given = args.as_slice();
     let count = given.len().min(entrance.params as usize);
-    let mut locals = [0; 32];
+    let mut locals = [0; LOCAL_LIMIT];
     'given: for i in 0..count {
         locals[i] = given[i];
     }

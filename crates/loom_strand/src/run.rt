@@ -1,6 +1,7 @@
 //! Private runs.
 ghost use Rattle.std.specs.Prelude.{◌≡◌, ◌<◌};
 ghost use Rattle.loom_flow.specs.Code.{IsLowered};
+ghost use Rattle.loom_law.specs.Walk.{tick_after};
 ghost use Rattle.loom_strand.specs.Machine.{position};
 ghost use Rattle.loom_strand.specs.StrandInvariant.{IsSound, HasRoom};
 ghost use Rattle.loom_strand.specs.PrivateRun.{place_passed, Passes, Stops};
@@ -28,7 +29,7 @@ fn place_passed(mark: Option<Mark>) -> Option<u16>
 
 // Counts the place, if any, and gives it where a tick is owed at it.
 fn pass(passed: &mut u32, place: Option<u16>) -> Option<u16>
-    requires { passed.old < 1000 }
+    requires { passed.old < tick_after }
     ensures { Passes passed.old passed.new place result }
 {
     let place = place?;
@@ -46,7 +47,7 @@ pub(crate) fn run(machine: &mut Machine, passed: &mut u32, flow: &Flow) -> Stop
     requires lowered { IsLowered flow.now }
     requires sound { IsSound flow.now (position machine.old) }
     requires room { HasRoom flow.now machine.old }
-    requires few { passed.old < 1000 }
+    requires few { passed.old < tick_after }
     ensures { Stops flow.now machine.old machine.new passed.old passed.new result }
 {
     'run: loop {

@@ -11,7 +11,7 @@ ghost use Rattle.loom_flow.specs.Progress.{goes, of_compute, of_control, of_step
 ghost use Rattle.loom_lang.specs.Trace.{out};
 ghost use Rattle.loom_strand.specs.declared.machine.Phase.TheVariants as phase;
 ghost use Rattle.loom_strand.specs.declared.turn.Turn.TheVariants as t;
-ghost use Rattle.loom_strand.specs.Machine.{position, CallsFunction, TakesFewArguments};
+ghost use Rattle.loom_strand.specs.Machine.{position, frames_below, CallsFunction, TakesFewArguments};
 ghost use Rattle.loom_strand.specs.Turn.{Comes, Advances};
 ghost use Rattle.loom_strand.specs.StrandInvariant.{IsSound, HasRoom, IsLeaving};
 
@@ -72,7 +72,7 @@ fn compute(machine: &mut Machine, line: u32, x: Compute) -> Turn
 fn call(machine: &mut Machine, flow: &Flow, i: &Instr, func: u8, n: u8) -> Turn
     requires phase { machine.old.phase ≡ phase.Before }
     requires few { n ≤ 4 }
-    requires frames { machine.old.most_frames ≡ 255 }
+    requires frames { machine.old.most_frames ≡ frames_below }
     requires there { func < length flow.now.entrances }
     ensures { Comes flow.now i.now.place machine.old machine.new result (of_control flow.now machine.old.state i.now.line i.now.place (control.Call func n)) }
 {
@@ -92,7 +92,7 @@ fn call(machine: &mut Machine, flow: &Flow, i: &Instr, func: u8, n: u8) -> Turn
 fn control(machine: &mut Machine, flow: &Flow, i: &Instr, x: Control) -> Turn
     requires phase { machine.old.phase ≡ phase.Before }
     requires before { machine.old.state.at < 18446744073709551615 }
-    requires frames { machine.old.most_frames ≡ 255 }
+    requires frames { machine.old.most_frames ≡ frames_below }
     requires calls { CallsFunction flow.now x }
     ensures { Comes flow.now i.now.place machine.old machine.new result (of_control flow.now machine.old.state i.now.line i.now.place x) }
 {
@@ -134,7 +134,7 @@ fn step(machine: &mut Machine, flow: &Flow, i: &Instr) -> Turn
     requires phase { machine.old.phase ≡ phase.Before }
     requires before { machine.old.state.at < 18446744073709551615 }
     requires room { length machine.old.state.values < machine.old.most_values }
-    requires frames { machine.old.most_frames ≡ 255 }
+    requires frames { machine.old.most_frames ≡ frames_below }
     requires arguments { TakesFewArguments flow.now i.now.step }
     ensures { Comes flow.now i.now.place machine.old machine.new result (of_step flow.now machine.old.state i.now i.now.step) }
 {

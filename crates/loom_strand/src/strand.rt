@@ -72,7 +72,6 @@ impl Model for Strand {
 }
 
 // The line of a function.
-#[tactic(auto, using(crate::proofs::Entrances::entrances_within))]
 fn line_of(flow: &Flow, func: u8) -> u32
     requires { func < length flow.now.program.funcs }
     ensures line { result ≡ line_of_function (slice_get flow.now.program.funcs func) }

@@ -1,6 +1,6 @@
 use Rattle.std.proofs.Common.{Some, None, subst}
 use Rattle.loom_strand.specs.PrivateRun.{Passes}
-use Rattle.loom_strand.proofs.Running.{IsMove, IsFarther, gone_nowhere, moved, farther, tick_place, stops_at_tick, stops_at_request}
+use Rattle.loom_strand.proofs.RunSteps.{IsFarther, gone_nowhere, moved, farther, tick_place, stops_at_tick, stops_at_request}
 use Rattle.loom_strand.proofs.run.run.Goals as goal
 
 pub run-init : goal.run-init

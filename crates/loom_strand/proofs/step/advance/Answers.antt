@@ -1,9 +1,6 @@
-use Rattle.std.proofs.Common.{ℕ, to_z, of_z, w64, rules, ◌≡◌, ◌<◌, ◌∙◌, length, sym, ap, Some, slice_get, slice_index_or, subst}
+use Rattle.std.proofs.Common.{ℕ, to_z, of_z, w64, rules, ◌≡◌, ◌<◌, ◌∙◌, length, sym, ap, Some, slice_get, subst}
 use Rattle.std.proofs.lemmas.Int.{to_z-of_z}
 use Rattle.std.proofs.lemmas.Option.{slice_get-get_or}
-use Rattle.loom_flow.specs.declared.code.Instr.{Instr}
-use Rattle.loom_flow.specs.declared.code.Step.TheVariants as s
-use Rattle.loom_flow.specs.declared.code.Control.TheVariants.{Out}
 use Rattle.loom_lang.specs.Trace.{out}
 use Rattle.loom_flow.specs.Progress.{goes, returns}
 use Rattle.loom_strand.specs.Turn.{Comes}

@@ -1,15 +1,14 @@
 use Rattle.std.proofs.Common.{◌≡◌, ◌∙◌, refl, sym, subst}
 use Rattle.std.specs.Vec.{vec_capacity}
-use Rattle.loom_flow.specs.Code.{IsLowered}
 use Rattle.loom_flow.specs.FlatCode.{lowered}
 use Rattle.loom_event.specs.Answer.{IsAnswer}
 use Rattle.loom_strand.specs.Strand.{Strand}
 use Rattle.loom_strand.specs.StrandInvariant.{IsKept}
 use Rattle.loom_strand.specs.Answer.{answer_of, CanFollow, Follows}
 use Rattle.loom_strand.specs.contracts.strand.Strand.{the_view}
-use Rattle.loom_strand.proofs.Resumed.{flat_is}
-use Rattle.loom_strand.proofs.Answered.{after, with_entries, can_answer, answered_kept, answer_started}
-use Rattle.loom_strand.proofs.Wanted.{kept_part}
+use Rattle.loom_strand.proofs.PrivateRuns.{flat_is}
+use Rattle.loom_strand.proofs.AnswerLaws.{after, with_entries, can_answer, answered_kept, answer_started}
+use Rattle.loom_strand.proofs.RequestLaws.{kept_part}
 use Rattle.loom_strand.proofs.strand.Strand.answer.Goals as goal
 
 pub follow-stage-requires : goal.follow-stage-requires

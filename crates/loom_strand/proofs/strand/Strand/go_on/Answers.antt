@@ -2,7 +2,7 @@ use Rattle.std.proofs.Common.{refl, sym, subst, ◌∙◌, ◌≡◌}
 use Rattle.loom_strand.specs.declared.stage.Stage.TheVariants as stage
 use Rattle.loom_strand.specs.Strand.{Strand}
 use Rattle.loom_strand.specs.contracts.strand.Strand.{the_view}
-use Rattle.loom_strand.proofs.Resumed.{IsFree, nothing_wanted, has_function, free_sound, free_room, free_few, resumed_asks, resumed_ticks, resumed_ends, resumed_begins}
+use Rattle.loom_strand.proofs.PrivateRuns.{IsFree, nothing_wanted, has_function, free_sound, free_room, free_few, resumed_asks, resumed_ticks, resumed_ends, resumed_begins}
 use Rattle.loom_strand.proofs.strand.Strand.go_on.Goals as goal
 
 pub line_of-line-requires : goal.line_of-line-requires

@@ -2,7 +2,7 @@ use Rattle.std.proofs.Common.{◌≡◌, ◌∙◌, None, sym, subst, refl}
 use Rattle.loom_strand.specs.Strand.{Strand, IsStarted, Wants}
 use Rattle.loom_strand.specs.declared.stage.Stage.TheVariants as stage
 use Rattle.loom_strand.specs.contracts.strand.Strand.{the_view}
-use Rattle.loom_strand.proofs.Wanted.{kept_asks, kept_over}
+use Rattle.loom_strand.proofs.RequestLaws.{kept_asks, kept_over}
 use Rattle.loom_strand.proofs.strand.Strand.run_private.Goals as goal
 use Rattle.loom_strand.proofs.strand.Strand.run_private.Goals.{in-Some, in-None}
 

@@ -6,11 +6,8 @@ use Rattle.loom_tree.specs.Tree.{Source}
 use Rattle.loom_lang.specs.Values.{is_zero, applied, divides}
 use Rattle.loom_lang.specs.Trace.{division, index, frames, reason, frame_limit}
 use Rattle.loom_flow.specs.declared.code.Array.{Array}
-use Rattle.loom_flow.specs.declared.code.Compute.{Compute}
 use Rattle.loom_flow.specs.declared.code.Compute.TheVariants.{Move, Negate, Invert, Apply, Discard}
-use Rattle.loom_flow.specs.declared.code.Ask.{Ask}
 use Rattle.loom_flow.specs.declared.code.Ask.TheVariants.{Read, ReadCell, Write, WriteCell, Lock, Unlock, Down, Up, Join, Print, Spawn}
-use Rattle.loom_flow.specs.declared.code.Control.{Control}
 use Rattle.loom_flow.specs.declared.code.Control.TheVariants.{Begin, Done, Edge, Jump, JumpIfZero, Call, Return, Out}
 use Rattle.loom_flow.specs.declared.code.Step.{Step}
 use Rattle.loom_flow.specs.declared.code.Step.TheVariants as s
@@ -20,7 +17,7 @@ use Rattle.loom_flow.specs.Flat.{Flat}
 use Rattle.loom_flow.specs.State.{State, operand, without, given, jumped, arguments, without_arguments}
 use Rattle.loom_flow.specs.Position.{Position, before, leaves, over}
 use Rattle.loom_flow.specs.Question.{read, write}
-use Rattle.loom_flow.specs.Progress.{Progress, goes, asks, traps, on, of_compute, in_array, asks_value, asks_act, of_ask, calls, of_control, of_step, of_instr, progress}
+use Rattle.loom_flow.specs.Progress.{Progress, goes, asks, traps, on, in_array, asks_value, asks_act, calls, of_step, of_instr, progress}
 use Rattle.loom_flow.specs.FlatCode.{lowered}
 use Rattle.loom_flow.specs.Code.{IsLowered}
 use Rattle.loom_flow.specs.Laws.{KeepsDepth, HasProgramNumbers}
@@ -31,7 +28,7 @@ use Rattle.loom_event.specs.Answer.{HasNumbers}
 use Rattle.loom_strand.specs.Question.{request_of}
 use Rattle.loom_strand.specs.Alone.{has_one_thread, NeedsNoOther}
 use Rattle.loom_strand.specs.StrandInvariant.{IsBefore, IsSound}
-use Rattle.loom_strand.proofs.Sound.{depth_at, instr_at}
+use Rattle.loom_strand.proofs.Soundness.{depth_at, instr_at}
 use Rattle.loom_strand.proofs.Lone.{IsLone, lone_code}
 
 -- What is asked for, if anything, is in `P`.

@@ -1,32 +1,29 @@
 -- What a thread keeps behind a private run.
-use Rattle.std.proofs.Common.{ℕ, ◌≡◌, ◌<◌, ◌⊎◌, false, List, [], ◌∷◌, ◌++◌, Option, Some, None, refl, inl, inr, sym, ap, subst, ◌∙◌, slice_get, length, append_assoc}
+use Rattle.std.proofs.Common.{ℕ, ◌≡◌, ◌<◌, ◌⊎◌, false, List, [], ◌∷◌, ◌++◌, Option, Some, None, refl, inl, inr, sym, ap, subst, ◌∙◌, slice_get, length}
 use Rattle.std.specs.Prelude.{is_some}
 use Rattle.std.proofs.lemmas.Option.{slice_get_within}
 use Rattle.loom_tree.specs.Tree.{Source}
-use Rattle.loom_lang.specs.Rules.{KeepsRules}
 use Rattle.loom_flow.specs.Flat.{Flat}
 use Rattle.loom_flow.specs.Position.{Position}
-use Rattle.loom_flow.specs.Progress.{progress}
 use Rattle.loom_flow.specs.FlatCode.{lowered}
 use Rattle.loom_flow.specs.Code.{IsLowered}
 use Rattle.loom_trace.specs.declared.entry.Entry.{Entry}
 use Rattle.loom_trace.specs.declared.request.Request.{Request}
 use Rattle.loom_trace.specs.declared.request.Request.TheVariants as r
 use Rattle.loom_event.specs.Answer.{IsFunctionWith}
-use Rattle.loom_law.specs.Walk.{tick_after, tick, items, Queue}
+use Rattle.loom_law.specs.Walk.{tick, items, Queue}
 use Rattle.loom_strand.specs.declared.stage.Birth.{Birth}
 use Rattle.loom_strand.specs.declared.stage.Stage.{Stage}
 use Rattle.loom_strand.specs.declared.stage.Stage.TheVariants as stage
 use Rattle.loom_strand.specs.declared.turn.Stop.TheVariants as stop
 use Rattle.loom_strand.specs.Machine.{Machine, position}
 use Rattle.loom_strand.specs.Question.{request_at}
-use Rattle.loom_strand.specs.Strand.{Strand, IsStarted}
+use Rattle.loom_strand.specs.Strand.{Strand}
 use Rattle.loom_strand.specs.PlainWalk.{IsPlainWalk}
-use Rattle.loom_strand.specs.StrandInvariant.{IsSound, HasRoom, GoesOnFrom, end_line, thread_with, IsIdle, AsksTick, AsksHere, AsksBegin, IsWaiting, IsRunning, IsAt, IsBlank, IsKept}
+use Rattle.loom_strand.specs.StrandInvariant.{IsSound, HasRoom, GoesOnFrom, end_line, thread_with, IsIdle, AsksTick, AsksHere, IsWaiting, IsRunning, IsAt, IsBlank, IsKept}
 use Rattle.loom_strand.specs.PrivateRun.{HasGone, Stops}
 use Rattle.loom_strand.proofs.Walks.{items_append}
-use Rattle.loom_strand.proofs.GoesOn.{is_lowered}
-use Rattle.loom_strand.proofs.Wanted.{no_request}
+use Rattle.loom_strand.proofs.RequestLaws.{no_request}
 
 -- The flat code is that of the thread's program.
 pub flat_is : (c : Flat) (p : Source) → IsLowered c → c.program ≡ p → c ≡ lowered p

@@ -1,9 +1,7 @@
 -- A private run, one step after another.
-use Rattle.std.proofs.Common.{ℕ, suc, ◌≡◌, ◌==◌, ◌<◌, true, false, Bool, List, [], ◌∷◌, ◌++◌, ℤ, Option, Some, None, slice_get, length, refl, sym, ap, subst, ◌∙◌, append-nil, append_assoc, if◌then◌else◌, arith, rules}
+use Rattle.std.proofs.Common.{ℕ, suc, ◌≡◌, ◌==◌, ◌<◌, true, false, Bool, List, [], ◌∷◌, ◌++◌, Option, Some, None, length, refl, sym, ap, subst, ◌∙◌, append-nil, append_assoc, arith, rules}
 use Rattle.std.specs.Prelude.{option_map}
 use Rattle.std.proofs.lemmas.Option.{slice_get_within}
-use Rattle.loom_tree.specs.Tree.{Source}
-use Rattle.loom_lang.specs.Rules.{KeepsRules}
 use Rattle.loom_lang.specs.Places.{Place, places, place_at, line_of_place, entry, back_edge}
 use Rattle.loom_lang.specs.Trace.{Item, made, begins, done, edge, enter, out, reason}
 use Rattle.loom_flow.specs.Flat.{Flat}
@@ -11,26 +9,23 @@ use Rattle.loom_flow.specs.Position.{Position, before, leaves, over}
 use Rattle.loom_flow.specs.Progress.{Progress, goes, asks, traps, ends, nothing, progress}
 use Rattle.loom_flow.specs.Code.{IsLowered}
 use Rattle.loom_flow.proofs.FlowLaws.{as_many_sites}
-use Rattle.loom_trace.specs.declared.entry.Entry.{Entry}
 use Rattle.loom_trace.specs.declared.request.Request.{Request}
 use Rattle.loom_trace.specs.declared.request.Request.TheVariants as r
 use Rattle.loom_law.specs.Walk.{tick_after, tick, Step, items, Queue, with_tick, place_number}
 use Rattle.loom_law.specs.Walk as walk
 use Rattle.loom_strand.specs.declared.turn.Mark.{Mark}
-use Rattle.loom_strand.specs.declared.turn.Mark.TheVariants as m
-use Rattle.loom_strand.specs.declared.turn.Turn.{Turn}
 use Rattle.loom_strand.specs.declared.turn.Turn.TheVariants as t
 use Rattle.loom_strand.specs.declared.turn.Stop.TheVariants as stop
 use Rattle.loom_strand.specs.Machine.{Machine, position, standing}
 use Rattle.loom_strand.specs.Question.{request_of, request_at}
-use Rattle.loom_strand.specs.Turn.{place_here, place_of_entrance, mark_of, Comes, Advances}
+use Rattle.loom_strand.specs.Turn.{place_here, mark_of, Comes, Advances}
 use Rattle.loom_strand.specs.PlainWalk.{IsPlainWalk}
 use Rattle.loom_strand.specs.StrandInvariant.{IsSound, HasRoom, GoesOnFrom, thread_with}
 use Rattle.loom_strand.specs.PrivateRun.{place_passed, ticks_at, Passes, Carries, WalksOn, HasGone, Stops}
 use Rattle.loom_strand.proofs.Walks.{items_append, walk_begins, walk_done, walk_out, walk_edge, walk_enter, no_tick, one_tick}
 use Rattle.loom_law.proofs.PlaceNumbers.{one_number}
 use Rattle.loom_strand.proofs.GoesOn.{goes_by, goes_past}
-use Rattle.loom_strand.proofs.Sound.{Keeps, keeps}
+use Rattle.loom_strand.proofs.Soundness.{Keeps, keeps}
 use Rattle.loom_strand.proofs.Marks.{HasMarkPlace, mark_place}
 use Rattle.loom_strand.proofs.Falls.{left, passes, falls, falls_passing}
 

@@ -21,18 +21,18 @@ use Rattle.loom_flow.specs.declared.code.Step.TheVariants as s
 use Rattle.loom_flow.specs.declared.code.Instr.{Instr}
 use Rattle.loom_flow.specs.declared.code.Entrance.{Entrance}
 use Rattle.loom_flow.specs.Flat.{Flat, resume}
-use Rattle.loom_flow.specs.State.{Frame, State, operand, values_without, without, values_given, given, forward, jumped, arguments, without_arguments, at_start}
+use Rattle.loom_flow.specs.State.{Frame, State, operand, values_without, without, values_given, given, jumped, arguments, without_arguments, at_start}
 use Rattle.loom_flow.specs.Position.{Position, before, leaves, over}
 use Rattle.loom_flow.specs.Progress.{Progress, goes, asks, traps, ends, nothing, on, of_compute, in_array, asks_value, asks_act, of_ask, calls, returns, of_control, of_step, of_instr, progress}
-use Rattle.loom_flow.specs.Question.{Question, read, write}
+use Rattle.loom_flow.specs.Question.{read, write}
 use Rattle.loom_flow.specs.Code.{IsLowered}
 use Rattle.loom_flow.specs.FlatCode.{instr}
 use Rattle.loom_flow.specs.Depth.{taken, put, depth_before}
 use Rattle.loom_flow.specs.Laws.{IsInFunction, HasInstructionPlaces, HasStart, LeadsInto, JumpsForward, KeepsFunctions, KeepsDepth, HasOperands}
 use Rattle.loom_flow.proofs.Forward.{lowered_forward, lowered_keeps}
 use Rattle.loom_flow.proofs.FlowLaws.{instructions_of, as_many_sites}
-use Rattle.loom_strand.specs.Machine.{Machine, position}
-use Rattle.loom_strand.specs.StrandInvariant.{AllGoOn, HasFrames, IsBefore, IsLeaving, IsSound, HasRoom}
+use Rattle.loom_strand.specs.Machine.{Machine}
+use Rattle.loom_strand.specs.StrandInvariant.{AllGoOn, IsBefore, IsSound, HasRoom}
 use Rattle.loom_strand.proofs.Small.{has_operands}
 
 -- What comes of a step leaves the thread sound, and there is something that comes.

@@ -1,11 +1,11 @@
 -- A thread behind an answer.
-use Rattle.std.proofs.Common.{ℕ, ◌≡◌, ◌<◌, ◌⊎◌, false, true, List, [], ◌∷◌, ◌++◌, ℤ, Option, Some, None, refl, inl, inr, sym, ap, subst, ◌∙◌, slice_get, length, append-nil, arith}
+use Rattle.std.proofs.Common.{ℕ, ◌≡◌, ◌<◌, ◌⊎◌, false, List, [], ◌∷◌, ◌++◌, ℤ, Option, Some, None, refl, inl, inr, sym, ap, subst, ◌∙◌, slice_get, length, append-nil, arith}
 use Rattle.loom_tree.specs.Tree.{Function, Source}
 use Rattle.loom_lang.specs.Rules.{KeepsRules}
 use Rattle.loom_lang.specs.Trace.{Item, Cause, Act, division, index, not_held, not_spawned, threads, frames, overflow, reason, made, enter, begin, end, trap, Finished, IsTrace}
 use Rattle.loom_flow.specs.declared.code.Entrance.{Entrance}
-use Rattle.loom_flow.specs.State.{State, at_start, locals_now}
-use Rattle.loom_flow.specs.Position.{Position, before, leaves, over}
+use Rattle.loom_flow.specs.State.{at_start, locals_now}
+use Rattle.loom_flow.specs.Position.{Position, before, over}
 use Rattle.loom_flow.specs.Question.{Question}
 use Rattle.loom_flow.specs.Progress.{Progress, goes, asks, traps, ends, nothing, progress}
 use Rattle.loom_flow.specs.FlatCode.{lowered}
@@ -14,7 +14,7 @@ use Rattle.loom_trace.specs.declared.entry.Entry.TheVariants as e
 use Rattle.loom_trace.specs.declared.request.Request.{Request}
 use Rattle.loom_trace.specs.declared.request.Request.TheVariants as r
 use Rattle.loom_event.specs.Event.{entry_by}
-use Rattle.loom_event.specs.Answer.{cause_of, trap_at, IsEntryOf, IsAnswerTo, IsAnswer}
+use Rattle.loom_event.specs.Answer.{IsAnswerTo, IsAnswer}
 use Rattle.loom_law.specs.Walk.{tick_after, tick, Step, makes, items, Queue}
 use Rattle.loom_law.specs.Walk as walk
 use Rattle.loom_strand.specs.declared.stage.Birth.{Birth}
@@ -30,13 +30,13 @@ use Rattle.loom_strand.specs.Answer.{answer_of, IsAsking, CanFollow, BeginsAt, F
 use Rattle.loom_strand.specs.Entries.{is_end, has_none, has_ended}
 use Rattle.loom_strand.specs.Strand.{Strand, IsStarted}
 use Rattle.loom_strand.specs.PlainWalk.{IsPlainWalk}
-use Rattle.loom_strand.specs.StrandInvariant.{IsBefore, IsSound, HasRoom, GoesOnFrom, end_line, thread_with, IsIdle, AsksTick, AsksHere, AsksBegin, IsWaiting, IsRunning, HasStopped, IsAt, IsBlank, IsKept}
+use Rattle.loom_strand.specs.StrandInvariant.{IsSound, HasRoom, GoesOnFrom, end_line, thread_with, IsIdle, AsksTick, AsksHere, IsWaiting, IsRunning, HasStopped, IsAt, IsBlank, IsKept}
 use Rattle.loom_strand.proofs.Walks.{items_append, is_begin, walk_begin, walk_enter, walk_act, walk_tick}
 use Rattle.loom_strand.proofs.GoesOn.{is_lowered, tree_trace, whole, traps_on, IsGrant, IsTrap, answers, granted_on, trapped_on, begun_on}
-use Rattle.loom_strand.proofs.Sound.{Keeps, keeps, sound_start, values_fit}
-use Rattle.loom_strand.proofs.Running.{standing_at, standing_room}
+use Rattle.loom_strand.proofs.Soundness.{Keeps, keeps, sound_start, values_fit}
+use Rattle.loom_strand.proofs.RunSteps.{standing_at, standing_room}
 use Rattle.loom_strand.proofs.Entrances.{has_entrance, entrance_within}
-use Rattle.loom_strand.proofs.Wanted.{no_request, only_begin}
+use Rattle.loom_strand.proofs.RequestLaws.{no_request, only_begin}
 
 -- One entry more
 

@@ -1,9 +1,8 @@
 -- What a thread asks for, and that it has ended.
-use Rattle.std.proofs.Common.{ℕ, ◌≡◌, ◌⊎◌, true, false, List, [], ◌∷◌, ◌++◌, ℤ, Option, Some, None, refl, inl, inr, sym, ap, subst, ◌∙◌, slice_get}
+use Rattle.std.proofs.Common.{ℕ, ◌≡◌, ◌⊎◌, true, false, List, [], ◌∷◌, Option, Some, None, refl, inl, inr, sym, ap, subst, ◌∙◌, slice_get}
 use Rattle.loom_tree.specs.Tree.{Function, Source}
 use Rattle.loom_lang.specs.Rules.{KeepsRules}
-use Rattle.loom_lang.specs.Trace.{Open, Finished, Item, made, begin, IsTrace}
-use Rattle.loom_lang.specs.Acts.{Deed}
+use Rattle.loom_lang.specs.Trace.{Open, Finished, made, begin, IsTrace}
 use Rattle.loom_flow.specs.Position.{Position}
 use Rattle.loom_flow.specs.Question.{Question, read, write, lock, unlock, down, up, spawn, join, print}
 use Rattle.loom_flow.specs.Progress.{Progress, goes, asks, traps, ends, nothing, progress}
@@ -12,8 +11,8 @@ use Rattle.loom_trace.specs.declared.entry.Entry.{Entry}
 use Rattle.loom_trace.specs.declared.request.Request.{Request}
 use Rattle.loom_trace.specs.declared.request.Request.TheVariants as r
 use Rattle.loom_event.specs.Answer.{HasNumbers}
-use Rattle.loom_law.specs.Walk.{Plans, tick, items, Queue}
-use Rattle.loom_law.specs.Part.{IsPart, AsksToAct}
+use Rattle.loom_law.specs.Walk.{tick, items}
+use Rattle.loom_law.specs.Part.{IsPart}
 use Rattle.loom_strand.specs.declared.stage.Birth.{Birth}
 use Rattle.loom_strand.specs.declared.stage.Stage.{Stage}
 use Rattle.loom_strand.specs.declared.stage.Stage.TheVariants as stage
@@ -22,12 +21,12 @@ use Rattle.loom_strand.specs.Machine.{position}
 use Rattle.loom_strand.specs.Question.{request_of, request_at}
 use Rattle.loom_strand.specs.Alone.{has_one_thread, NeedsNoOther}
 use Rattle.loom_strand.specs.Entries.{asks_begin, has_none, has_ended}
-use Rattle.loom_strand.specs.Strand.{Strand, IsStarted, own_of, HasOwnPart, AsksNext, Requests, Wants}
+use Rattle.loom_strand.specs.Strand.{Strand, IsStarted, HasOwnPart, AsksNext, Requests, Wants}
 use Rattle.loom_strand.specs.PlainWalk.{IsPlainWalk}
-use Rattle.loom_strand.specs.StrandInvariant.{IsSound, GoesOnFrom, end_line, thread_with, IsIdle, AsksTick, AsksHere, AsksBegin, IsWaiting, IsRunning, HasStopped, IsAt, IsKept}
+use Rattle.loom_strand.specs.StrandInvariant.{end_line, thread_with, IsIdle, AsksTick, AsksHere, AsksBegin, IsWaiting, IsRunning, HasStopped, IsAt, IsKept}
 use Rattle.loom_strand.proofs.GoesOn.{is_lowered, tree_trace, open_so_far, begin_open, none_open}
-use Rattle.loom_strand.proofs.Parts.{own_with, plain_part, whole_part, asks_tick, asks_act, Acts, question_acts, trap_acts, end_acts, question_next}
-use Rattle.loom_strand.proofs.Asking.{Asked, asks_numbers, asks_no_other}
+use Rattle.loom_strand.proofs.Parts.{own_with, plain_part, whole_part, asks_tick, asks_act, question_acts, trap_acts, end_acts, question_next}
+use Rattle.loom_strand.proofs.RequestKinds.{Asked, asks_numbers, asks_no_other}
 
 -- What comes of the position
 

@@ -79,11 +79,12 @@ mod tests {
 
     #[test]
     fn tells_the_words(rt: HostRuntime) -> Result<(), Fail> {
-        let rows: [(&[&[u8]], usize); 5] = [
+        let rows: [(&[&[u8]], usize); 6] = [
             (&[], 0),
             (&[b"loom"], 0),
             (&[b"loom", b"run", b"p1.lm"], 2),
             (&[b"loom", b"run", b"p1.lm", b"--steps", b"3"], 4),
+            (&[b"loom", b"1", b"2", b"3", b"4", b"5", b"6"], 6),
             (&[b"loom", b"run", b"\xff"], 0),
         ];
         for (i, (given, count)) in rows.iter().enumerate() {

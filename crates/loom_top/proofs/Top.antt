@@ -21,7 +21,8 @@ use Rattle.loom_top.specs.declared.status.Status.TheVariants as status
 use Rattle.loom_top.specs.Runnable.{is_runnable}
 use Rattle.loom_top.specs.Code.{code, ended_as}
 use Rattle.loom_top.specs.Command.{Command, IsPlain, IsLimited, IsCommand}
-use Rattle.loom_top.specs.Answers.{CanRun, CanEnd, IsRunOf, Call, FileOwes, CanBe, IsFileOf, Owes, Answers, IsValid, IsMissing, Put, FileEnds, source_limit}
+use Rattle.loom_lang.specs.Limits.{source_limit}
+use Rattle.loom_top.specs.Answers.{CanRun, CanEnd, IsRunOf, Call, FileOwes, CanBe, IsFileOf, Owes, Answers, IsValid, IsMissing, Put, FileEnds}
 
 -- a text, and then a front of another
 pub front_after : (a b c : Option (List ℕ)) (x y : List ℕ) → Appends a b x → TookFront b c y → TookFront a c (x ++ y)

@@ -9,6 +9,7 @@ use Rattle.loom_trace.specs.declared.entry.Entry.{Entry}
 use Rattle.loom_trace.specs.declared.entry.Ending.{Ending}
 use Rattle.loom_trace.specs.declared.entry.Ending.TheVariants as k
 use Rattle.loom_trace.specs.Text.{journal_text}
+use Rattle.loom_lang.specs.Limits.{source_limit}
 use Rattle.loom_lang.specs.Program.{IsProgram}
 use Rattle.loom_event.specs.Entries.{IsFinished}
 use Rattle.loom_law.specs.Lawful.{Setting, IsLawful}
@@ -19,10 +20,6 @@ use Rattle.loom_top.specs.Command.{Command, IsCommand}
 use Rattle.loom_top.specs.Runnable.{is_runnable}
 
 -- Files and programs
-
--- how many bytes a program has at most
-abbrev pub source_limit : ℕ
-source_limit = 65536
 
 -- The bytes are a program, of the forms that can be run so far.
 pub record CanRun (file : List ℕ) (p : Source) : Type 0 where

@@ -6,8 +6,10 @@ ghost use Rattle.loom_io.specs.Sink.{TookFront};
 ghost use Rattle.loom_trace.specs.Text.{journal_text};
 ghost use Rattle.loom_tree.specs.Tree.{Source};
 ghost use Rattle.loom_top.specs.declared.status.Status.{Status};
+ghost use Rattle.loom_lang.specs.Limits.{source_limit};
 ghost use Rattle.loom_top.specs.Code.{code, ended_as};
-ghost use Rattle.loom_top.specs.Answers.{CanRun, IsRunOf, Put, FileEnds, call_of, Answers, IsValid, IsMissing};
+ghost use Rattle.loom_top.specs.Command.{largest_limit};
+ghost use Rattle.loom_top.specs.Answers.{CanEnd, CanRun, IsRunOf, Put, FileEnds, call_of, Answers, IsValid, IsMissing};
 
 use crate::code::{code_of, status_of};
 use crate::command::command_of;
@@ -19,13 +21,11 @@ use loom_flow::lower::lower;
 use loom_io::shelf::{Shelf, ShelfError};
 use loom_io::sink::{Sink, SinkFailed};
 use loom_io::whole::put_all;
+use loom_lang::limits::SOURCE_LIMIT;
 use loom_lang::parse::{LangError, parse_program};
 use loom_trace::entry::Ending;
 use loom_trace::journal::Journal;
 use std::alloc::Global;
-
-/// How many bytes a program has at most.
-const SOURCE_LIMIT: usize = 65_536;
 
 // Writes a text, and answers its status, or that of a fault.
 fn put_text<K: Sink>(sink: &mut K, text: &[u8], owed: Status) -> Status
@@ -62,6 +62,7 @@ fn put_named<K: Sink>(sink: &mut K, before: &[u8], name: &str, owed: Status) -> 
 
 // The same of the text of a run's journal.
 fn put_run<K: Sink>(sink: &mut K, journal: &Journal, ending: Ending) -> Status
+    requires { CanEnd ending }
     ensures later { K.faults sink.old ≤ K.faults sink.new }
     ensures put { Put (K.taken sink.old) (K.taken sink.new) (K.faults sink.old) (K.faults sink.new) (journal_text journal.now.entries) (ended_as ending) result }
 {
@@ -73,9 +74,9 @@ fn put_run<K: Sink>(sink: &mut K, journal: &Journal, ending: Ending) -> Status
 
 // The run of the program that the bytes are, with at most `limit` entries of its thread.
 fn run_of(alloc: Global, file: &[u8], limit: u32) -> Result<(Journal, Ending), LangError>
-    requires small { length file.now ≤ 65536 }
+    requires small { length file.now ≤ source_limit }
     requires least { 1 ≤ limit }
-    requires limit { limit ≤ 1000000 }
+    requires limit { limit ≤ largest_limit }
     ensures ran { IfOk result (λ r. (p : Source) × CanRun file.now p × IsRunOf p limit r.1 r.0.entries) }
     ensures refused { result ≡ Err LangError.Refused → (p : Source) → CanRun file.now p → ⊥ }
 {
@@ -94,9 +95,9 @@ fn run_of(alloc: Global, file: &[u8], limit: u32) -> Result<(Journal, Ending), L
 
 // Runs a program's bytes, and writes what its journal says.
 fn run_file<K: Sink>(alloc: Global, file: &[u8], limit: u32, sink: &mut K) -> Status
-    requires small { length file.now ≤ 65536 }
+    requires small { length file.now ≤ source_limit }
     requires least { 1 ≤ limit }
-    requires limit { limit ≤ 1000000 }
+    requires limit { limit ≤ largest_limit }
     ensures later { K.faults sink.old ≤ K.faults sink.new }
     ensures ends { FileEnds file.now limit (K.taken sink.old) (K.taken sink.new) (K.faults sink.old) (K.faults sink.new) result }
 {

@@ -1,5 +1,6 @@
 //! The statuses of runs, and the numbers of statuses.
 ghost use Rattle.std.specs.Prelude.{◌≡◌};
+ghost use Rattle.loom_top.specs.Answers.{CanEnd};
 ghost use Rattle.loom_top.specs.Code.{code, ended_as};
 
 use crate::status::Status;
@@ -23,10 +24,13 @@ pub fn code_of(status: Status) -> u8
 
 /// The status of a run that ended like this. A run of one thread is neither stuck nor stopped.
 pub fn status_of(ending: Ending) -> Status
+    requires { CanEnd ending }
     ensures { result ≡ ended_as ending }
 {
     match ending {
+        Ending::Done => Status::Done,
         Ending::Limit => Status::Limit,
-        Ending::Done | Ending::Stuck | Ending::Stopped => Status::Done,
+        Ending::Stuck => unreachable!(),
+        Ending::Stopped => unreachable!(),
     }
 }

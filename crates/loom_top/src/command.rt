@@ -1,7 +1,7 @@
 //! The words of a command.
 ghost use Rattle.std.specs.Prelude.{◌≡◌, ◌↔◌, ◌≤◌, List, ℕ, codes, map, IfSome, IfNone, IsTrue};
 ghost use Rattle.loom_tree.specs.Decimal.{decimal};
-ghost use Rattle.loom_top.specs.Command.{Command as Asked, IsCommand, IsFileName};
+ghost use Rattle.loom_top.specs.Command.{largest_limit, Command as Asked, IsCommand, IsFileName};
 
 use loom_trace::line::Line;
 use loom_trace::text::put_printed;
@@ -41,8 +41,8 @@ fn is_decimal(text: &str, number: u32) -> bool
 fn limit_of(text: &str) -> Option<u32>
     ensures written { IfSome result (λ limit. text.now ≡ decimal limit) }
     ensures least { IfSome result (λ limit. 1 ≤ limit) }
-    ensures most { IfSome result (λ limit. limit ≤ 1000000) }
-    ensures none { IfNone result ((limit : ℕ) → 1 ≤ limit → limit ≤ 1000000 → text.now ≡ decimal limit → ⊥) }
+    ensures most { IfSome result (λ limit. limit ≤ largest_limit) }
+    ensures none { IfNone result ((limit : ℕ) → 1 ≤ limit → limit ≤ largest_limit → text.now ≡ decimal limit → ⊥) }
 {
     match text.parse::<u32>() {
         Ok(limit) => {
@@ -59,7 +59,7 @@ fn limit_of(text: &str) -> Option<u32>
 /// What the words ask for.
 pub fn command_of<'a>(words: &[&'a str]) -> Option<Command<'a>>
     ensures found { IfSome result (λ c. IsCommand (map (λ w. w.now) words.now) (record { name = c.name.now; limit = c.limit })) }
-    ensures most { IfSome result (λ c. c.limit ≤ 1000000) }
+    ensures most { IfSome result (λ c. c.limit ≤ largest_limit) }
     ensures least { IfSome result (λ c. 1 ≤ c.limit) }
     ensures none { IfNone result ((c : Asked) → IsCommand (map (λ w. w.now) words.now) c → ⊥) }
 {

@@ -3,11 +3,13 @@ ghost use Rattle.std.specs.Prelude.{◌≡◌, ◌==◌, ◌≤◌, ◌+◌, ◌
 ghost use Rattle.std.specs.Cmp.Lexicographic.{pointwise};
 ghost use Rattle.loom_tree.specs.declared.item.Word as word;
 ghost use Rattle.loom_tree.specs.Tree.{Function, functions_of};
+ghost use Rattle.loom_lang.specs.Limits.{function_limit, cell_limit};
 ghost use Rattle.loom_lang.specs.Rules.{cells_of, cell_count};
 ghost use Rattle.loom_lang.specs.Numbers.{position, function_number};
 ghost use Rattle.loom_event.specs.Answer.{IsFunctionWith};
 ghost use Rattle.loom_event.specs.Replay.{first_values};
 
+use loom_lang::limits::CELL_LIMIT;
 use loom_lang::program::Program;
 use loom_tree::item::Word;
 use loom_tree::name::{Name, NoMemory};
@@ -16,7 +18,7 @@ use std::alloc::Global;
 
 // Appends a word's cells.
 fn put_cells(values: &mut Vec<i64>, word: &Word) -> Result<(), NoMemory>
-    requires few { length values.old.items + cells_of word.now ≤ 1024 }
+    requires few { length values.old.items + cells_of word.now ≤ cell_limit }
     ensures { OnOk result (values.new.items ≡ values.old.items ++ first_values word.now.cells word.now.first) }
 {
     match word.cells {
@@ -28,10 +30,10 @@ fn put_cells(values: &mut Vec<i64>, word: &Word) -> Result<(), NoMemory>
 
 /// The cells of the words, with their values before the run. An `Err` is want of memory.
 pub fn first_words(alloc: Global, words: &[Word]) -> Result<Vec<i64>, NoMemory>
-    requires few { cell_count words.now ≤ 1024 }
+    requires few { cell_count words.now ≤ cell_limit }
     ensures { IfOk result (λ v. v.items ≡ flat_map (λ (x : word.Word). first_values x.cells x.first) words.now) }
 {
-    let mut values = Vec::with_capacity(alloc, 1024)?;
+    let mut values = Vec::with_capacity(alloc, CELL_LIMIT as usize)?;
     'words: for word in words {
         put_cells(&mut values, word)?;
     }
@@ -47,7 +49,7 @@ fn is_main(name: &Name) -> bool
 // Where `main` stands first.
 #[tactic(auto, using(loom_flow::proofs::Lookups::from_zero))]
 fn main_position(funcs: &[Func]) -> Option<u8>
-    requires few { length funcs.now ≤ 64 }
+    requires few { length funcs.now ≤ function_limit }
     ensures { result ≡ position (codes "main") (map (λ (f : Function). f.name) (functions_of funcs.now)) }
 {
     'scan: for (i, f) in funcs.iter().enumerate() {

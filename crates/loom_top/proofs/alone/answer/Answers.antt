@@ -1,7 +1,7 @@
 use Rattle.std.proofs.Common.{◌≤◌, ◌<◌, map, codes, length, refl, ap, arith}
 use Rattle.loom_top.specs.declared.status.Status.TheVariants as status
 use Rattle.loom_top.specs.Command.{Command}
-use Rattle.loom_top.specs.Answers.{source_limit}
+use Rattle.loom_lang.specs.Limits.{source_limit}
 use Rattle.loom_top.proofs.Top.{other_error, answered, file_answered, long_answered}
 use Rattle.loom_top.proofs.alone.answer.Goals as goal
 

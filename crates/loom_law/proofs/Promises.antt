@@ -1,14 +1,15 @@
 -- Each lawful journal keeps its promises.
-use Rattle.std.proofs.Common.{◌≡◌, List, [], ◌∷◌, ◌++◌, refl, sym, ap, subst, ◌∙◌}
+use Rattle.std.proofs.Common.{◌≡◌, ℕ, Some, List, [], ◌∷◌, ◌++◌, refl, sym, ap, subst, ◌∙◌, append-nil}
 use Rattle.loom_trace.specs.declared.entry.Entry.{Entry}
 use Rattle.loom_trace.specs.declared.entry.Entry.TheVariants as e
-use Rattle.loom_law.specs.Control.{Command, Control, first_control, after_entry, controlled, control}
-use Rattle.loom_law.specs.Lawful.{Setting, Front, front_at, MayFollow, IsLawful}
-use Rattle.loom_law.specs.Promises.{FollowsOrders, InstallsOutside, HasOneHolder, ChangesNothing, AlwaysPromises}
+use Rattle.loom_event.specs.Entries.{thread_of}
+use Rattle.loom_law.specs.Control.{Command, Control, first_control, after_entry, controlled, control, listing, listed_from, listed}
+use Rattle.loom_law.specs.Lawful.{Setting, Front, front_at, IsHeldOff, Permits, MayFollowBy, MayFollow, IsLawful}
+use Rattle.loom_law.specs.Promises.{FollowsOrders, InstallsOutside, HasOneHolder, StaysAsItWas, ChangesNothing, AlwaysPromises}
 use Rattle.loom_law.proofs.Balance.{IsSound, first_sound, sound_along}
 use Rattle.loom_law.proofs.Obedience.{are_said}
 use Rattle.loom_law.proofs.Enough.{strict}
-use Rattle.loom_law.proofs.Lawful.{always_balanced, always_obeyed}
+use Rattle.loom_law.proofs.Lawful.{always_balanced, always_obeyed, exclusion}
 
 orders : (s : Setting) (f : Front) (x : Entry) (rest : List Entry) → MayFollow s f x rest → FollowsOrders s f x
 orders s f (e.At t l k ns) rest h = h.1
@@ -17,19 +18,45 @@ orders s f _ rest h = tt
 outside : (s : Setting) (f : Front) (x : Entry) (rest : List Entry) → MayFollow s f x rest → InstallsOutside s f x
 outside s f (e.Installed k v row) rest h =
     let m = h.1 in
-    record { command = m.command; is = m.is; plan = m.plan; installs = m.installs; place = m.lists.place; outside = m.outside }
+    record { command = m.command; is = m.is; plan = m.plan; installs = m.installs; lists = m.lists; outside = m.outside }
 outside s f _ rest h = tt
 
 controlled_last : (cs : List Command) (c : Control) (xs : List Entry) (y : Entry) → controlled cs c (xs ++ y ∷ []) ≡ after_entry cs (controlled cs c xs) y
 controlled_last cs c [] y = refl
 controlled_last cs c (x ∷ xs) y = controlled_last cs (after_entry cs c x) xs y
 
+listed_last : (t : ℕ) (so_far : List ℕ) (xs : List Entry) (y : Entry) → listed_from t so_far (xs ++ y ∷ []) ≡ listing t (listed_from t so_far xs) y
+listed_last t so_far [] y = refl
+listed_last t so_far (x ∷ xs) y = listed_last t (listing t so_far x) xs y
+
+-- an entry behind which the version and the holders are as before, and that lists nothing
+stays : (s : Setting) (f : Front) (x : Entry) → f.control ≡ control s.commands f.entries
+    → (after_entry s.commands (control s.commands f.entries) x).version ≡ (control s.commands f.entries).version
+    → (after_entry s.commands (control s.commands f.entries) x).holders ≡ (control s.commands f.entries).holders
+    → ((t : ℕ) (so_far : List ℕ) → listing t so_far x ≡ so_far) → StaysAsItWas s f x
+stays s f x is version holders lists =
+    let last = controlled_last s.commands first_control f.entries x in (
+      ap (λ (d : Control). d.version) last ∙ version ∙ ap (λ (d : Control). d.version) (sym is),
+      (ap (λ (d : Control). d.holders) last ∙ holders ∙ ap (λ (d : Control). d.holders) (sym is), λ t. listed_last t [] f.entries x ∙ lists t (listed t f.entries)),
+    )
+
 unchanged : (s : Setting) (f : Front) (x : Entry) → f.control ≡ control s.commands f.entries → ChangesNothing s f x
-unchanged s f (e.Refused k n c) is = ap (λ (d : Control). d.version) (controlled_last s.commands first_control f.entries (e.Refused k n c)) ∙ ap (λ (d : Control). d.version) (sym is)
-unchanged s f (e.Stalled k t l) is = ap (λ (d : Control). d.version) (controlled_last s.commands first_control f.entries (e.Stalled k t l)) ∙ ap (λ (d : Control). d.version) (sym is)
-unchanged s f (e.Cut k) is = ap (λ (d : Control). d.version) (controlled_last s.commands first_control f.entries (e.Cut k)) ∙ ap (λ (d : Control). d.version) (sym is)
-unchanged s f (e.Unreached k) is = ap (λ (d : Control). d.version) (controlled_last s.commands first_control f.entries (e.Unreached k)) ∙ ap (λ (d : Control). d.version) (sym is)
+unchanged s f (e.Refused k n c) is = stays s f (e.Refused k n c) is refl refl (λ t so_far. refl)
+unchanged s f (e.Stalled k t l) is = stays s f (e.Stalled k t l) is refl refl (λ u so_far. refl)
+unchanged s f (e.Cut k) is = stays s f (e.Cut k) is refl refl (λ t so_far. refl)
+unchanged s f (e.Unreached k) is = stays s f (e.Unreached k) is refl refl (λ t so_far. refl)
 unchanged s f _ is = tt
+
+permitted : (s : Setting) (f : Front) (x : Entry) (rest : List Entry) → MayFollow s f x rest → Permits s f x
+permitted s f (e.Cross t l x v n) rest h = h.1
+permitted s f (e.Blocked t l what) rest h = h.1
+permitted s f (e.Enter t l k c) rest h = h.1
+permitted s f (e.Wait t l k n) rest h = h.1
+permitted s f (e.At t l k ns) rest h = h.1
+permitted s f _ rest h = tt
+
+not_held_off : (s : Setting) (f : Front) (x : Entry) (rest : List Entry) → MayFollow s f x rest → (t : ℕ) → thread_of x ≡ Some t → IsHeldOff s f t → ⊥
+not_held_off s f x rest h t by held = (subst (λ o. MayFollowBy s f x rest o) by h).0.not_held_off held
 
 one_holder : (s : Setting) (front rest : List Entry) → IsLawful s (front ++ rest) → HasOneHolder (control s.commands front)
 one_holder s front rest h =
@@ -45,8 +72,12 @@ always_promises s es h = record {
       record {
         obeyed = record { orders = orders s f x rest follows; regions = always_obeyed s es h front x rest is };
         outside = outside s f x rest follows;
+        permitted = permitted s f x rest follows;
         balanced = always_balanced s es h front x rest is;
         one_holder = one_holder s front (x ∷ rest) (subst (λ z. IsLawful s z) is h);
+        not_held_off = not_held_off s f x rest follows;
         unchanged = unchanged s f x refl;
       };
+  last_holders = one_holder s es [] (subst (λ z. IsLawful s z) (sym (append-nil es)) h);
+  last_inside = λ k c t u x y. exclusion s es [] (subst (λ z. IsLawful s z) (sym (append-nil es)) h) k c t u x y;
 }

@@ -1,5 +1,5 @@
 -- From the bytes of a script to commands: what each filter's text is in the program.
-use Rattle.std.specs.Prelude.{ℕ, ◌≡◌, ◌⊎◌, List, [], ◌∷◌}
+use Rattle.std.specs.Prelude.{ℕ, ◌≡◌, ◌==◌, ◌⊎◌, List, [], ◌∷◌, if◌then◌else◌}
 use Rattle.loom_tree.specs.Tree.{Source}
 use Rattle.loom_command.specs.Filter.{Filter}
 use Rattle.loom_command.specs.FilterFault.{Fault, IsBefore, IsRefusedText, IsFilter}
@@ -52,8 +52,16 @@ AreCommandsOf p file [] cs = cs ≡ []
 AreCommandsOf p file (s ∷ ss) [] = ⊥
 AreCommandsOf p file (s ∷ ss) (c ∷ cs) = IsCommandOf p file s c × AreCommandsOf p file ss cs
 
--- The bytes are a script of these commands, for a program in the file of this name.
-pub record IsCommandList (p : Source) (file bytes : List ℕ) (cs : List Command) : Type 0 where
+-- The name of a file, of the word that names it: what stands behind the last `/` (byte 47), or the whole word where there is none.
+abbrev pub behind_last_slash : List ℕ → List ℕ → List ℕ
+behind_last_slash so_far [] = so_far
+behind_last_slash so_far (b ∷ bs) = if b == 47 then behind_last_slash bs bs else behind_last_slash so_far bs
+
+abbrev pub file_name : List ℕ → List ℕ
+file_name word = behind_last_slash word word
+
+-- The bytes are a script of these commands, for a program in the file that the word names.
+pub record IsCommandList (p : Source) (word bytes : List ℕ) (cs : List Command) : Type 0 where
   pub script : List ScriptCommand
   pub is : IsScript bytes script
-  pub are : AreCommandsOf p file script cs
+  pub are : AreCommandsOf p (file_name word) script cs

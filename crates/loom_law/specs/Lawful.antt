@@ -158,7 +158,7 @@ IsFlaggedBy p (Some x) y = by_action x.action
 abbrev pub IsFlagged : Setting → ℕ → Place → Type 0
 IsFlagged s k y = IsFlaggedBy s.program (command_at s.commands k) y
 
--- so many entries of threads stand, or the program is stalled
+-- at least so many entries of threads stand, or the program is stalled
 abbrev pub IsTriggered : Setting → Front → Trigger → Type 0
 IsTriggered s f (at n) = n ≤ thread_entries f.entries
 IsTriggered s f stall = IsStalled s f

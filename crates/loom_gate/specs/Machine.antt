@@ -75,10 +75,10 @@ AllStood n k = (t : ℕ) → IsThread n t → (place : ℕ) × (slice_index_or k
 abbrev pub NobodyInside : ℕ → Machine → Type 0
 NobodyInside n m = (t : ℕ) → IsThread n t → (place : ℕ) × (((m.passes t).stage ≡ Stands place) ⊎ ((m.passes t).stage ≡ Tries place))
 
--- at some lawful moment the pass of thread t knew p, and F held of the machine
+-- there is a lawful machine in which the pass of thread t knows p, and F holds of it
 abbrev pub Amid : ℕ → PassView → (Machine → Type 0) → Type 0
 Amid t p F = (n : ℕ) × (m : Machine) × Lawful n m × IsThread n t × (m.passes t ≡ p) × F m
 
--- at some lawful moment the key knew k, and F held of the machine
+-- there is a lawful machine in which the key knows k, and F holds of it
 abbrev pub AmidKey : KeyView → (ℕ → Machine → Type 0) → Type 0
 AmidKey k F = (n : ℕ) × (m : Machine) × Lawful n m × (m.key ≡ k) × F n m

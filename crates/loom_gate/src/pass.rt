@@ -1,9 +1,9 @@
 //! The pass of one thread.
 ghost use Rattle.std.specs.Prelude.{◌≡◌, ◌+◌, ◌<◌, ◌≤◌, ◌/◌, length, vec_capacity};
-ghost use Rattle.loom_gate.specs.View.{tried, with_row};
+ghost use Rattle.loom_gate.specs.View.{with_row};
 ghost use Rattle.loom_gate.specs.Machine.{Amid};
 ghost use Rattle.loom_gate.specs.Seats.{threads_of, places_of, flag_index, view_of_pass, IsPassOf, IsStanding, IsInside, IsInsideAt, FoundBit};
-ghost use Rattle.loom_gate.specs.Calls.{HasEntered, ClearAt, ReadsVersion, rows_after};
+ghost use Rattle.loom_gate.specs.Calls.{HasEntered, rows_after};
 
 use crate::gate::Gate;
 use crate::log::PassRow;
@@ -16,7 +16,7 @@ use atomic_table::Seat;
 pub enum Entered {
     /// The pass is inside, with this version.
     Inside(u32),
-    /// The pass stands as before: the flag of its place was up.
+    /// The pass stands as before, at this place: its own load found the place's flag up.
     Flagged(u16),
 }
 
@@ -42,7 +42,8 @@ fn index_of(gate: &Gate, place: u16) -> usize
 }
 
 impl Pass {
-    /// Enters, from the place where the pass stands.
+    /// Enters, from the place where the pass stands. It is inside exactly where its own load found the
+    /// flag of that place down.
     pub fn enter(&mut self, gate: &Gate) -> Entered
         requires gate { IsPassOf gate.now self.old }
         requires stands { IsStanding self.old }
@@ -50,8 +51,6 @@ impl Pass {
         ensures same { (self.new.thread ≡ self.old.thread) × (self.new.place ≡ self.old.place) }
         ensures answer { HasEntered (flag_index gate.now self.old.place) self.old.place result self.new }
         ensures once { (view_of_pass self.new).checks ≡ (view_of_pass self.old).checks + 1 }
-        ensures clear { ClearAt self.old.thread (tried (view_of_pass self.old)) self.old.place result }
-        ensures version { ReadsVersion self.old.thread result }
         ensures rows { self.new.rows.items ≡ rows_after self.old.thread self.old.place result self.old.rows.items }
     {
         let shared = &gate.table.shared;
@@ -86,7 +85,7 @@ impl Pass {
         }
     }
 
-    /// Whether the flag of a place is up.
+    /// Whether the flag of a place was up when this call loaded it. The pass is inside.
     pub fn poll(&mut self, gate: &Gate, place: u16) -> bool
         requires gate { IsPassOf gate.now self.old }
         requires inside { IsInside self.old }

@@ -35,8 +35,8 @@ checked_clear i word place q at on = ap (λ (s : Stage). if has_bit word (place_
 -- inside, the version stays the one that was read
 pub same_version : (t v : ℕ) (p : PassView) → p.stage ≡ Inside v → Amid t p (λ a. Unit {0}) → Amid t p (λ a. a.key.version ≡ v)
 same_version t v p at a =
-    let h : StageFits a.1.key.version p.tries p.fresh p.stage = subst (λ (x : PassView). StageFits a.1.key.version x.tries x.fresh x.stage) a.4 (a.2.stages t a.3) in
-    let f : StageFits a.1.key.version p.tries p.fresh (Inside v) = subst (λ (s : Stage). StageFits a.1.key.version p.tries p.fresh s) at h in
+    let h : StageFits a.1.key.places a.1.key.version p.tries p.fresh p.stage = subst (λ (x : PassView). StageFits a.1.key.places a.1.key.version x.tries x.fresh x.stage) a.4 (a.2.stages t a.3) in
+    let f : StageFits a.1.key.places a.1.key.version p.tries p.fresh (Inside v) = subst (λ (s : Stage). StageFits a.1.key.places a.1.key.version p.tries p.fresh s) at h in
     (a.0, a.1, a.2, a.3, a.4, sym f.0)
 
 -- the rows of a pass that read this version

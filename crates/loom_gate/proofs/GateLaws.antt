@@ -13,7 +13,7 @@ use Rattle.loom_gate.proofs.CallFacts.{checked_set}
 
 pub inside_has_version : InsideHasVersion
 inside_has_version n t v m l is at =
-    let f : StageFits m.key.version (m.passes t).tries (m.passes t).fresh (Inside v) = subst (λ (s : Stage). StageFits m.key.version (m.passes t).tries (m.passes t).fresh s) at (l.stages t is) in
+    let f : StageFits m.key.places m.key.version (m.passes t).tries (m.passes t).fresh (Inside v) = subst (λ (s : Stage). StageFits m.key.places m.key.version (m.passes t).tries (m.passes t).fresh s) at (l.stages t is) in
     sym f.0
 
 pub found_is_at : FoundIsAt

@@ -78,11 +78,11 @@ abbrev pub Tells : ℕ → ℕ → PassView → PassView → Type 0
 Tells t version p q = (w : ℕ) → w ≤ version → place_from t w (place_of q.stage) q.rows ≡ place_from t w (place_of p.stage) p.rows
 
 -- one pass says q, where it said p
-pub pass_lawful : (n : ℕ) (m : Machine) (t : ℕ) (q : PassView) → Lawful n m → StageFits m.key.version q.tries q.fresh q.stage → LookFits m.key.up (get_or m.key.looks t Unknown) q → LatestFits n m.key.ever q.latest
+pub pass_lawful : (n : ℕ) (m : Machine) (t : ℕ) (q : PassView) → Lawful n m → StageFits m.key.places m.key.version q.tries q.fresh q.stage → LookFits m.key.up (get_or m.key.looks t Unknown) q → LatestFits n m.key.ever q.latest
     → RowsFit t m.key.version q → Tells t m.key.version (m.passes t) q
     → Lawful n record { passes = upd m.passes t q; key = m.key }
 pass_lawful n m t q l a b c r same = record {
-  stages = λ j h. upd_all (λ (j : ℕ) (p : PassView). IsThread n j → StageFits m.key.version p.tries p.fresh p.stage) m.passes t q (λ _. a) (λ j _ h. l.stages j h) j h;
+  stages = λ j h. upd_all (λ (j : ℕ) (p : PassView). IsThread n j → StageFits m.key.places m.key.version p.tries p.fresh p.stage) m.passes t q (λ _. a) (λ j _ h. l.stages j h) j h;
   looks = λ j h. upd_all (λ (j : ℕ) (p : PassView). IsThread n j → LookFits m.key.up (get_or m.key.looks j Unknown) p) m.passes t q (λ _. b) (λ j _ h. l.looks j h) j h;
   latest = λ j h. upd_all (λ (j : ℕ) (p : PassView). IsThread n j → LatestFits n m.key.ever p.latest) m.passes t q (λ _. c) (λ j _ h. l.latest j h) j h;
   raised = l.raised;
@@ -101,6 +101,7 @@ pass_lawful n m t q l a b c r same = record {
   threads = l.threads;
   wide = l.wide;
   most = l.most;
+  small = l.small;
 }
 
 -- kind 1
@@ -108,7 +109,7 @@ pub tries_lawful : (n : ℕ) (m : Machine) (t place : ℕ) → IsThread n t → 
     → Lawful n record { passes = upd m.passes t (record (m.passes t) { stage = Tries place; tries = (m.passes t).tries + 1 }); key = m.key }
 tries_lawful n m t place is at l =
     let p : PassView = m.passes t in
-    let fits : StageFits m.key.version p.tries p.fresh (Stands place) = subst (λ (s : Stage). StageFits m.key.version p.tries p.fresh s) at (l.stages t is) in
+    let fits : StageFits m.key.places m.key.version p.tries p.fresh (Stands place) = subst (λ (s : Stage). StageFits m.key.places m.key.version p.tries p.fresh s) at (l.stages t is) in
     let rows = l.rows t is in
     pass_lawful n m t (record p { stage = Tries place; tries = p.tries + 1 }) l (fits, omega arith)
     (look_stays m.key.up (get_or m.key.looks t Unknown) p (record p { stage = Tries place; tries = p.tries + 1 }) (omega arith)
@@ -125,7 +126,7 @@ flagged_lawful n m t place is at i word on l =
     let p : PassView = m.passes t in
     let q : PassView = record p { stage = Tries place; checks = p.checks + 1; latest = Some (i, word) } in
     let rows = l.rows t is in
-    pass_lawful n m t q l (subst (λ (s : Stage). StageFits m.key.version p.tries p.fresh s) at (l.stages t is))
+    pass_lawful n m t q l (subst (λ (s : Stage). StageFits m.key.places m.key.version p.tries p.fresh s) at (l.stages t is))
     (look_stays m.key.up (get_or m.key.looks t Unknown) p q (omega arith) (λ x on h. ⊎_elim (λ (e : p.stage ≡ Stands x). inl (sym at ∙ e)) (λ (e : p.stage ≡ Tries x). inr (sym at ∙ e)) h) (l.looks t is))
     on
     record { count = rows.count; fresh = rows.fresh; below = rows.below; newest = rows.newest }
@@ -138,7 +139,7 @@ clear_lawful n m t place is at off i word on l =
     let p : PassView = m.passes t in
     let q : PassView = record p { stage = Clear place; checks = p.checks + 1; latest = Some (i, word) } in
     let rows = l.rows t is in
-    pass_lawful n m t q l (subst (λ (s : Stage). StageFits m.key.version p.tries p.fresh s) at (l.stages t is))
+    pass_lawful n m t q l (subst (λ (s : Stage). StageFits m.key.places m.key.version p.tries p.fresh s) at (l.stages t is))
     (look_stays m.key.up (get_or m.key.looks t Unknown) p q (omega arith)
     (λ x on h. ⊎_elim (λ (e : p.stage ≡ Stands x). absurd (stands_tries x place (sym e ∙ at))) (λ (e : p.stage ≡ Tries x). absurd (off (subst (λ (y : ℕ). has_place m.key.up y ≡ true) (tries_same x place (sym e ∙ at)) on))) h)
     (l.looks t is))
@@ -199,7 +200,7 @@ pub reads_lawful : (n : ℕ) (m : Machine) (t place : ℕ) → IsThread n t → 
 reads_lawful n m t place is at l =
     let p : PassView = m.passes t in
     let q : PassView = in_rows t m.key.version place p in
-    let fits : StageFits m.key.version p.tries p.fresh (Clear place) = subst (λ (s : Stage). StageFits m.key.version p.tries p.fresh s) at (l.stages t is) in
+    let fits : StageFits m.key.places m.key.version p.tries p.fresh (Clear place) = subst (λ (s : Stage). StageFits m.key.places m.key.version p.tries p.fresh s) at (l.stages t is) in
     pass_lawful n m t q l (refl, fits.1, refl)
     (look_stays m.key.up (get_or m.key.looks t Unknown) p q (omega arith) (λ x on h. absurd (clear_not_found p.stage 0 x (inr (place, at)) h)) (l.looks t is))
     (l.latest t is)
@@ -207,7 +208,7 @@ reads_lawful n m t place is at l =
     (λ w low. rows_tell t m.key.version place p (l.rows t is) w 0 low ∙ ap (λ (s : Stage). place_from t w (place_of s) p.rows) (sym at))
 
 -- kind 4: from the place that was tried, or from inside
-pub leaves_lawful : (n : ℕ) (m : Machine) (t place : ℕ) → IsThread n t → place < mark → ((m.passes t).stage ≡ Tries place) ⊎ ((v : ℕ) × ((m.passes t).stage ≡ Inside v)) → Lawful n m
+pub leaves_lawful : (n : ℕ) (m : Machine) (t place : ℕ) → IsThread n t → place < m.key.places → ((m.passes t).stage ≡ Tries place) ⊎ ((v : ℕ) × ((m.passes t).stage ≡ Inside v)) → Lawful n m
     → Lawful n record { passes = upd m.passes t (record (m.passes t) { stage = Stands place }); key = m.key }
 leaves_lawful n m t place is low from l =
     let p : PassView = m.passes t in
@@ -225,7 +226,7 @@ leaves_lawful n m t place is low from l =
     (λ w early. ⊎_elim
     (λ (at : p.stage ≡ Tries place). ap (λ (s : Stage). place_from t w (place_of s) p.rows) (sym at))
     (λ (at : (v : ℕ) × (p.stage ≡ Inside v)).
-    let f : StageFits m.key.version p.tries p.fresh (Inside at.0) = subst (λ (s : Stage). StageFits m.key.version p.tries p.fresh s) at.1 (l.stages t is) in
+    let f : StageFits m.key.places m.key.version p.tries p.fresh (Inside at.0) = subst (λ (s : Stage). StageFits m.key.places m.key.version p.tries p.fresh s) at.1 (l.stages t is) in
     let f0 = f.0 in
     from_some t w at.0 place (place_of p.stage) p.rows (threads_of t p.fresh p.rows rows.below) (rows.newest at.0 f.2) (omega arith))
     from)
@@ -252,15 +253,16 @@ flags_lawful n m up ever on more l = record {
   threads = l.threads;
   wide = length-replicate (length m.key.looks) Unknown ∙ l.wide;
   most = l.most;
+  small = l.small;
 }
 
-look_fits : (up : List ℕ) (version : ℕ) (p : PassView) (st : Stage) → p.stage ≡ st → StageFits version p.tries p.fresh st → LookFits up (look_of (stand_word st)) p
-look_fits up version p (Stands q) e h =
+look_fits : (up : List ℕ) (places version : ℕ) → places ≤ mark → (p : PassView) (st : Stage) → p.stage ≡ st → StageFits places version p.tries p.fresh st → LookFits up (look_of (stand_word st)) p
+look_fits up places version small p (Stands q) e h =
     let low : q ≢ mark = λ x. omega arith in
     subst (λ (b : Bool). LookFits up (if b then SawInside else SawPlace q) p) (sym (ne_eqb q mark low)) (λ _. inl e)
-look_fits up version p (Tries q) e h = h.1
-look_fits up version p (Clear q) e h = h.1
-look_fits up version p (Inside q) e h = h.1
+look_fits up places version small p (Tries q) e h = h.1
+look_fits up places version small p (Clear q) e h = h.1
+look_fits up places version small p (Inside q) e h = h.1
 
 -- kind 6
 pub looks_lawful : (n : ℕ) (m : Machine) (t : ℕ) → IsThread n t → Lawful n m
@@ -273,7 +275,7 @@ looks_lawful n m t is l =
       looks = λ j h. dite (ℕ_discrete j t)
           (λ e. subst (λ (x : ℕ). LookFits m.key.up (get_or (set m.key.looks t new) x Unknown) (m.passes x)) (sym e)
           (subst (λ (x : Look). LookFits m.key.up x (m.passes t)) (sym (get_or-set_same m.key.looks t new Unknown (omega arith)))
-          (look_fits m.key.up m.key.version (m.passes t) (m.passes t).stage refl (l.stages t is))))
+          (look_fits m.key.up m.key.places m.key.version l.small (m.passes t) (m.passes t).stage refl (l.stages t is))))
           (λ other. subst (λ (x : Look). LookFits m.key.up x (m.passes j)) (sym (get_or-set_other m.key.looks t j new Unknown other)) (l.looks j h));
       latest = l.latest;
       raised = l.raised;
@@ -282,13 +284,14 @@ looks_lawful n m t is l =
       threads = l.threads;
       wide = length-set m.key.looks t new ∙ l.wide;
       most = l.most;
+      small = l.small;
     }
 
-outside : (version tries fresh : ℕ) (st : Stage) (place : ℕ) → (st ≡ Stands place) ⊎ (st ≡ Tries place) → StageFits version tries fresh st → StageFits (version + 1) tries fresh st
-outside version tries fresh (Stands p) place e h = h
-outside version tries fresh (Tries p) place e h = h
-outside version tries fresh (Clear p) place e h = h
-outside version tries fresh (Inside v) place e h = absurd (clear_not_found (Inside v) v place (inl refl) e)
+outside : (places version tries fresh : ℕ) (st : Stage) (place : ℕ) → (st ≡ Stands place) ⊎ (st ≡ Tries place) → StageFits places version tries fresh st → StageFits places (version + 1) tries fresh st
+outside places version tries fresh (Stands p) place e h = h
+outside places version tries fresh (Tries p) place e h = h
+outside places version tries fresh (Clear p) place e h = h
+outside places version tries fresh (Inside v) place e h = absurd (clear_not_found (Inside v) v place (inl refl) e)
 
 -- a pass found at a raised place stands there, or tries from there
 pub found_there : (n : ℕ) (m : Machine) (t place : ℕ) → IsThread n t → get_or m.key.looks t Unknown ≡ SawPlace place → has_place m.key.up place ≡ true → Lawful n m → ((m.passes t).stage ≡ Stands place) ⊎ ((m.passes t).stage ≡ Tries place)
@@ -331,7 +334,7 @@ switches_lawful n m all low l =
     let threads = l.threads in
     let m' : Machine = record { passes = m.passes; key = record m.key { version = m.key.version + 1; switches = m.key.switches ++ switch_rows (m.key.version + 1) m.key.looks m.key.threads } } in
     record {
-      stages = λ t is. let a = nobody_inside n m all l t is in outside m.key.version (m.passes t).tries (m.passes t).fresh (m.passes t).stage a.0 a.1 (l.stages t is);
+      stages = λ t is. let a = nobody_inside n m all l t is in outside m.key.places m.key.version (m.passes t).tries (m.passes t).fresh (m.passes t).stage a.0 a.1 (l.stages t is);
       looks = l.looks;
       latest = l.latest;
       raised = l.raised;
@@ -342,10 +345,12 @@ switches_lawful n m all low l =
       threads = l.threads;
       wide = l.wide;
       most = omega arith;
+      small = l.small;
     }
 
-pub word_low : (version tries fresh : ℕ) (st : Stage) → StageFits version tries fresh st → stand_word st ≤ mark
-word_low version tries fresh (Stands p) h = omega arith
-word_low version tries fresh (Tries p) h = omega arith
-word_low version tries fresh (Clear p) h = omega arith
-word_low version tries fresh (Inside v) h = omega arith
+-- a thread's word is the mark, or a place of the gate
+pub word_low : (places version tries fresh : ℕ) (st : Stage) → places ≤ mark → StageFits places version tries fresh st → (stand_word st ≤ mark) × (stand_word st < mark → stand_word st < places)
+word_low places version tries fresh (Stands p) small h = (omega arith, λ _. h)
+word_low places version tries fresh (Tries p) small h = (omega arith, λ low. absurd (omega arith))
+word_low places version tries fresh (Clear p) small h = (omega arith, λ low. absurd (omega arith))
+word_low places version tries fresh (Inside v) small h = (omega arith, λ low. absurd (omega arith))

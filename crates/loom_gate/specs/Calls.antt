@@ -1,5 +1,5 @@
 -- What the calls of a pass and of the key answer.
-use Rattle.std.specs.Prelude.{◌≡◌, ℕ, true, false, if◌then◌else◌, List, [], ◌∷◌, ◌++◌}
+use Rattle.std.specs.Prelude.{◌≡◌, ℕ, ◌<◌, true, false, if◌then◌else◌, List, [], ◌∷◌, ◌++◌}
 use Rattle.loom_gate.specs.declared.log.PassRow.{PassRow}
 use Rattle.loom_gate.specs.declared.pass.Pass as pass
 use Rattle.loom_gate.specs.declared.pass.Entered as answer
@@ -20,6 +20,11 @@ HasEntered i place (answers.Flagged q) p = (q ≡ place) × IsStanding p × Foun
 abbrev pub rows_after : ℕ → ℕ → answer.Entered → List PassRow → List PassRow
 rows_after t place (answers.Inside v) rows = if has_version v rows then rows else rows ++ record { thread = t; version = v; place = place } ∷ []
 rows_after t place (answers.Flagged q) rows = rows
+
+-- the place found is one of so many
+abbrev pub IsPlaceBelow : ℕ → look.Looked → Type 0
+IsPlaceBelow places looks.Inside = Unit {0}
+IsPlaceBelow places (looks.Stands p) = p < places
 
 -- what the look answered
 abbrev pub look_told : look.Looked → Look

@@ -21,12 +21,12 @@ pub record Machine : Type 0 where
   pub passes : ℕ → PassView
   pub key : KeyView
 
--- a pass inside has the version; a pass that doesn't stand has tried
-abbrev pub StageFits : ℕ → ℕ → ℕ → Stage → Type 0
-StageFits version tries fresh (Stands p) = p < mark
-StageFits version tries fresh (Tries p) = (p < mark) × (0 < tries)
-StageFits version tries fresh (Clear p) = (p < mark) × (0 < tries)
-StageFits version tries fresh (Inside v) = (v ≡ version) × (0 < tries) × (fresh ≡ v + 1)
+-- a place is one of the gate's; a pass inside has the version; a pass that doesn't stand has tried
+abbrev pub StageFits : ℕ → ℕ → ℕ → ℕ → Stage → Type 0
+StageFits places version tries fresh (Stands p) = p < places
+StageFits places version tries fresh (Tries p) = (p < places) × (0 < tries)
+StageFits places version tries fresh (Clear p) = (p < places) × (0 < tries)
+StageFits places version tries fresh (Inside v) = (v ≡ version) × (0 < tries) × (fresh ≡ v + 1)
 
 -- a pass found at a raised place stands there, or has tried from there and has no clear check; a pass found inside has tried
 abbrev pub LookFits : List ℕ → Look → PassView → Type 0
@@ -57,7 +57,7 @@ SwitchFits n m w = IsThread n w.thread × (w.version ≤ m.key.version) × (plac
 
 -- what is so at every moment, in a gate of n threads
 pub record Lawful (n : ℕ) (m : Machine) : Type 0 where
-  pub stages : (t : ℕ) → IsThread n t → StageFits m.key.version (m.passes t).tries (m.passes t).fresh (m.passes t).stage
+  pub stages : (t : ℕ) → IsThread n t → StageFits m.key.places m.key.version (m.passes t).tries (m.passes t).fresh (m.passes t).stage
   pub looks : (t : ℕ) → IsThread n t → LookFits m.key.up (slice_index_or m.key.looks t Unknown) (m.passes t)
   pub latest : (t : ℕ) → IsThread n t → LatestFits n m.key.ever (m.passes t).latest
   pub raised : (p : ℕ) → has_place m.key.up p ≡ true → WasRaised m.key.ever p
@@ -66,6 +66,8 @@ pub record Lawful (n : ℕ) (m : Machine) : Type 0 where
   pub wide : length m.key.looks ≡ n + 1
   pub threads : m.key.threads ≡ n
   pub most : m.key.version ≤ 128
+  -- the mark is no place
+  pub small : m.key.places ≤ mark
 
 -- each thread was found standing at a raised place since the flags were stored
 abbrev pub AllStood : ℕ → KeyView → Type 0

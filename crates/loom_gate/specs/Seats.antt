@@ -13,9 +13,8 @@ use Rattle.loom_gate.specs.declared.view.Look.{Look}
 use Rattle.loom_gate.specs.declared.view.Look.TheVariants.{Unknown, SawInside, SawPlace}
 use Rattle.loom_gate.specs.declared.view.KeyView.{KeyView}
 use Rattle.loom_gate.specs.declared.view.View.TheVariants.{Pass, Key}
-use Rattle.loom_gate.specs.View.{pass_of, key_of}
+use Rattle.loom_gate.specs.View.{pass_of, key_of, flag_words}
 use Rattle.loom_gate.specs.Machine.{IsThread}
-use Rattle.loom_gate.specs.Rule.{flag_words}
 
 -- how many threads and places a gate has
 abbrev pub threads_of : gate.Gate → ℕ
@@ -74,7 +73,7 @@ abbrev pub IsKeyOf : gate.Gate → key.Key → Type 0
 IsKeyOf g k = (k.seat.table_id ≡ g.table.shared.table_id) × (k.seat.me ≡ (Key (view_of_key k), [])) × ((view_of_key k).threads ≡ threads_of g) × (length (view_of_key k).up ≡ flag_words (places_of g))
     × ((view_of_key k).version ≡ k.version) × (k.version + k.left ≤ 128) × (k.rows.items ≡ (view_of_key k).switches) × (length k.rows.items + k.left * threads_of g ≤ vec_capacity k.rows)
     × (length k.places.items ≡ threads_of g + 1) × ((t : ℕ) → SeenAs (slice_index_or (view_of_key k).looks t Unknown) (slice_index k.places.items t))
-    × (length (view_of_key k).looks ≡ threads_of g + 1) × ((view_of_key k).finals ≡ [])
+    × (length (view_of_key k).looks ≡ threads_of g + 1) × ((view_of_key k).finals ≡ []) × ((view_of_key k).places ≡ places_of g)
 
 -- the rows of these passes, one behind another
 abbrev pub rows_of : List pass.Pass → List PassRow

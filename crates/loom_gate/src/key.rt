@@ -2,11 +2,10 @@
 ghost use Rattle.std.specs.Prelude.{◌≡◌, ℕ, ◌+◌, ◌<◌, ◌≤◌, ◌++◌, true, false, length, replicate, slice_index, slice_index_or, slice_set};
 ghost use Rattle.loom_trace.specs.Places.{has_place};
 ghost use Rattle.loom_gate.specs.declared.view.Look.TheVariants.{Unknown};
-ghost use Rattle.loom_gate.specs.View.{switch_rows};
+ghost use Rattle.loom_gate.specs.View.{flag_words, switch_rows};
 ghost use Rattle.loom_gate.specs.Machine.{IsThread, AllStood, AmidKey, NobodyInside};
-ghost use Rattle.loom_gate.specs.Rule.{flag_words};
 ghost use Rattle.loom_gate.specs.Seats.{threads_of, places_of, view_of_key, IsKeyOf};
-ghost use Rattle.loom_gate.specs.Calls.{look_told};
+ghost use Rattle.loom_gate.specs.Calls.{IsPlaceBelow, look_told};
 
 use crate::gate::Gate;
 use crate::log::SwitchRow;
@@ -20,7 +19,7 @@ use loom_trace::places::Places;
 pub enum Looked {
     /// The thread tries or is inside.
     Inside,
-    /// The thread stands at this place.
+    /// The thread stands at this place, which is one of the gate's.
     Stands(u16),
 }
 
@@ -84,13 +83,14 @@ impl Key {
         }
     }
 
-    /// Looks at a thread.
+    /// Where a thread was when this call loaded its word. Threads are 1 to the gate's number of them.
     pub fn look(&mut self, gate: &Gate, t: u8) -> Looked
         requires gate { IsKeyOf gate.now self.old }
         requires thread { IsThread (threads_of gate.now) t }
         ensures gate { IsKeyOf gate.now self.new }
         ensures once { (view_of_key self.new).count ≡ (view_of_key self.old).count + 1 }
         ensures found { (view_of_key self.new).looks ≡ slice_set (view_of_key self.old).looks t (look_told result) }
+        ensures place { IsPlaceBelow (places_of gate.now) result }
         ensures flags { (view_of_key self.new).up ≡ (view_of_key self.old).up }
         ensures same { (self.new.up ≡ self.old.up) × (self.new.version ≡ self.old.version) × (self.new.left ≡ self.old.left) × (self.new.rows.items ≡ self.old.rows.items) }
     {

@@ -2,7 +2,7 @@
 ghost use Rattle.std.specs.Prelude.{◌≡◌, ℕ, ◌+◌, ◌*◌, ◌<◌, ◌≤◌, [], IfOk, false, length, replicate, vec_capacity, All};
 ghost use Rattle.loom_trace.specs.Places.{has_place};
 ghost use Rattle.loom_gate.specs.declared.view.View.TheVariants.{Key};
-ghost use Rattle.loom_gate.specs.Rule.{flag_words};
+ghost use Rattle.loom_gate.specs.View.{flag_words};
 ghost use Rattle.loom_gate.specs.Seats.{threads_of, places_of, view_of_pass, view_of_key, IsKeyOf, IsStanding, ArePassesOf};
 
 use crate::gate::Gate;

@@ -11,9 +11,9 @@ use Rattle.loom_gate.specs.declared.view.PassView.{PassView}
 use Rattle.loom_gate.specs.declared.view.Look.{Look}
 use Rattle.loom_gate.specs.declared.view.Look.TheVariants.{Unknown, SawInside, SawPlace}
 use Rattle.loom_gate.specs.View.{mark, stand_word, look_of, place_of, place_seen, with_row, switch_rows}
-use Rattle.loom_gate.specs.Record.{place_from}
+use Rattle.loom_gate.specs.Record.{place_from, IsBefore}
 use Rattle.loom_gate.specs.Machine.{IsThread, Machine, StageFits, LookFits, LatestFits, RowsFit, SwitchFits, Lawful, WasRaised, AllStood}
-use Rattle.loom_gate.proofs.Rows.{all_snoc, all_append, all_map, length_snoc, from_snoc, from_none, from_some, is_here, version_last}
+use Rattle.loom_gate.proofs.Rows.{all_snoc, all_append, all_map, length_snoc, from_snoc, from_none, from_some, is_here, version_last, order_snoc}
 
 abbrev pub upd : (ℕ → PassView) → ℕ → PassView → ℕ → PassView
 upd ps t q j = if j == t then q else ps j
@@ -116,7 +116,7 @@ tries_lawful n m t place is at l =
     (λ q on h. ⊎_elim (λ (e : p.stage ≡ Stands q). inr (ap Tries (stands_same place q (sym at ∙ e)))) (λ (e : p.stage ≡ Tries q). absurd (stands_tries place q (sym at ∙ e))) h)
     (l.looks t is))
     (l.latest t is)
-    record { count = rows.count; fresh = rows.fresh; below = rows.below; newest = rows.newest }
+    record { count = rows.count; fresh = rows.fresh; below = rows.below; newest = rows.newest; order = rows.order }
     (λ w low. ap (λ (s : Stage). place_from t w (place_of s) p.rows) (sym at))
 
 -- kind 2, flagged
@@ -129,7 +129,7 @@ flagged_lawful n m t place is at i word on l =
     pass_lawful n m t q l (subst (λ (s : Stage). StageFits m.key.places m.key.version p.tries p.fresh s) at (l.stages t is))
     (look_stays m.key.up (get_or m.key.looks t Unknown) p q (omega arith) (λ x on h. ⊎_elim (λ (e : p.stage ≡ Stands x). inl (sym at ∙ e)) (λ (e : p.stage ≡ Tries x). inr (sym at ∙ e)) h) (l.looks t is))
     on
-    record { count = rows.count; fresh = rows.fresh; below = rows.below; newest = rows.newest }
+    record { count = rows.count; fresh = rows.fresh; below = rows.below; newest = rows.newest; order = rows.order }
     (λ w low. ap (λ (s : Stage). place_from t w (place_of s) p.rows) (sym at))
 
 -- kind 2, clear
@@ -144,7 +144,7 @@ clear_lawful n m t place is at off i word on l =
     (λ x on h. ⊎_elim (λ (e : p.stage ≡ Stands x). absurd (stands_tries x place (sym e ∙ at))) (λ (e : p.stage ≡ Tries x). absurd (off (subst (λ (y : ℕ). has_place m.key.up y ≡ true) (tries_same x place (sym e ∙ at)) on))) h)
     (l.looks t is))
     on
-    record { count = rows.count; fresh = rows.fresh; below = rows.below; newest = rows.newest }
+    record { count = rows.count; fresh = rows.fresh; below = rows.below; newest = rows.newest; order = rows.order }
     (λ w low. ap (λ (s : Stage). place_from t w (place_of s) p.rows) (sym at))
 
 -- kind 2, inside
@@ -155,7 +155,7 @@ polls_lawful n m t is i word on l =
     let q : PassView = record p { checks = p.checks + 1; latest = Some (i, word) } in
     let rows = l.rows t is in
     pass_lawful n m t q l (l.stages t is) (look_stays m.key.up (get_or m.key.looks t Unknown) p q (omega arith) (λ x on h. h) (l.looks t is)) on
-    record { count = rows.count; fresh = rows.fresh; below = rows.below; newest = rows.newest }
+    record { count = rows.count; fresh = rows.fresh; below = rows.below; newest = rows.newest; order = rows.order }
     (λ w low. refl)
 
 -- the rows after an entering with version v, which is the machine's
@@ -170,6 +170,7 @@ rows_fit t v place p r = dite (ℕ_discrete p.fresh (v + 1))
       fresh = omega arith;
       below = all_map (λ (x : PassRow). (x.thread ≡ t) × (x.version < p.fresh)) (λ (x : PassRow). (x.thread ≡ t) × (x.version < v + 1)) p.rows (λ x h. let a = h.1 in (h.0, omega arith)) r.below;
       newest = λ k d. r.newest k (e ∙ d);
+      order = r.order;
     }))
     (λ other. subst (λ (b : Bool). RowsFit t v record p { stage = Inside v; fresh = v + 1; rows = (if b then p.rows else p.rows ++ record { thread = t; version = v; place = place } ∷ []) }) (sym (ne_eqb p.fresh (v + 1) other))
     (let c = r.count in let f = r.fresh in let s = length_snoc p.rows record { thread = t; version = v; place = place } in record {
@@ -179,6 +180,8 @@ rows_fit t v place p r = dite (ℕ_discrete p.fresh (v + 1))
           (all_map (λ (x : PassRow). (x.thread ≡ t) × (x.version < p.fresh)) (λ (x : PassRow). (x.thread ≡ t) × (x.version < v + 1)) p.rows (λ x h. let a = h.1 in (h.0, omega arith)) r.below)
           (refl, omega arith);
       newest = λ k d. version_last k p.rows record { thread = t; version = v; place = place } (omega arith);
+      order = order_snoc p.rows record { thread = t; version = v; place = place } r.order
+          (all_map (λ (x : PassRow). (x.thread ≡ t) × (x.version < p.fresh)) (λ (x : PassRow). IsBefore x record { thread = t; version = v; place = place }) p.rows (λ x h. let a = h.1 in inr (h.0, omega arith)) r.below);
     }))
 
 threads_of : (t f : ℕ) (rows : List PassRow) → All (λ (r : PassRow). (r.thread ≡ t) × (r.version < f)) rows → All (λ (r : PassRow). r.thread ≡ t) rows
@@ -222,7 +225,7 @@ leaves_lawful n m t place is low from l =
     from)
     (l.looks t is))
     (l.latest t is)
-    record { count = rows.count; fresh = rows.fresh; below = rows.below; newest = rows.newest }
+    record { count = rows.count; fresh = rows.fresh; below = rows.below; newest = rows.newest; order = rows.order }
     (λ w early. ⊎_elim
     (λ (at : p.stage ≡ Tries place). ap (λ (s : Stage). place_from t w (place_of s) p.rows) (sym at))
     (λ (at : (v : ℕ) × (p.stage ≡ Inside v)).
@@ -302,7 +305,7 @@ pub nobody_inside : (n : ℕ) (m : Machine) → AllStood n m.key → Lawful n m 
 nobody_inside n m all l t is = let a = all t is in (a.0, found_there n m t a.0 is a.1 a.2 l)
 
 later_rows : (t version : ℕ) (p : PassView) → RowsFit t version p → RowsFit t (version + 1) p
-later_rows t version p r = let f = r.fresh in record { count = r.count; fresh = omega arith; below = r.below; newest = r.newest }
+later_rows t version p r = let f = r.fresh in record { count = r.count; fresh = omega arith; below = r.below; newest = r.newest; order = r.order }
 
 -- the rows of a switch tell where each pass stands, or from where it tries
 new_rows : (n : ℕ) (m : Machine) (k : ℕ) → k ≤ n → AllStood n m.key → Lawful n m → (m' : Machine) → m'.passes ≡ m.passes → m'.key.version ≡ m.key.version + 1

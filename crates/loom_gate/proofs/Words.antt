@@ -283,7 +283,7 @@ module _ (n places : ℕ) where
           looks = λ t h. subst (λ (x : Look). LookFits (replicate (flag_words places) 0) x start) (sym (unknowns (n + 1) t)) tt;
           latest = λ t h. tt;
           raised = λ p on. absurd (true≢false (sym on ∙ none_up (flag_words places) p));
-          rows = λ t h. record { count = omega arith; fresh = omega arith; below = λ k d l. absurd (omega arith); newest = λ v e. absurd (omega arith) };
+          rows = λ t h. record { count = omega arith; fresh = omega arith; below = λ k d l. absurd (omega arith); newest = λ v e. absurd (omega arith); order = tt };
           switches = λ k d l. absurd (omega arith);
           wide = length-replicate (n + 1) Unknown;
           threads = refl;

@@ -10,7 +10,7 @@ use Rattle.loom_gate.specs.declared.view.Look.{Look}
 use Rattle.loom_gate.specs.declared.view.Look.TheVariants.{Unknown, SawInside, SawPlace}
 use Rattle.loom_gate.specs.declared.view.KeyView.{KeyView}
 use Rattle.loom_gate.specs.View.{mark, place_of}
-use Rattle.loom_gate.specs.Record.{place_from, has_version}
+use Rattle.loom_gate.specs.Record.{place_from, has_version, AreInOrder}
 
 -- threads are 1 to n
 abbrev pub IsThread : ℕ → ℕ → Type 0
@@ -50,6 +50,7 @@ pub record RowsFit (t version : ℕ) (p : PassView) : Type 0 where
   pub fresh : p.fresh ≤ version + 1
   pub below : All (λ (r : PassRow). (r.thread ≡ t) × (r.version < p.fresh)) p.rows
   pub newest : (v : ℕ) → p.fresh ≡ v + 1 → has_version v p.rows ≡ true
+  pub order : AreInOrder p.rows
 
 -- the place read at a switch is where the pass next entered from, or the place from which it still has to enter
 abbrev pub SwitchFits : ℕ → Machine → SwitchRow → Type 0

@@ -1,6 +1,6 @@
 //! A gate is settled.
 ghost use Rattle.std.specs.Prelude.{◌≡◌, ◌+◌, ◌*◌, ◌≤◌, ◌++◌, false, length, vec_capacity, All};
-ghost use Rattle.loom_gate.specs.Record.{IsSound};
+ghost use Rattle.loom_gate.specs.Record.{IsSound, AreInOrder};
 ghost use Rattle.loom_gate.specs.Seats.{threads_of, IsKeyOf, IsStanding, ArePassesOf, rows_of, ends_of};
 
 use crate::gate::Gate;
@@ -21,7 +21,8 @@ fn append(rows: &mut Vec<PassRow>, more: &[PassRow])
     }
 }
 
-/// Ends a gate, and gives its record.
+/// Ends a gate whose passes stand and whose flags are down, with all of its passes in the order of their
+/// threads, and gives its record.
 pub fn settle(gate: Gate, key: Key, passes: Passes) -> GateLog
     requires key { IsKeyOf gate key }
     requires passes { ArePassesOf gate passes.0.items }
@@ -31,6 +32,7 @@ pub fn settle(gate: Gate, key: Key, passes: Passes) -> GateLog
     ensures rows { result.rows.0.items ≡ rows_of passes.0.items }
     ensures ends { result.ends.0.items ≡ ends_of passes.0.items }
     ensures sound { IsSound result }
+    ensures order { AreInOrder result.rows.0.items }
 {
     let Gate {
         table,

@@ -2,7 +2,7 @@
 ghost use Rattle.std.specs.Prelude.{◌≡◌, ◌+◌, ◌<◌, ◌≤◌, ◌/◌, length, vec_capacity};
 ghost use Rattle.loom_gate.specs.View.{with_row};
 ghost use Rattle.loom_gate.specs.Machine.{Amid};
-ghost use Rattle.loom_gate.specs.Seats.{threads_of, places_of, flag_index, view_of_pass, IsPassOf, IsStanding, IsInside, IsInsideAt, FoundBit};
+ghost use Rattle.loom_gate.specs.Seats.{threads_of, places_of, flag_index, view_of_pass, thread_of_pass, place_of_pass, rows_of_pass, IsPassOf, IsStanding, IsInside, IsInsideAt, FoundBit};
 ghost use Rattle.loom_gate.specs.Calls.{HasEntered, rows_after};
 
 use crate::gate::Gate;
@@ -48,10 +48,10 @@ impl Pass {
         requires gate { IsPassOf gate.now self.old }
         requires stands { IsStanding self.old }
         ensures gate { IsPassOf gate.now self.new }
-        ensures same { (self.new.thread ≡ self.old.thread) × (self.new.place ≡ self.old.place) }
-        ensures answer { HasEntered (flag_index gate.now self.old.place) self.old.place result self.new }
+        ensures same { (thread_of_pass self.new ≡ thread_of_pass self.old) × (place_of_pass self.new ≡ place_of_pass self.old) }
+        ensures answer { HasEntered (flag_index gate.now (place_of_pass self.old)) (place_of_pass self.old) result self.new }
         ensures once { (view_of_pass self.new).checks ≡ (view_of_pass self.old).checks + 1 }
-        ensures rows { self.new.rows.items ≡ rows_after self.old.thread self.old.place result self.old.rows.items }
+        ensures rows { rows_of_pass self.new ≡ rows_after (thread_of_pass self.old) (place_of_pass self.old) result (rows_of_pass self.old) }
     {
         let shared = &gate.table.shared;
         let own = usize::from(self.thread);
@@ -91,10 +91,10 @@ impl Pass {
         requires inside { IsInside self.old }
         requires place { place < places_of gate.now }
         ensures gate { IsPassOf gate.now self.new }
-        ensures same { (self.new.thread ≡ self.old.thread) × (self.new.place ≡ self.old.place) × (self.new.rows.items ≡ self.old.rows.items) × ((view_of_pass self.new).stage ≡ (view_of_pass self.old).stage) }
+        ensures same { (thread_of_pass self.new ≡ thread_of_pass self.old) × (place_of_pass self.new ≡ place_of_pass self.old) × (rows_of_pass self.new ≡ rows_of_pass self.old) × ((view_of_pass self.new).stage ≡ (view_of_pass self.old).stage) }
         ensures found { FoundBit (flag_index gate.now place) place result self.new }
         ensures once { (view_of_pass self.new).checks ≡ (view_of_pass self.old).checks + 1 }
-        ensures version { (v : _) → IsInsideAt v self.old → Amid self.old.thread (view_of_pass self.old) (λ a. a.key.version ≡ v) }
+        ensures version { (v : _) → IsInsideAt v self.old → Amid (thread_of_pass self.old) (view_of_pass self.old) (λ a. a.key.version ≡ v) }
     {
         let word = gate
             .table
@@ -109,9 +109,9 @@ impl Pass {
         requires inside { IsInside self.old }
         requires place { place < places_of gate.now }
         ensures gate { IsPassOf gate.now self.new }
-        ensures same { (self.new.thread ≡ self.old.thread) × (self.new.rows.items ≡ self.old.rows.items) }
-        ensures stands { IsStanding self.new × (self.new.place ≡ place) }
-        ensures version { (v : _) → IsInsideAt v self.old → Amid self.old.thread (view_of_pass self.old) (λ a. a.key.version ≡ v) }
+        ensures same { (thread_of_pass self.new ≡ thread_of_pass self.old) × (rows_of_pass self.new ≡ rows_of_pass self.old) }
+        ensures stands { IsStanding self.new × (place_of_pass self.new ≡ place) }
+        ensures version { (v : _) → IsInsideAt v self.old → Amid (thread_of_pass self.old) (view_of_pass self.old) (λ a. a.key.version ≡ v) }
     {
         gate.table
             .shared

@@ -8,9 +8,9 @@ use Rattle.loom_gate.specs.declared.view.Stage.TheVariants.{Stands, Tries, Clear
 use Rattle.loom_gate.specs.declared.log.PassRow.{PassRow}
 use Rattle.loom_gate.specs.declared.log.SwitchRow.{SwitchRow}
 use Rattle.loom_gate.specs.declared.view.PassView.{PassView}
-use Rattle.loom_gate.specs.View.{place_of}
+use Rattle.loom_gate.specs.View.{place_of, pass_of, entered}
 use Rattle.loom_gate.specs.Machine.{Machine, StageFits, RowsFit, SwitchFits}
-use Rattle.loom_gate.specs.Laws.{InsideHasVersion, FoundIsAt, RaisedKeepsOut, SwitchMeetsNobody, IsAt, GateStep, AreSteps, StaysOut, IsBeforeEntering, WaitsWhereFound}
+use Rattle.loom_gate.specs.Laws.{InsideHasVersion, FoundIsAt, RaisedKeepsOut, SwitchMeetsNobody, IsAt, GateStep, AreSteps, StaysOut, ToldIsStep, IsBeforeEntering, WaitsWhereFound}
 use Rattle.loom_gate.specs.Laws.PassStep.{try, check, back, read, poll, leave}
 use Rattle.loom_gate.specs.Laws.GateStep.{pass, flag, look, switch}
 use Rattle.loom_gate.proofs.Rows.{all_map, from_none, version_none}
@@ -86,6 +86,17 @@ waits_where_found n m l =
     where_at w.thread w.place w.version m.key.places m.key.version p p.stage refl
     (sym (from_none w.thread w.version (place_of p.stage) p.rows both) ∙ h.2) h.1 (l.stages w.thread h.0) rows old)
     l.switches
+
+pub told_is_step : ToldIsStep
+told_is_step st t n p q c = (
+  λ place at h. let d = ap (λ m. pass_of m.0) h.0 in let a = h.1 in
+      (a.0, a.1, a.2, a.3, a.4, check place st.word n at (subst (λ (s : Stage). has_bit n (place_of s) ≡ has_place a.1.key.up (place_of s)) at a.5) d),
+  λ place at h. let d = ap (λ m. pass_of m.0) h.0 in let a = h.1 in
+      (a.0, a.1, a.2, a.3, a.4, read place at (d ∙ ap (λ (v : ℕ). entered t v p) a.5)),
+  λ v at h. let d = ap (λ m. pass_of m.0) h.0 in let a = h.1 in (a.0, a.1, a.2, a.3, a.4, poll v st.word n at d),
+  λ v at h. let d = ap (λ m. pass_of m.0) h.0 in let a = h.1 in (a.0, a.1, a.2, a.3, a.4, leave v st.first at d),
+  λ at h. let d = ap (λ m. pass_of m.0) h.0 in let a = h.1 in (a.0, a.1, a.2, a.3, a.4, back st.first at d),
+)
 
 pub switch_meets_nobody : SwitchMeetsNobody
 switch_meets_nobody n m l all = nobody_inside n m all l

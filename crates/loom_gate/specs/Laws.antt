@@ -1,13 +1,16 @@
 -- What the rule of a gate says of every moment, and what one step of a pass can do.
 use Rattle.std.specs.Prelude.{◌≡◌, ◌≢◌, ◌⊎◌, ℕ, ◌<◌, true, List, [], ◌∷◌, slice_index_or, All}
+use Rattle.atomic_table.specs.Table.{Step}
 use Rattle.loom_trace.specs.Places.{has_bit, has_place}
 use Rattle.loom_gate.specs.declared.log.PassRow.{PassRow}
 use Rattle.loom_gate.specs.declared.log.SwitchRow.{SwitchRow}
 use Rattle.loom_gate.specs.declared.view.Stage.TheVariants.{Stands, Tries, Clear, Inside}
 use Rattle.loom_gate.specs.declared.view.PassView.{PassView}
+use Rattle.loom_gate.specs.declared.view.View.TheVariants.{Pass}
 use Rattle.loom_gate.specs.declared.view.Look.TheVariants.{Unknown, SawPlace}
 use Rattle.loom_gate.specs.View.{stand_word, tried, checked, polled, entered, left, flagged, looked, switched}
-use Rattle.loom_gate.specs.Machine.{IsThread, Machine, Lawful, AllStood, NobodyInside}
+use Rattle.loom_gate.specs.Machine.{IsThread, Machine, Lawful, AllStood, NobodyInside, Amid}
+use Rattle.loom_gate.specs.Tells.{Checks, Polls, Reads, Leaves}
 
 -- while a pass is inside with version v, the version of the gate is v
 abbrev pub InsideHasVersion : Type 0
@@ -29,6 +32,19 @@ pub data PassStep (up : List ℕ) (version t : ℕ) (p q : PassView) : Type 0 wh
   read : (place : ℕ) → p.stage ≡ Clear place → q ≡ entered t version p → PassStep up version t p q
   poll : (v i word : ℕ) → p.stage ≡ Inside v → q ≡ polled i word p → PassStep up version t p q
   leave : (v place : ℕ) → p.stage ≡ Inside v → q ≡ left place p → PassStep up version t p q
+
+-- there is a lawful machine in which the pass of thread t knows p, and makes a step to q
+abbrev pub IsPassStep : ℕ → PassView → PassView → Type 0
+IsPassStep t p q = Amid t p (λ a. PassStep a.key.up a.key.version t p q)
+
+-- what the table tells of a pass's check, its read, a poll and its leaving is a step of the machine
+abbrev pub ToldIsStep : Type 0
+ToldIsStep = (st : Step ℕ) (t n : ℕ) (p q : PassView) (c : List (ℕ × ℕ))
+    → ((place : ℕ) → p.stage ≡ Tries place → Checks st (Pass t p, c) n (Pass t q, c) → IsPassStep t p q)
+    × ((place : ℕ) → p.stage ≡ Clear place → Reads st (Pass t p, c) n (Pass t q, c) → IsPassStep t p q)
+    × ((v : ℕ) → p.stage ≡ Inside v → Polls st (Pass t p, c) n (Pass t q, c) → IsPassStep t p q)
+    × ((v : ℕ) → p.stage ≡ Inside v → Leaves st (Pass t p, c) n (Pass t q, c) → IsPassStep t p q)
+    × (p.stage ≡ Tries st.first → Leaves st (Pass t p, c) n (Pass t q, c) → IsPassStep t p q)
 
 -- one step of a pass or of the key, from a machine of n threads to the next
 pub data GateStep (n : ℕ) (m m' : Machine) : Type 0 where

@@ -1,5 +1,5 @@
 //! What the rule of a gate says, stated as the contracts of functions that do nothing.
-ghost use Rattle.loom_gate.specs.Laws.{InsideHasVersion, FoundIsAt, RaisedKeepsOut, StaysOut, WaitsWhereFound, SwitchMeetsNobody};
+ghost use Rattle.loom_gate.specs.Laws.{InsideHasVersion, FoundIsAt, RaisedKeepsOut, StaysOut, ToldIsStep, WaitsWhereFound, SwitchMeetsNobody};
 
 /// While a pass is inside, the version is the one that it read.
 pub fn version_of_a_pass_inside()
@@ -15,6 +15,11 @@ pub fn place_of_a_pass_that_was_found()
 /// lowered.
 pub fn pass_at_a_raised_place()
     ensures { RaisedKeepsOut }
+{}
+
+/// What the table tells of a pass's check, its read, a poll and its leaving is a step of the machine.
+pub fn told_is_a_step()
+    ensures { ToldIsStep }
 {}
 
 /// A pass that the key found at a raised place is there after any further steps of all threads, as long as the

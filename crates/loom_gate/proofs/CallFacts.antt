@@ -3,7 +3,7 @@ use Rattle.std.proofs.Common.{◌≡◌, ℕ, ◌+◌, ◌<◌, ◌≤◌, eq-eq
 use mathlib.Core.Logic.{dite}
 use native.Mathlib.Decide.{ℕ_discrete}
 use Rattle.atomic_table.specs.Table.{Me}
-use Rattle.loom_trace.specs.Places.{has_bit, has_place}
+use Rattle.loom_trace.specs.Places.{has_bit}
 use Rattle.loom_gate.specs.declared.log.PassRow.{PassRow}
 use Rattle.loom_gate.specs.declared.view.Stage.{Stage}
 use Rattle.loom_gate.specs.declared.view.Stage.TheVariants.{Stands, Tries, Clear, Inside}
@@ -35,16 +35,9 @@ checked_clear i word place q at on = ap (λ (s : Stage). if has_bit word (place_
 -- inside, the version stays the one that was read
 pub same_version : (t v : ℕ) (p : PassView) → p.stage ≡ Inside v → Amid t p (λ a. Unit {0}) → Amid t p (λ a. a.key.version ≡ v)
 same_version t v p at a =
-    let h : StageFits a.1.key.version p.tries p.fresh p.stage = subst (λ (x : PassView). StageFits a.1.key.version x.tries x.fresh x.stage) a.4 (a.2.stages t a.3) in
-    let f : StageFits a.1.key.version p.tries p.fresh (Inside v) = subst (λ (s : Stage). StageFits a.1.key.version p.tries p.fresh s) at h in
+    let h : StageFits a.1.key.places a.1.key.version p.tries p.fresh p.stage = subst (λ (x : PassView). StageFits a.1.key.places a.1.key.version x.tries x.fresh x.stage) a.4 (a.2.stages t a.3) in
+    let f : StageFits a.1.key.places a.1.key.version p.tries p.fresh (Inside v) = subst (λ (s : Stage). StageFits a.1.key.places a.1.key.version p.tries p.fresh s) at h in
     (a.0, a.1, a.2, a.3, a.4, sym f.0)
-
--- where the check was clear, the place was not up
-pub was_down : (t word place : ℕ) (p : PassView) → p.stage ≡ Tries place → has_bit word place ≡ false → Amid t p (λ a. has_bit word (place_of p.stage) ≡ has_place a.key.up (place_of p.stage))
-    → Amid t p (λ a. has_place a.key.up place ≡ false)
-was_down t word place p at off a =
-    let f : has_bit word place ≡ has_place a.1.key.up place = subst (λ (s : Stage). has_bit word (place_of s) ≡ has_place a.1.key.up (place_of s)) at a.5 in
-    (a.0, a.1, a.2, a.3, a.4, sym f ∙ off)
 
 -- the rows of a pass that read this version
 rows_then : (t v : ℕ) (p : PassView) → Amid t p (λ a. v ≡ a.key.version) → RowsFit t v p
@@ -65,6 +58,3 @@ row_told t v place p a =
     ap (λ (b : Bool). if b then p.rows else more) (ne_eqb p.fresh (v + 1) other)
     ∙ sym (ap (λ (b : Bool). if b then p.rows else more)
     (version_none v p.rows (all_map (λ (x : PassRow). (x.thread ≡ t) × (x.version < p.fresh)) (λ (x : PassRow). x.version < v) p.rows (λ x h. let b = h.1 in omega arith) r.below))))
-
-pub version_read : (t v : ℕ) (q : PassView) → Amid t q (λ a. v ≡ a.key.version) → Amid t q (λ a. a.key.version ≡ v)
-version_read t v q a = (a.0, a.1, a.2, a.3, a.4, sym a.5)

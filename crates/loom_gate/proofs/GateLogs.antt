@@ -1,5 +1,5 @@
 -- The record at the end.
-use Rattle.std.proofs.Common.{◌≡◌, ◌≢◌, ℕ, zero, suc, ◌+◌, ◌-◌, ◌<◌, ◌≤◌, ◌&&◌, ne_eqb, Bool, if◌then◌else◌, List, [], ◌∷◌, ◌++◌, map, length, get_or, leb, sym, refl, ap, ◌∙◌, subst, arith, All}
+use Rattle.std.proofs.Common.{◌≡◌, ◌≢◌, ℕ, zero, suc, ◌+◌, ◌-◌, ◌<◌, ◌≤◌, ◌&&◌, ne_eqb, Bool, if◌then◌else◌, List, [], ◌∷◌, ◌++◌, map, length, get_or, leb, sym, refl, ap, ◌∙◌, subst, inl, arith, All}
 use mathlib.Core.Logic.{dite}
 use native.Mathlib.Decide.{ℕ_discrete}
 use Rattle.loom_gate.specs.declared.log.PassRow.{PassRow}
@@ -8,10 +8,10 @@ use Rattle.loom_gate.specs.declared.pass.Pass as pass
 use Rattle.loom_gate.specs.declared.view.PassView.{PassView}
 use Rattle.atomic_table.specs.Seated.{TableId}
 use Rattle.loom_gate.specs.View.{start, place_of}
-use Rattle.loom_gate.specs.Record.{is_from, place_from}
+use Rattle.loom_gate.specs.Record.{is_from, place_from, IsBefore, AreInOrder}
 use Rattle.loom_gate.specs.Machine.{IsThread, Machine, Lawful, SwitchFits}
 use Rattle.loom_gate.specs.Seats.{view_of_pass, IsStanding, ArePassesFrom, rows_of, ends_of}
-use Rattle.loom_gate.proofs.Rows.{all_map}
+use Rattle.loom_gate.proofs.Rows.{all_map, all_append, order_append}
 
 -- rows of another thread are passed over
 from_other : (t s v end : ℕ) (rs : List PassRow) → s ≢ t → All (λ (r : PassRow). r.thread ≡ s) rs → place_from t v end rs ≡ end
@@ -63,6 +63,26 @@ module _ (id : TableId) (n places : ℕ) (m : Machine) (l : Lawful n m) where
         subst (λ (rs : List PassRow). All (λ (r : PassRow). r.thread ≡ s) rs) (ap (λ (x : PassView). x.rows) this ∙ sym are.1.5)
             (all_map (λ (r : PassRow). (r.thread ≡ s) × (r.version < (m.passes s).fresh)) (λ (r : PassRow). r.thread ≡ s) (m.passes s).rows (λ r h. h.0) below),
         rows_from (s + 1) ps are.2 (λ i h. ap (λ (x : ℕ). m.passes x) (omega arith) ∙ is (suc i) (omega arith)),
+      )
+
+  -- the record's rows are in order, from thread s on
+  pub rows_order : (s : ℕ) (ps : List pass.Pass) → ArePassesFrom id n places s ps → ((i : ℕ) → i < length ps → m.passes (s + i) ≡ get_or (map view_of_pass ps) i start)
+      → AreInOrder (rows_of ps) × All (λ (r : PassRow). s ≤ r.thread) (rows_of ps)
+  rows_order s [] are is = (tt, λ k d l. absurd (omega arith))
+  rows_order s (p ∷ ps) are is =
+      let this : m.passes s ≡ view_of_pass p = ap (λ (x : ℕ). m.passes x) (omega arith) ∙ is 0 (omega arith) in
+      let thread : IsThread n s = subst (λ (x : ℕ). IsThread n x) are.0 are.1.1 in
+      let fit = l.rows s thread in
+      let same : (m.passes s).rows ≡ p.rows.items = ap (λ (x : PassView). x.rows) this ∙ sym are.1.5 in
+      let rest = rows_order (s + 1) ps are.2 (λ i h. ap (λ (x : ℕ). m.passes x) (omega arith) ∙ is (suc i) (omega arith)) in
+      let own : All (λ (r : PassRow). r.thread ≡ s) p.rows.items = subst (λ (rs : List PassRow). All (λ (r : PassRow). r.thread ≡ s) rs) same
+      (all_map (λ (r : PassRow). (r.thread ≡ s) × (r.version < (m.passes s).fresh)) (λ (r : PassRow). r.thread ≡ s) (m.passes s).rows (λ r h. h.0) fit.below) in (
+        order_append p.rows.items (rows_of ps) (subst AreInOrder same fit.order) rest.0
+            (all_map (λ (r : PassRow). r.thread ≡ s) (λ (x : PassRow). All (IsBefore x) (rows_of ps)) p.rows.items
+            (λ x e. all_map (λ (r : PassRow). s + 1 ≤ r.thread) (IsBefore x) (rows_of ps) (λ r h. inl (omega arith)) rest.1) own),
+        all_append (λ (r : PassRow). s ≤ r.thread) p.rows.items (rows_of ps)
+            (all_map (λ (r : PassRow). r.thread ≡ s) (λ (r : PassRow). s ≤ r.thread) p.rows.items (λ r h. omega arith) own)
+            (all_map (λ (r : PassRow). s + 1 ≤ r.thread) (λ (r : PassRow). s ≤ r.thread) (rows_of ps) (λ r h. omega arith) rest.1),
       )
 
   ends_at : (ps : List pass.Pass) (i : ℕ) (d : pass.Pass) → i < length ps → get_or (ends_of ps) i 0 ≡ (get_or ps i d).place

@@ -11,9 +11,9 @@ use Rattle.loom_gate.specs.declared.view.PassView.{PassView}
 use Rattle.loom_gate.specs.declared.view.Look.{Look}
 use Rattle.loom_gate.specs.declared.view.Look.TheVariants.{Unknown, SawInside, SawPlace}
 use Rattle.loom_gate.specs.View.{mark, stand_word, look_of, place_of, place_seen, with_row, switch_rows}
-use Rattle.loom_gate.specs.Record.{place_from}
+use Rattle.loom_gate.specs.Record.{place_from, IsBefore}
 use Rattle.loom_gate.specs.Machine.{IsThread, Machine, StageFits, LookFits, LatestFits, RowsFit, SwitchFits, Lawful, WasRaised, AllStood}
-use Rattle.loom_gate.proofs.Rows.{all_snoc, all_append, all_map, length_snoc, from_snoc, from_none, from_some, is_here, version_last}
+use Rattle.loom_gate.proofs.Rows.{all_snoc, all_append, all_map, length_snoc, from_snoc, from_none, from_some, is_here, version_last, order_snoc}
 
 abbrev pub upd : (ℕ → PassView) → ℕ → PassView → ℕ → PassView
 upd ps t q j = if j == t then q else ps j
@@ -78,11 +78,11 @@ abbrev pub Tells : ℕ → ℕ → PassView → PassView → Type 0
 Tells t version p q = (w : ℕ) → w ≤ version → place_from t w (place_of q.stage) q.rows ≡ place_from t w (place_of p.stage) p.rows
 
 -- one pass says q, where it said p
-pub pass_lawful : (n : ℕ) (m : Machine) (t : ℕ) (q : PassView) → Lawful n m → StageFits m.key.version q.tries q.fresh q.stage → LookFits m.key.up (get_or m.key.looks t Unknown) q → LatestFits n m.key.ever q.latest
+pub pass_lawful : (n : ℕ) (m : Machine) (t : ℕ) (q : PassView) → Lawful n m → StageFits m.key.places m.key.version q.tries q.fresh q.stage → LookFits m.key.up (get_or m.key.looks t Unknown) q → LatestFits n m.key.ever q.latest
     → RowsFit t m.key.version q → Tells t m.key.version (m.passes t) q
     → Lawful n record { passes = upd m.passes t q; key = m.key }
 pass_lawful n m t q l a b c r same = record {
-  stages = λ j h. upd_all (λ (j : ℕ) (p : PassView). IsThread n j → StageFits m.key.version p.tries p.fresh p.stage) m.passes t q (λ _. a) (λ j _ h. l.stages j h) j h;
+  stages = λ j h. upd_all (λ (j : ℕ) (p : PassView). IsThread n j → StageFits m.key.places m.key.version p.tries p.fresh p.stage) m.passes t q (λ _. a) (λ j _ h. l.stages j h) j h;
   looks = λ j h. upd_all (λ (j : ℕ) (p : PassView). IsThread n j → LookFits m.key.up (get_or m.key.looks j Unknown) p) m.passes t q (λ _. b) (λ j _ h. l.looks j h) j h;
   latest = λ j h. upd_all (λ (j : ℕ) (p : PassView). IsThread n j → LatestFits n m.key.ever p.latest) m.passes t q (λ _. c) (λ j _ h. l.latest j h) j h;
   raised = l.raised;
@@ -101,6 +101,7 @@ pass_lawful n m t q l a b c r same = record {
   threads = l.threads;
   wide = l.wide;
   most = l.most;
+  small = l.small;
 }
 
 -- kind 1
@@ -108,14 +109,14 @@ pub tries_lawful : (n : ℕ) (m : Machine) (t place : ℕ) → IsThread n t → 
     → Lawful n record { passes = upd m.passes t (record (m.passes t) { stage = Tries place; tries = (m.passes t).tries + 1 }); key = m.key }
 tries_lawful n m t place is at l =
     let p : PassView = m.passes t in
-    let fits : StageFits m.key.version p.tries p.fresh (Stands place) = subst (λ (s : Stage). StageFits m.key.version p.tries p.fresh s) at (l.stages t is) in
+    let fits : StageFits m.key.places m.key.version p.tries p.fresh (Stands place) = subst (λ (s : Stage). StageFits m.key.places m.key.version p.tries p.fresh s) at (l.stages t is) in
     let rows = l.rows t is in
     pass_lawful n m t (record p { stage = Tries place; tries = p.tries + 1 }) l (fits, omega arith)
     (look_stays m.key.up (get_or m.key.looks t Unknown) p (record p { stage = Tries place; tries = p.tries + 1 }) (omega arith)
     (λ q on h. ⊎_elim (λ (e : p.stage ≡ Stands q). inr (ap Tries (stands_same place q (sym at ∙ e)))) (λ (e : p.stage ≡ Tries q). absurd (stands_tries place q (sym at ∙ e))) h)
     (l.looks t is))
     (l.latest t is)
-    record { count = rows.count; fresh = rows.fresh; below = rows.below; newest = rows.newest }
+    record { count = rows.count; fresh = rows.fresh; below = rows.below; newest = rows.newest; order = rows.order }
     (λ w low. ap (λ (s : Stage). place_from t w (place_of s) p.rows) (sym at))
 
 -- kind 2, flagged
@@ -125,10 +126,10 @@ flagged_lawful n m t place is at i word on l =
     let p : PassView = m.passes t in
     let q : PassView = record p { stage = Tries place; checks = p.checks + 1; latest = Some (i, word) } in
     let rows = l.rows t is in
-    pass_lawful n m t q l (subst (λ (s : Stage). StageFits m.key.version p.tries p.fresh s) at (l.stages t is))
+    pass_lawful n m t q l (subst (λ (s : Stage). StageFits m.key.places m.key.version p.tries p.fresh s) at (l.stages t is))
     (look_stays m.key.up (get_or m.key.looks t Unknown) p q (omega arith) (λ x on h. ⊎_elim (λ (e : p.stage ≡ Stands x). inl (sym at ∙ e)) (λ (e : p.stage ≡ Tries x). inr (sym at ∙ e)) h) (l.looks t is))
     on
-    record { count = rows.count; fresh = rows.fresh; below = rows.below; newest = rows.newest }
+    record { count = rows.count; fresh = rows.fresh; below = rows.below; newest = rows.newest; order = rows.order }
     (λ w low. ap (λ (s : Stage). place_from t w (place_of s) p.rows) (sym at))
 
 -- kind 2, clear
@@ -138,12 +139,12 @@ clear_lawful n m t place is at off i word on l =
     let p : PassView = m.passes t in
     let q : PassView = record p { stage = Clear place; checks = p.checks + 1; latest = Some (i, word) } in
     let rows = l.rows t is in
-    pass_lawful n m t q l (subst (λ (s : Stage). StageFits m.key.version p.tries p.fresh s) at (l.stages t is))
+    pass_lawful n m t q l (subst (λ (s : Stage). StageFits m.key.places m.key.version p.tries p.fresh s) at (l.stages t is))
     (look_stays m.key.up (get_or m.key.looks t Unknown) p q (omega arith)
     (λ x on h. ⊎_elim (λ (e : p.stage ≡ Stands x). absurd (stands_tries x place (sym e ∙ at))) (λ (e : p.stage ≡ Tries x). absurd (off (subst (λ (y : ℕ). has_place m.key.up y ≡ true) (tries_same x place (sym e ∙ at)) on))) h)
     (l.looks t is))
     on
-    record { count = rows.count; fresh = rows.fresh; below = rows.below; newest = rows.newest }
+    record { count = rows.count; fresh = rows.fresh; below = rows.below; newest = rows.newest; order = rows.order }
     (λ w low. ap (λ (s : Stage). place_from t w (place_of s) p.rows) (sym at))
 
 -- kind 2, inside
@@ -154,7 +155,7 @@ polls_lawful n m t is i word on l =
     let q : PassView = record p { checks = p.checks + 1; latest = Some (i, word) } in
     let rows = l.rows t is in
     pass_lawful n m t q l (l.stages t is) (look_stays m.key.up (get_or m.key.looks t Unknown) p q (omega arith) (λ x on h. h) (l.looks t is)) on
-    record { count = rows.count; fresh = rows.fresh; below = rows.below; newest = rows.newest }
+    record { count = rows.count; fresh = rows.fresh; below = rows.below; newest = rows.newest; order = rows.order }
     (λ w low. refl)
 
 -- the rows after an entering with version v, which is the machine's
@@ -169,6 +170,7 @@ rows_fit t v place p r = dite (ℕ_discrete p.fresh (v + 1))
       fresh = omega arith;
       below = all_map (λ (x : PassRow). (x.thread ≡ t) × (x.version < p.fresh)) (λ (x : PassRow). (x.thread ≡ t) × (x.version < v + 1)) p.rows (λ x h. let a = h.1 in (h.0, omega arith)) r.below;
       newest = λ k d. r.newest k (e ∙ d);
+      order = r.order;
     }))
     (λ other. subst (λ (b : Bool). RowsFit t v record p { stage = Inside v; fresh = v + 1; rows = (if b then p.rows else p.rows ++ record { thread = t; version = v; place = place } ∷ []) }) (sym (ne_eqb p.fresh (v + 1) other))
     (let c = r.count in let f = r.fresh in let s = length_snoc p.rows record { thread = t; version = v; place = place } in record {
@@ -178,6 +180,8 @@ rows_fit t v place p r = dite (ℕ_discrete p.fresh (v + 1))
           (all_map (λ (x : PassRow). (x.thread ≡ t) × (x.version < p.fresh)) (λ (x : PassRow). (x.thread ≡ t) × (x.version < v + 1)) p.rows (λ x h. let a = h.1 in (h.0, omega arith)) r.below)
           (refl, omega arith);
       newest = λ k d. version_last k p.rows record { thread = t; version = v; place = place } (omega arith);
+      order = order_snoc p.rows record { thread = t; version = v; place = place } r.order
+          (all_map (λ (x : PassRow). (x.thread ≡ t) × (x.version < p.fresh)) (λ (x : PassRow). IsBefore x record { thread = t; version = v; place = place }) p.rows (λ x h. let a = h.1 in inr (h.0, omega arith)) r.below);
     }))
 
 threads_of : (t f : ℕ) (rows : List PassRow) → All (λ (r : PassRow). (r.thread ≡ t) × (r.version < f)) rows → All (λ (r : PassRow). r.thread ≡ t) rows
@@ -199,7 +203,7 @@ pub reads_lawful : (n : ℕ) (m : Machine) (t place : ℕ) → IsThread n t → 
 reads_lawful n m t place is at l =
     let p : PassView = m.passes t in
     let q : PassView = in_rows t m.key.version place p in
-    let fits : StageFits m.key.version p.tries p.fresh (Clear place) = subst (λ (s : Stage). StageFits m.key.version p.tries p.fresh s) at (l.stages t is) in
+    let fits : StageFits m.key.places m.key.version p.tries p.fresh (Clear place) = subst (λ (s : Stage). StageFits m.key.places m.key.version p.tries p.fresh s) at (l.stages t is) in
     pass_lawful n m t q l (refl, fits.1, refl)
     (look_stays m.key.up (get_or m.key.looks t Unknown) p q (omega arith) (λ x on h. absurd (clear_not_found p.stage 0 x (inr (place, at)) h)) (l.looks t is))
     (l.latest t is)
@@ -207,7 +211,7 @@ reads_lawful n m t place is at l =
     (λ w low. rows_tell t m.key.version place p (l.rows t is) w 0 low ∙ ap (λ (s : Stage). place_from t w (place_of s) p.rows) (sym at))
 
 -- kind 4: from the place that was tried, or from inside
-pub leaves_lawful : (n : ℕ) (m : Machine) (t place : ℕ) → IsThread n t → place < mark → ((m.passes t).stage ≡ Tries place) ⊎ ((v : ℕ) × ((m.passes t).stage ≡ Inside v)) → Lawful n m
+pub leaves_lawful : (n : ℕ) (m : Machine) (t place : ℕ) → IsThread n t → place < m.key.places → ((m.passes t).stage ≡ Tries place) ⊎ ((v : ℕ) × ((m.passes t).stage ≡ Inside v)) → Lawful n m
     → Lawful n record { passes = upd m.passes t (record (m.passes t) { stage = Stands place }); key = m.key }
 leaves_lawful n m t place is low from l =
     let p : PassView = m.passes t in
@@ -221,11 +225,11 @@ leaves_lawful n m t place is low from l =
     from)
     (l.looks t is))
     (l.latest t is)
-    record { count = rows.count; fresh = rows.fresh; below = rows.below; newest = rows.newest }
+    record { count = rows.count; fresh = rows.fresh; below = rows.below; newest = rows.newest; order = rows.order }
     (λ w early. ⊎_elim
     (λ (at : p.stage ≡ Tries place). ap (λ (s : Stage). place_from t w (place_of s) p.rows) (sym at))
     (λ (at : (v : ℕ) × (p.stage ≡ Inside v)).
-    let f : StageFits m.key.version p.tries p.fresh (Inside at.0) = subst (λ (s : Stage). StageFits m.key.version p.tries p.fresh s) at.1 (l.stages t is) in
+    let f : StageFits m.key.places m.key.version p.tries p.fresh (Inside at.0) = subst (λ (s : Stage). StageFits m.key.places m.key.version p.tries p.fresh s) at.1 (l.stages t is) in
     let f0 = f.0 in
     from_some t w at.0 place (place_of p.stage) p.rows (threads_of t p.fresh p.rows rows.below) (rows.newest at.0 f.2) (omega arith))
     from)
@@ -252,15 +256,16 @@ flags_lawful n m up ever on more l = record {
   threads = l.threads;
   wide = length-replicate (length m.key.looks) Unknown ∙ l.wide;
   most = l.most;
+  small = l.small;
 }
 
-look_fits : (up : List ℕ) (version : ℕ) (p : PassView) (st : Stage) → p.stage ≡ st → StageFits version p.tries p.fresh st → LookFits up (look_of (stand_word st)) p
-look_fits up version p (Stands q) e h =
+look_fits : (up : List ℕ) (places version : ℕ) → places ≤ mark → (p : PassView) (st : Stage) → p.stage ≡ st → StageFits places version p.tries p.fresh st → LookFits up (look_of (stand_word st)) p
+look_fits up places version small p (Stands q) e h =
     let low : q ≢ mark = λ x. omega arith in
     subst (λ (b : Bool). LookFits up (if b then SawInside else SawPlace q) p) (sym (ne_eqb q mark low)) (λ _. inl e)
-look_fits up version p (Tries q) e h = h.1
-look_fits up version p (Clear q) e h = h.1
-look_fits up version p (Inside q) e h = h.1
+look_fits up places version small p (Tries q) e h = h.1
+look_fits up places version small p (Clear q) e h = h.1
+look_fits up places version small p (Inside q) e h = h.1
 
 -- kind 6
 pub looks_lawful : (n : ℕ) (m : Machine) (t : ℕ) → IsThread n t → Lawful n m
@@ -273,7 +278,7 @@ looks_lawful n m t is l =
       looks = λ j h. dite (ℕ_discrete j t)
           (λ e. subst (λ (x : ℕ). LookFits m.key.up (get_or (set m.key.looks t new) x Unknown) (m.passes x)) (sym e)
           (subst (λ (x : Look). LookFits m.key.up x (m.passes t)) (sym (get_or-set_same m.key.looks t new Unknown (omega arith)))
-          (look_fits m.key.up m.key.version (m.passes t) (m.passes t).stage refl (l.stages t is))))
+          (look_fits m.key.up m.key.places m.key.version l.small (m.passes t) (m.passes t).stage refl (l.stages t is))))
           (λ other. subst (λ (x : Look). LookFits m.key.up x (m.passes j)) (sym (get_or-set_other m.key.looks t j new Unknown other)) (l.looks j h));
       latest = l.latest;
       raised = l.raised;
@@ -282,13 +287,14 @@ looks_lawful n m t is l =
       threads = l.threads;
       wide = length-set m.key.looks t new ∙ l.wide;
       most = l.most;
+      small = l.small;
     }
 
-outside : (version tries fresh : ℕ) (st : Stage) (place : ℕ) → (st ≡ Stands place) ⊎ (st ≡ Tries place) → StageFits version tries fresh st → StageFits (version + 1) tries fresh st
-outside version tries fresh (Stands p) place e h = h
-outside version tries fresh (Tries p) place e h = h
-outside version tries fresh (Clear p) place e h = h
-outside version tries fresh (Inside v) place e h = absurd (clear_not_found (Inside v) v place (inl refl) e)
+outside : (places version tries fresh : ℕ) (st : Stage) (place : ℕ) → (st ≡ Stands place) ⊎ (st ≡ Tries place) → StageFits places version tries fresh st → StageFits places (version + 1) tries fresh st
+outside places version tries fresh (Stands p) place e h = h
+outside places version tries fresh (Tries p) place e h = h
+outside places version tries fresh (Clear p) place e h = h
+outside places version tries fresh (Inside v) place e h = absurd (clear_not_found (Inside v) v place (inl refl) e)
 
 -- a pass found at a raised place stands there, or tries from there
 pub found_there : (n : ℕ) (m : Machine) (t place : ℕ) → IsThread n t → get_or m.key.looks t Unknown ≡ SawPlace place → has_place m.key.up place ≡ true → Lawful n m → ((m.passes t).stage ≡ Stands place) ⊎ ((m.passes t).stage ≡ Tries place)
@@ -299,7 +305,7 @@ pub nobody_inside : (n : ℕ) (m : Machine) → AllStood n m.key → Lawful n m 
 nobody_inside n m all l t is = let a = all t is in (a.0, found_there n m t a.0 is a.1 a.2 l)
 
 later_rows : (t version : ℕ) (p : PassView) → RowsFit t version p → RowsFit t (version + 1) p
-later_rows t version p r = let f = r.fresh in record { count = r.count; fresh = omega arith; below = r.below; newest = r.newest }
+later_rows t version p r = let f = r.fresh in record { count = r.count; fresh = omega arith; below = r.below; newest = r.newest; order = r.order }
 
 -- the rows of a switch tell where each pass stands, or from where it tries
 new_rows : (n : ℕ) (m : Machine) (k : ℕ) → k ≤ n → AllStood n m.key → Lawful n m → (m' : Machine) → m'.passes ≡ m.passes → m'.key.version ≡ m.key.version + 1
@@ -331,7 +337,7 @@ switches_lawful n m all low l =
     let threads = l.threads in
     let m' : Machine = record { passes = m.passes; key = record m.key { version = m.key.version + 1; switches = m.key.switches ++ switch_rows (m.key.version + 1) m.key.looks m.key.threads } } in
     record {
-      stages = λ t is. let a = nobody_inside n m all l t is in outside m.key.version (m.passes t).tries (m.passes t).fresh (m.passes t).stage a.0 a.1 (l.stages t is);
+      stages = λ t is. let a = nobody_inside n m all l t is in outside m.key.places m.key.version (m.passes t).tries (m.passes t).fresh (m.passes t).stage a.0 a.1 (l.stages t is);
       looks = l.looks;
       latest = l.latest;
       raised = l.raised;
@@ -342,10 +348,12 @@ switches_lawful n m all low l =
       threads = l.threads;
       wide = l.wide;
       most = omega arith;
+      small = l.small;
     }
 
-pub word_low : (version tries fresh : ℕ) (st : Stage) → StageFits version tries fresh st → stand_word st ≤ mark
-word_low version tries fresh (Stands p) h = omega arith
-word_low version tries fresh (Tries p) h = omega arith
-word_low version tries fresh (Clear p) h = omega arith
-word_low version tries fresh (Inside v) h = omega arith
+-- a thread's word is the mark, or a place of the gate
+pub word_low : (places version tries fresh : ℕ) (st : Stage) → places ≤ mark → StageFits places version tries fresh st → (stand_word st ≤ mark) × (stand_word st < mark → stand_word st < places)
+word_low places version tries fresh (Stands p) small h = (omega arith, λ _. h)
+word_low places version tries fresh (Tries p) small h = (omega arith, λ low. absurd (omega arith))
+word_low places version tries fresh (Clear p) small h = (omega arith, λ low. absurd (omega arith))
+word_low places version tries fresh (Inside v) small h = (omega arith, λ low. absurd (omega arith))

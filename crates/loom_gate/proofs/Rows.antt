@@ -2,7 +2,7 @@
 use Rattle.std.proofs.Common.{◌≡◌, ℕ, zero, suc, ◌+◌, ◌<◌, ◌≤◌, ◌==◌, ◌&&◌, eq-eqb, ne_eqb, leb, le-leb, leb-true, leb-false, Bool, true, false, true≢false, if◌then◌else◌, List, [], ◌∷◌, ◌++◌, length, sym, refl, ap, ◌∙◌, arith, All}
 use Rattle.std.proofs.lemmas.Bool.{lt-leb}
 use Rattle.loom_gate.specs.declared.log.PassRow.{PassRow}
-use Rattle.loom_gate.specs.Record.{is_from, place_from, has_version}
+use Rattle.loom_gate.specs.Record.{is_from, place_from, has_version, IsBefore, AreInOrder}
 
 pub all_snoc : {A : Type 0} (P : A → Type 0) (xs : List A) (x : A) → All P xs → P x → All P (xs ++ x ∷ [])
 all_snoc P [] x h p zero d l = p
@@ -68,3 +68,14 @@ version_none v (x ∷ xs) h =
     let low = h 0 x (omega arith) in
     ap (λ (b : Bool). if b then true else has_version v xs) (ne_eqb x.version v (λ e. omega arith))
     ∙ version_none v xs (λ k d l. h (suc k) d (omega arith))
+
+pub order_append : (xs ys : List PassRow) → AreInOrder xs → AreInOrder ys → All (λ (x : PassRow). All (IsBefore x) ys) xs → AreInOrder (xs ++ ys)
+order_append [] ys a b across = b
+order_append (x ∷ xs) ys a b across = (all_append (IsBefore x) xs ys a.0 (across 0 x (omega arith)), order_append xs ys a.1 b (λ k d l. across (suc k) d (omega arith)))
+
+all_one : {A : Type 0} (P : A → Type 0) (x : A) → P x → All P (x ∷ [])
+all_one P x p zero d l = p
+all_one P x p (suc k) d l = absurd (omega arith)
+
+pub order_snoc : (xs : List PassRow) (r : PassRow) → AreInOrder xs → All (λ (x : PassRow). IsBefore x r) xs → AreInOrder (xs ++ r ∷ [])
+order_snoc xs r a before = order_append xs (r ∷ []) a (λ k d l. absurd (omega arith), tt) (all_map (λ (x : PassRow). IsBefore x r) (λ (x : PassRow). All (IsBefore x) (r ∷ [])) xs (λ x h. all_one (IsBefore x) r h) before)

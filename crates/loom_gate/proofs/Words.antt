@@ -14,7 +14,7 @@ use Rattle.loom_gate.specs.declared.view.Look.TheVariants.{Unknown}
 use Rattle.loom_gate.specs.declared.view.KeyView.{KeyView}
 use Rattle.loom_gate.specs.declared.view.View.{View}
 use Rattle.loom_gate.specs.declared.view.View.TheVariants.{Pass, Key, Nobody}
-use Rattle.loom_gate.specs.View.{stand_word, start, first_key, more, joined}
+use Rattle.loom_gate.specs.View.{mark, stand_word, flag_words, start, first_key, more, joined}
 use Rattle.loom_gate.specs.Machine.{Machine, Lawful, LookFits, WasRaised}
 use Rattle.loom_gate.specs.Rule.{SeatFits, GateHolds}
 use Rattle.loom_gate.proofs.Machines.{upd, upd_same, upd_other}
@@ -117,10 +117,10 @@ at_zero : {A : Type 0} (w v : A) (i : ℕ) → get_elem? (w ∷ []) i ≡ some v
 at_zero w v zero e = (refl, some-injective w v e)
 at_zero w v (suc i) e = absurd (some-ne-none v (sym e))
 
-module _ (n f : ℕ) where
+module _ (n places : ℕ) where
   -- a pass's step that stores its own word
-  pub store_stand : (ws : List ℕ) (vs : List View) (k : GateHolds n f ws vs) (id t : ℕ) (p q : PassView) (x : ℕ) → get_elem? vs id ≡ some (Pass t p) → x ≡ stand_word q.stage
-      → Lawful n record { passes = upd k.machine.passes t q; key = k.machine.key } → GateHolds n f (set ws t x) (set vs id (Pass t q))
+  pub store_stand : (ws : List ℕ) (vs : List View) (k : GateHolds n places ws vs) (id t : ℕ) (p q : PassView) (x : ℕ) → get_elem? vs id ≡ some (Pass t p) → x ≡ stand_word q.stage
+      → Lawful n record { passes = upd k.machine.passes t q; key = k.machine.key } → GateHolds n places (set ws t x) (set vs id (Pass t q))
   store_stand ws vs k id t p q x at word lawful =
       let mine = k.seats id (Pass t p) at in
       let wide = k.wide in let many = k.many in let a = mine.0.0 in let b = mine.0.1 in
@@ -131,6 +131,7 @@ module _ (n f : ℕ) where
         holder = k.holder;
         wide = omega arith;
         many = k.many;
+        size = k.size;
         version = get_or-set_other ws t 0 x 0 (λ e. omega arith) ∙ k.version;
         stands = λ j is. dite (ℕ_discrete j t)
             (λ e. subst (λ (y : ℕ). get_or (set ws t x) y 0 ≡ stand_word (upd k.machine.passes t q y).stage) (sym e)
@@ -146,16 +147,17 @@ module _ (n f : ℕ) where
       }
 
   -- a pass's load
-  pub load_pass : (ws : List ℕ) (vs : List View) (k : GateHolds n f ws vs) (id t i : ℕ) (p q : PassView) → get_elem? vs id ≡ some (Pass t p) → stand_word p.stage ≡ stand_word q.stage
-      → Lawful n record { passes = upd k.machine.passes t q; key = k.machine.key } → GateHolds n f (set ws i (get_or ws i 0)) (set vs id (Pass t q))
+  pub load_pass : (ws : List ℕ) (vs : List View) (k : GateHolds n places ws vs) (id t i : ℕ) (p q : PassView) → get_elem? vs id ≡ some (Pass t p) → stand_word p.stage ≡ stand_word q.stage
+      → Lawful n record { passes = upd k.machine.passes t q; key = k.machine.key } → GateHolds n places (set ws i (get_or ws i 0)) (set vs id (Pass t q))
   load_pass ws vs k id t i p q at word lawful =
       let mine = k.seats id (Pass t p) at in
-      subst (λ (xs : List ℕ). GateHolds n f xs (set vs id (Pass t q))) (sym (same_word ws i)) record {
+      subst (λ (xs : List ℕ). GateHolds n places xs (set vs id (Pass t q))) (sym (same_word ws i)) record {
         machine = record { passes = upd k.machine.passes t q; key = k.machine.key };
         owner = k.owner;
         holder = k.holder;
         wide = k.wide;
         many = k.many;
+        size = k.size;
         version = k.version;
         stands = λ j is. dite (ℕ_discrete j t)
             (λ e. subst (λ (y : ℕ). get_or ws y 0 ≡ stand_word (upd k.machine.passes t q y).stage) (sym e)
@@ -171,24 +173,24 @@ module _ (n f : ℕ) where
       }
 
   -- a word of flags, found in the table, tells of places that are up
-  pub found_up : (ws : List ℕ) (vs : List View) (k : GateHolds n f ws vs) (place : ℕ) → place / 64 < length k.machine.key.up → has_bit (get_or ws ((n + 1) + place / 64) 0) place ≡ has_place k.machine.key.up place
+  pub found_up : (ws : List ℕ) (vs : List View) (k : GateHolds n places ws vs) (place : ℕ) → place / 64 < length k.machine.key.up → has_bit (get_or ws ((n + 1) + place / 64) 0) place ≡ has_place k.machine.key.up place
   found_up ws vs k place low = ap (λ (w : ℕ). has_bit w place) (k.flags (place / 64) low)
 
-  pub raised_of : (ws : List ℕ) (vs : List View) (k : GateHolds n f ws vs) (i : ℕ) → i < (n + 1) + f → (q : ℕ) → (n + 1) + q / 64 ≡ i → has_bit (get_or ws i 0) q ≡ true → WasRaised k.machine.key.ever q
+  pub raised_of : (ws : List ℕ) (vs : List View) (k : GateHolds n places ws vs) (i : ℕ) → i < (n + 1) + flag_words places → (q : ℕ) → (n + 1) + q / 64 ≡ i → has_bit (get_or ws i 0) q ≡ true → WasRaised k.machine.key.ever q
   raised_of ws vs k i low q e on =
       let many = k.many in
       let inside : q / 64 < length k.machine.key.up = omega arith in
       k.lawful.raised q (sym (found_up ws vs k q inside) ∙ subst (λ (j : ℕ). has_bit (get_or ws j 0) q ≡ true) (sym e) on)
 
   -- the seats, where the key says something new
-  pub key_seats : (ws : List ℕ) (vs : List View) (k : GateHolds n f ws vs) (id : ℕ) (l l' : KeyView) → get_elem? vs id ≡ some (Key l) → k.machine.key.born ≤ l'.born → l'.finals ≡ k.machine.key.finals → (j : ℕ) (u : View) → get_elem? (set vs id (Key l')) j ≡ some u
+  pub key_seats : (ws : List ℕ) (vs : List View) (k : GateHolds n places ws vs) (id : ℕ) (l l' : KeyView) → get_elem? vs id ≡ some (Key l) → k.machine.key.born ≤ l'.born → l'.finals ≡ k.machine.key.finals → (j : ℕ) (u : View) → get_elem? (set vs id (Key l')) j ≡ some u
       → SeatFits n record { passes = k.machine.passes; key = l' } k.owner k.holder j u
   key_seats ws vs k id l l' at grows same = let mine = k.seats id (Key l) at in
       all_set (SeatFits n record { passes = k.machine.passes; key = l' } k.owner k.holder) vs id (Key l') (mine.0, refl) (λ j u other e. seat_by_key n k.machine k.owner k.holder l' j u grows same (λ z. other (z ∙ mine.0)) (k.seats j u e))
 
   -- the key makes the next pass
-  pub key_makes : (ws : List ℕ) (vs : List View) (k : GateHolds n f ws vs) (id : ℕ) (l : KeyView) → l.born < n → l.finals ≡ [] → get_elem? vs id ≡ some (Key l)
-      → GateHolds n f ws (set vs id (Key (more l)) ++ Pass (l.born + 1) start ∷ [])
+  pub key_makes : (ws : List ℕ) (vs : List View) (k : GateHolds n places ws vs) (id : ℕ) (l : KeyView) → l.born < n → l.finals ≡ [] → get_elem? vs id ≡ some (Key l)
+      → GateHolds n places ws (set vs id (Key (more l)) ++ Pass (l.born + 1) start ∷ [])
   key_makes ws vs k id l room alone at =
       let mine = k.seats id (Key l) at in
       let old : KeyView = k.machine.key in
@@ -209,6 +211,7 @@ module _ (n f : ℕ) where
         holder = k.holder;
         wide = k.wide;
         many = k.many;
+        size = k.size;
         version = k.version;
         stands = k.stands;
         flags = k.flags;
@@ -218,12 +221,12 @@ module _ (n f : ℕ) where
             (at_snoc_here us (Pass (l.born + 1) start) u j e);
         unborn = λ t h. k.unborn t (omega arith);
         finals = k.finals;
-        lawful = record { stages = law.stages; looks = law.looks; latest = law.latest; raised = law.raised; rows = law.rows; switches = law.switches; wide = law.wide; threads = law.threads; most = law.most };
+        lawful = record { stages = law.stages; looks = law.looks; latest = law.latest; raised = law.raised; rows = law.rows; switches = law.switches; wide = law.wide; threads = law.threads; most = law.most; small = law.small };
       }
 
   -- the key takes in the pass of the next thread
-  pub key_joins : (ws : List ℕ) (vs : List View) (k : GateHolds n f ws vs) (id : ℕ) (l : KeyView) (other t : ℕ) (p : PassView) → length l.finals + 1 ≡ t → get_elem? vs id ≡ some (Key l) → ¬ (other ≡ id) → get_elem? vs other ≡ some (Pass t p)
-      → GateHolds n f ws (set (set vs id (Key (joined l p))) other Nobody)
+  pub key_joins : (ws : List ℕ) (vs : List View) (k : GateHolds n places ws vs) (id : ℕ) (l : KeyView) (other t : ℕ) (p : PassView) → length l.finals + 1 ≡ t → get_elem? vs id ≡ some (Key l) → ¬ (other ≡ id) → get_elem? vs other ≡ some (Pass t p)
+      → GateHolds n places ws (set (set vs id (Key (joined l p))) other Nobody)
   key_joins ws vs k id l other t p next at apart there =
       let mine = k.seats id (Key l) at in
       let pass = k.seats other (Pass t p) there in
@@ -239,6 +242,7 @@ module _ (n f : ℕ) where
         holder = k.holder;
         wide = k.wide;
         many = k.many;
+        size = k.size;
         version = k.version;
         stands = k.stands;
         flags = k.flags;
@@ -251,36 +255,39 @@ module _ (n f : ℕ) where
         finals = λ j h. dite (ℕ_discrete j (length old.finals))
             (λ e. ap (λ (x : ℕ). k.machine.passes x) (ap (λ (x : ℕ). x + 1) e ∙ many) ∙ (sym pass.2 ∙ sym (ap (λ (x : ℕ). get_or (old.finals ++ p ∷ []) x start) e ∙ index_snoc old.finals p start)))
             (λ ne. let len = length_one old.finals p in k.finals j (omega arith) ∙ sym (index_before old.finals p start j (omega arith)));
-        lawful = record { stages = law.stages; looks = law.looks; latest = law.latest; raised = law.raised; rows = law.rows; switches = law.switches; wide = law.wide; threads = law.threads; most = law.most };
+        lawful = record { stages = law.stages; looks = law.looks; latest = law.latest; raised = law.raised; rows = law.rows; switches = law.switches; wide = law.wide; threads = law.threads; most = law.most; small = law.small };
       }
 
   -- the gate as it is made
-  pub begins : (ws : List ℕ) → ws ≡ replicate ((n + 1) + f) 0 → GateHolds n f ws (Key (first_key n f) ∷ [])
-  begins ws e =
-      let m : Machine = record { passes = λ _. start; key = first_key n f } in
-      let zero_at : (i : ℕ) → get_or ws i 0 ≡ 0 = λ i. ap (λ (xs : List ℕ). get_or xs i 0) e ∙ zeros ((n + 1) + f) i in
-      let len : length ws ≡ (n + 1) + f = ap (λ (xs : List ℕ). length xs) e ∙ length-replicate ((n + 1) + f) 0 in
+  pub begins : (ws : List ℕ) → (0 < places) × (places ≤ mark) → ws ≡ replicate ((n + 1) + flag_words places) 0 → GateHolds n places ws (Key (first_key n places) ∷ [])
+  begins ws size e =
+      let some = size.0 in
+      let m : Machine = record { passes = λ _. start; key = first_key n places } in
+      let zero_at : (i : ℕ) → get_or ws i 0 ≡ 0 = λ i. ap (λ (xs : List ℕ). get_or xs i 0) e ∙ zeros ((n + 1) + flag_words places) i in
+      let len : length ws ≡ (n + 1) + flag_words places = ap (λ (xs : List ℕ). length xs) e ∙ length-replicate ((n + 1) + flag_words places) 0 in
       record {
         machine = m;
         owner = λ _. 0;
         holder = 0;
         wide = omega arith;
-        many = length-replicate f 0;
+        many = length-replicate (flag_words places) 0;
+        size = refl;
         version = zero_at 0;
         stands = λ t h. zero_at t;
-        flags = λ w h. zero_at ((n + 1) + w) ∙ sym (zeros f w);
-        seats = λ i v d. subst (λ (x : ℕ × View). SeatFits n m (λ _. 0) 0 x.0 x.1) (λ k. (sym (at_zero (Key (first_key n f)) v i d).0 k, (at_zero (Key (first_key n f)) v i d).1 k)) (refl, refl);
+        flags = λ w h. zero_at ((n + 1) + w) ∙ sym (zeros (flag_words places) w);
+        seats = λ i v d. subst (λ (x : ℕ × View). SeatFits n m (λ _. 0) 0 x.0 x.1) (λ k. (sym (at_zero (Key (first_key n places)) v i d).0 k, (at_zero (Key (first_key n places)) v i d).1 k)) (refl, refl);
         unborn = λ t h. refl;
         finals = λ t h. absurd (omega arith);
         lawful = record {
           stages = λ t h. omega arith;
-          looks = λ t h. subst (λ (x : Look). LookFits (replicate f 0) x start) (sym (unknowns (n + 1) t)) tt;
+          looks = λ t h. subst (λ (x : Look). LookFits (replicate (flag_words places) 0) x start) (sym (unknowns (n + 1) t)) tt;
           latest = λ t h. tt;
-          raised = λ p on. absurd (true≢false (sym on ∙ none_up f p));
-          rows = λ t h. record { count = omega arith; fresh = omega arith; below = λ k d l. absurd (omega arith); newest = λ v e. absurd (omega arith) };
+          raised = λ p on. absurd (true≢false (sym on ∙ none_up (flag_words places) p));
+          rows = λ t h. record { count = omega arith; fresh = omega arith; below = λ k d l. absurd (omega arith); newest = λ v e. absurd (omega arith); order = tt };
           switches = λ k d l. absurd (omega arith);
           wide = length-replicate (n + 1) Unknown;
           threads = refl;
           most = omega arith;
+          small = size.1;
         };
       }

@@ -10,7 +10,7 @@ use Rattle.loom_gate.specs.declared.view.Look.{Look}
 use Rattle.loom_gate.specs.declared.view.Look.TheVariants.{Unknown, SawInside, SawPlace}
 use Rattle.loom_gate.specs.declared.view.KeyView.{KeyView}
 use Rattle.loom_gate.specs.View.{mark, place_of}
-use Rattle.loom_gate.specs.Record.{place_from, has_version}
+use Rattle.loom_gate.specs.Record.{place_from, has_version, AreInOrder}
 
 -- threads are 1 to n
 abbrev pub IsThread : ℕ → ℕ → Type 0
@@ -21,12 +21,12 @@ pub record Machine : Type 0 where
   pub passes : ℕ → PassView
   pub key : KeyView
 
--- a pass inside has the version; a pass that doesn't stand has tried
-abbrev pub StageFits : ℕ → ℕ → ℕ → Stage → Type 0
-StageFits version tries fresh (Stands p) = p < mark
-StageFits version tries fresh (Tries p) = (p < mark) × (0 < tries)
-StageFits version tries fresh (Clear p) = (p < mark) × (0 < tries)
-StageFits version tries fresh (Inside v) = (v ≡ version) × (0 < tries) × (fresh ≡ v + 1)
+-- a place is one of the gate's; a pass inside has the version; a pass that doesn't stand has tried
+abbrev pub StageFits : ℕ → ℕ → ℕ → ℕ → Stage → Type 0
+StageFits places version tries fresh (Stands p) = p < places
+StageFits places version tries fresh (Tries p) = (p < places) × (0 < tries)
+StageFits places version tries fresh (Clear p) = (p < places) × (0 < tries)
+StageFits places version tries fresh (Inside v) = (v ≡ version) × (0 < tries) × (fresh ≡ v + 1)
 
 -- a pass found at a raised place stands there, or has tried from there and has no clear check; a pass found inside has tried
 abbrev pub LookFits : List ℕ → Look → PassView → Type 0
@@ -50,6 +50,7 @@ pub record RowsFit (t version : ℕ) (p : PassView) : Type 0 where
   pub fresh : p.fresh ≤ version + 1
   pub below : All (λ (r : PassRow). (r.thread ≡ t) × (r.version < p.fresh)) p.rows
   pub newest : (v : ℕ) → p.fresh ≡ v + 1 → has_version v p.rows ≡ true
+  pub order : AreInOrder p.rows
 
 -- the place read at a switch is where the pass next entered from, or the place from which it still has to enter
 abbrev pub SwitchFits : ℕ → Machine → SwitchRow → Type 0
@@ -57,7 +58,7 @@ SwitchFits n m w = IsThread n w.thread × (w.version ≤ m.key.version) × (plac
 
 -- what is so at every moment, in a gate of n threads
 pub record Lawful (n : ℕ) (m : Machine) : Type 0 where
-  pub stages : (t : ℕ) → IsThread n t → StageFits m.key.version (m.passes t).tries (m.passes t).fresh (m.passes t).stage
+  pub stages : (t : ℕ) → IsThread n t → StageFits m.key.places m.key.version (m.passes t).tries (m.passes t).fresh (m.passes t).stage
   pub looks : (t : ℕ) → IsThread n t → LookFits m.key.up (slice_index_or m.key.looks t Unknown) (m.passes t)
   pub latest : (t : ℕ) → IsThread n t → LatestFits n m.key.ever (m.passes t).latest
   pub raised : (p : ℕ) → has_place m.key.up p ≡ true → WasRaised m.key.ever p
@@ -66,6 +67,8 @@ pub record Lawful (n : ℕ) (m : Machine) : Type 0 where
   pub wide : length m.key.looks ≡ n + 1
   pub threads : m.key.threads ≡ n
   pub most : m.key.version ≤ 128
+  -- the mark is no place
+  pub small : m.key.places ≤ mark
 
 -- each thread was found standing at a raised place since the flags were stored
 abbrev pub AllStood : ℕ → KeyView → Type 0
@@ -75,10 +78,10 @@ AllStood n k = (t : ℕ) → IsThread n t → (place : ℕ) × (slice_index_or k
 abbrev pub NobodyInside : ℕ → Machine → Type 0
 NobodyInside n m = (t : ℕ) → IsThread n t → (place : ℕ) × (((m.passes t).stage ≡ Stands place) ⊎ ((m.passes t).stage ≡ Tries place))
 
--- at some lawful moment the pass of thread t knew p, and F held of the machine
+-- there is a lawful machine in which the pass of thread t knows p, and F holds of it
 abbrev pub Amid : ℕ → PassView → (Machine → Type 0) → Type 0
 Amid t p F = (n : ℕ) × (m : Machine) × Lawful n m × IsThread n t × (m.passes t ≡ p) × F m
 
--- at some lawful moment the key knew k, and F held of the machine
+-- there is a lawful machine in which the key knows k, and F holds of it
 abbrev pub AmidKey : KeyView → (ℕ → Machine → Type 0) → Type 0
 AmidKey k F = (n : ℕ) × (m : Machine) × Lawful n m × (m.key ≡ k) × F n m

@@ -1,5 +1,5 @@
 -- The record of a gate.
-use Rattle.std.specs.Prelude.{◌≡◌, ℕ, ◌-◌, ◌==◌, ◌&&◌, leb, Bool, true, false, if◌then◌else◌, List, [], ◌∷◌, slice_index_or, All}
+use Rattle.std.specs.Prelude.{◌≡◌, ◌⊎◌, ℕ, ◌-◌, ◌<◌, ◌==◌, ◌&&◌, leb, Bool, true, false, if◌then◌else◌, List, [], ◌∷◌, slice_index_or, All}
 use Rattle.loom_gate.specs.declared.log.PassRow.{PassRow}
 use Rattle.loom_gate.specs.declared.log.SwitchRow.{SwitchRow}
 use Rattle.loom_gate.specs.declared.log.GateLog.{GateLog}
@@ -17,6 +17,14 @@ place_from t version end (r ∷ rs) = if is_from t version r then r.place else p
 abbrev pub has_version : ℕ → List PassRow → Bool
 has_version version [] = false
 has_version version (r ∷ rs) = if r.version == version then true else has_version version rs
+
+-- the threads rise, and of each thread the versions
+abbrev pub IsBefore : PassRow → PassRow → Type 0
+IsBefore r s = (r.thread < s.thread) ⊎ ((r.thread ≡ s.thread) × (r.version < s.version))
+
+abbrev pub AreInOrder : List PassRow → Type 0
+AreInOrder [] = Unit {0}
+AreInOrder (r ∷ rs) = All (IsBefore r) rs × AreInOrder rs
 
 -- each place read at a switch is where that thread's pass next entered from, or stands at the end
 abbrev pub IsSound : GateLog → Type 0

@@ -1,16 +1,12 @@
 -- The rule of a gate's table: its words and its seats' views are those of a lawful machine.
 -- It speaks of the first words and of the gate's part of each view alone, so that a guest's words and views can stand beside.
-use Rattle.std.specs.Prelude.{◌≡◌, ℕ, ◌+◌, ◌/◌, ◌<◌, ◌≤◌, List, length, slice_index, slice_index_or}
+use Rattle.std.specs.Prelude.{◌≡◌, ℕ, ◌+◌, ◌<◌, ◌≤◌, List, length, slice_index, slice_index_or}
 use mathlib.Core.Option.{some}
 use lib.ListN.{get_elem?}
 use Rattle.loom_gate.specs.declared.view.View.{View}
 use Rattle.loom_gate.specs.declared.view.View.TheVariants.{Pass, Key, Nobody}
-use Rattle.loom_gate.specs.View.{start, stand_word}
+use Rattle.loom_gate.specs.View.{start, stand_word, flag_words}
 use Rattle.loom_gate.specs.Machine.{IsThread, Machine, Lawful}
-
--- how many words have a bit for each of so many places
-abbrev pub flag_words : ℕ → ℕ
-flag_words places = (places + 63) / 64
 
 module _ (n : ℕ) (m : Machine) (owner : ℕ → ℕ) (holder : ℕ) where
   -- the view of seat i is what the machine says
@@ -19,14 +15,15 @@ module _ (n : ℕ) (m : Machine) (owner : ℕ → ℕ) (holder : ℕ) where
   SeatFits i (Key k) = (holder ≡ i) × (k ≡ m.key)
   SeatFits i Nobody = Unit {0}
 
--- word 0 is the version, words 1 to n are the threads', and f words of flags follow
-pub record GateHolds (n f : ℕ) (words : List ℕ) (views : List View) : Type 0 where
+-- word 0 is the version, words 1 to n are the threads', and the words of flags follow
+pub record GateHolds (n places : ℕ) (words : List ℕ) (views : List View) : Type 0 where
   pub machine : Machine
   -- the seat of each thread's pass, and that of the key
   pub owner : ℕ → ℕ
   pub holder : ℕ
-  pub wide : (n + 1) + f ≤ length words
-  pub many : length machine.key.up ≡ f
+  pub wide : (n + 1) + flag_words places ≤ length words
+  pub many : length machine.key.up ≡ flag_words places
+  pub size : machine.key.places ≡ places
   pub version : slice_index words 0 ≡ machine.key.version
   pub stands : (t : ℕ) → IsThread n t → slice_index words t ≡ stand_word (machine.passes t).stage
   pub flags : (w : ℕ) → w < length machine.key.up → slice_index words ((n + 1) + w) ≡ slice_index_or machine.key.up w 0

@@ -4,6 +4,7 @@ use Rattle.std.specs.Vec.{vec_capacity}
 use Rattle.atomic_table.specs.Seated.{TableId}
 use Rattle.loom_trace.specs.Places.{has_bit}
 use Rattle.loom_gate.specs.declared.log.PassRow.{PassRow}
+use Rattle.loom_gate.specs.declared.log.SwitchRow.{SwitchRow}
 use Rattle.loom_gate.specs.declared.gate.Gate as gate
 use Rattle.loom_gate.specs.declared.pass.Pass as pass
 use Rattle.loom_gate.specs.declared.key.Key as key
@@ -13,9 +14,8 @@ use Rattle.loom_gate.specs.declared.view.Look.{Look}
 use Rattle.loom_gate.specs.declared.view.Look.TheVariants.{Unknown, SawInside, SawPlace}
 use Rattle.loom_gate.specs.declared.view.KeyView.{KeyView}
 use Rattle.loom_gate.specs.declared.view.View.TheVariants.{Pass, Key}
-use Rattle.loom_gate.specs.View.{pass_of, key_of}
+use Rattle.loom_gate.specs.View.{pass_of, key_of, flag_words}
 use Rattle.loom_gate.specs.Machine.{IsThread}
-use Rattle.loom_gate.specs.Rule.{flag_words}
 
 -- how many threads and places a gate has
 abbrev pub threads_of : gate.Gate → ℕ
@@ -34,6 +34,29 @@ view_of_pass p = pass_of p.seat.me.0
 
 abbrev pub view_of_key : key.Key → KeyView
 view_of_key k = key_of k.seat.me.0
+
+-- the thread of a pass, the place where it stands or entered from, and its rows so far
+abbrev pub thread_of_pass : pass.Pass → ℕ
+thread_of_pass p = p.thread
+
+abbrev pub place_of_pass : pass.Pass → ℕ
+place_of_pass p = p.place
+
+abbrev pub rows_of_pass : pass.Pass → List PassRow
+rows_of_pass p = p.rows.items
+
+-- the newest version, how many switches are left, whether flags were raised and not lowered, and the rows of switches so far
+abbrev pub version_of : key.Key → ℕ
+version_of k = k.version
+
+abbrev pub switches_left : key.Key → ℕ
+switches_left k = k.left
+
+abbrev pub has_flags_up : key.Key → Bool
+has_flags_up k = k.up
+
+abbrev pub rows_of_key : key.Key → List SwitchRow
+rows_of_key k = k.rows.items
 
 -- a pass of the table, of a gate of n threads and so many places
 abbrev pub IsPassAt : TableId → ℕ → ℕ → pass.Pass → Type 0
@@ -74,7 +97,7 @@ abbrev pub IsKeyOf : gate.Gate → key.Key → Type 0
 IsKeyOf g k = (k.seat.table_id ≡ g.table.shared.table_id) × (k.seat.me ≡ (Key (view_of_key k), [])) × ((view_of_key k).threads ≡ threads_of g) × (length (view_of_key k).up ≡ flag_words (places_of g))
     × ((view_of_key k).version ≡ k.version) × (k.version + k.left ≤ 128) × (k.rows.items ≡ (view_of_key k).switches) × (length k.rows.items + k.left * threads_of g ≤ vec_capacity k.rows)
     × (length k.places.items ≡ threads_of g + 1) × ((t : ℕ) → SeenAs (slice_index_or (view_of_key k).looks t Unknown) (slice_index k.places.items t))
-    × (length (view_of_key k).looks ≡ threads_of g + 1) × ((view_of_key k).finals ≡ [])
+    × (length (view_of_key k).looks ≡ threads_of g + 1) × ((view_of_key k).finals ≡ []) × ((view_of_key k).places ≡ places_of g)
 
 -- the rows of these passes, one behind another
 abbrev pub rows_of : List pass.Pass → List PassRow

@@ -1,5 +1,5 @@
 -- What each kind of step tells its seat.
-use Rattle.std.specs.Prelude.{◌≡◌, ℕ, ◌≤◌}
+use Rattle.std.specs.Prelude.{◌≡◌, ℕ, ◌<◌, ◌≤◌}
 use Rattle.atomic_table.specs.Table.{Me, Step}
 use Rattle.loom_trace.specs.Places.{has_bit, has_place}
 use Rattle.loom_gate.specs.declared.view.PassView.{PassView}
@@ -37,8 +37,9 @@ module _ {S : Type 0} where
   abbrev pub Flags : Step S → Me S View → ℕ → Me S View → Type 0
   Flags st m n m' = m' ≡ keyed m (flagged st.word st.first)
 
+  -- the mark, or a place of the gate
   abbrev pub Looks : Step S → Me S View → ℕ → Me S View → Type 0
-  Looks st m n m' = (m' ≡ keyed m (looked st.word n)) × (n ≤ mark)
+  Looks st m n m' = (m' ≡ keyed m (looked st.word n)) × (n ≤ mark) × (n < mark → n < (key_of m.0).places)
 
   -- nobody was inside at that moment
   abbrev pub Switches : Step S → Me S View → ℕ → Me S View → Type 0

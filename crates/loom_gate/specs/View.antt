@@ -1,5 +1,5 @@
 -- What passes and the key know, and how each kind of step changes it.
-use Rattle.std.specs.Prelude.{ℕ, zero, suc, ◌+◌, ◌-◌, ◌==◌, if◌then◌else◌, List, [], ◌∷◌, ◌++◌, length, slice_index_or, slice_set, replicate, Some, None}
+use Rattle.std.specs.Prelude.{ℕ, zero, suc, ◌+◌, ◌-◌, ◌/◌, ◌==◌, if◌then◌else◌, List, [], ◌∷◌, ◌++◌, length, slice_index_or, slice_set, replicate, Some, None}
 use Rattle.loom_trace.specs.Places.{has_bit}
 use Rattle.loom_gate.specs.declared.log.PassRow.{PassRow}
 use Rattle.loom_gate.specs.declared.log.SwitchRow.{SwitchRow}
@@ -39,12 +39,16 @@ place_seen Unknown = 0
 place_seen SawInside = 0
 place_seen (SawPlace p) = p
 
--- a pass and the key as they are made
+-- how many words have a bit for each of so many places
+abbrev pub flag_words : ℕ → ℕ
+flag_words places = (places + 63) / 64
+
+-- a pass, and the key of a gate of n threads and so many places, as they are made
 abbrev pub start : PassView
 start = record { stage = Stands 0; tries = 0; checks = 0; latest = None; fresh = 0; rows = [] }
 
 abbrev pub first_key : ℕ → ℕ → KeyView
-first_key n f = record { up = replicate f 0; looks = replicate (n + 1) Unknown; count = 0; version = 0; ever = []; threads = n; born = 0; switches = []; finals = [] }
+first_key n places = record { up = replicate (flag_words places) 0; looks = replicate (n + 1) Unknown; count = 0; version = 0; ever = []; threads = n; places = places; born = 0; switches = []; finals = [] }
 
 -- the key after it made a pass
 abbrev pub more : KeyView → KeyView

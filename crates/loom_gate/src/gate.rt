@@ -1,6 +1,6 @@
 //! The gate's table.
 ghost use Rattle.std.specs.Prelude.{◌≡◌, ◌+◌, ◌*◌, ◌<◌, ◌≤◌, [], vec_capacity};
-ghost use Rattle.loom_gate.specs.Rule.{flag_words};
+ghost use Rattle.loom_gate.specs.View.{flag_words};
 
 use crate::log::PassRow;
 use crate::steps::{GateRule, Size};

@@ -2,11 +2,10 @@
 ghost use Rattle.std.specs.Prelude.{◌≡◌, ℕ, ◌+◌, ◌<◌, ◌≤◌, ◌++◌, true, false, length, replicate, slice_index, slice_index_or, slice_set};
 ghost use Rattle.loom_trace.specs.Places.{has_place};
 ghost use Rattle.loom_gate.specs.declared.view.Look.TheVariants.{Unknown};
-ghost use Rattle.loom_gate.specs.View.{switch_rows};
+ghost use Rattle.loom_gate.specs.View.{flag_words, switch_rows};
 ghost use Rattle.loom_gate.specs.Machine.{IsThread, AllStood, AmidKey, NobodyInside};
-ghost use Rattle.loom_gate.specs.Rule.{flag_words};
-ghost use Rattle.loom_gate.specs.Seats.{threads_of, places_of, view_of_key, IsKeyOf};
-ghost use Rattle.loom_gate.specs.Calls.{look_told};
+ghost use Rattle.loom_gate.specs.Seats.{threads_of, places_of, view_of_key, version_of, switches_left, has_flags_up, rows_of_key, IsKeyOf};
+ghost use Rattle.loom_gate.specs.Calls.{IsPlaceBelow, look_told};
 
 use crate::gate::Gate;
 use crate::log::SwitchRow;
@@ -20,7 +19,7 @@ use loom_trace::places::Places;
 pub enum Looked {
     /// The thread tries or is inside.
     Inside,
-    /// The thread stands at this place.
+    /// The thread stands at this place, which is one of the gate's.
     Stands(u16),
 }
 
@@ -42,12 +41,12 @@ impl Key {
     /// Raises the flags of these places.
     pub fn raise(&mut self, gate: &Gate, flags: &Places)
         requires gate { IsKeyOf gate.now self.old }
-        requires down { self.old.up ≡ false }
+        requires down { has_flags_up self.old ≡ false }
         requires places { (p : ℕ) → has_place flags.now p ≡ true → p < places_of gate.now }
         ensures gate { IsKeyOf gate.now self.new }
-        ensures up { (self.new.up ≡ true) × ((p : ℕ) → has_place (view_of_key self.new).up p ≡ has_place flags.now p) }
+        ensures up { (has_flags_up self.new ≡ true) × ((p : ℕ) → has_place (view_of_key self.new).up p ≡ has_place flags.now p) }
         ensures forgotten { (view_of_key self.new).looks ≡ replicate (threads_of gate.now + 1) Unknown }
-        ensures same { (self.new.version ≡ self.old.version) × (self.new.left ≡ self.old.left) × (self.new.rows.items ≡ self.old.rows.items) }
+        ensures same { (version_of self.new ≡ version_of self.old) × (switches_left self.new ≡ switches_left self.old) × (rows_of_key self.new ≡ rows_of_key self.old) }
     {
         self.store(gate, flags.words());
         self.up = true;
@@ -56,11 +55,11 @@ impl Key {
     /// Clears the flags, and forgets the looks.
     pub fn lower(&mut self, gate: &Gate)
         requires gate { IsKeyOf gate.now self.old }
-        requires up { self.old.up ≡ true }
+        requires up { has_flags_up self.old ≡ true }
         ensures gate { IsKeyOf gate.now self.new }
-        ensures down { (self.new.up ≡ false) × ((p : ℕ) → has_place (view_of_key self.new).up p ≡ false) }
+        ensures down { (has_flags_up self.new ≡ false) × ((p : ℕ) → has_place (view_of_key self.new).up p ≡ false) }
         ensures forgotten { (view_of_key self.new).looks ≡ replicate (threads_of gate.now + 1) Unknown }
-        ensures same { (self.new.version ≡ self.old.version) × (self.new.left ≡ self.old.left) × (self.new.rows.items ≡ self.old.rows.items) }
+        ensures same { (version_of self.new ≡ version_of self.old) × (switches_left self.new ≡ switches_left self.old) × (rows_of_key self.new ≡ rows_of_key self.old) }
     {
         let none = Places::none();
         self.store(gate, none.words());
@@ -74,7 +73,7 @@ impl Key {
         ensures gate { IsKeyOf gate.now self.new }
         ensures up { (w : ℕ) → w < flag_words (places_of gate.now) → slice_index_or (view_of_key self.new).up w 0 ≡ slice_index_or words.now w 0 }
         ensures forgotten { (view_of_key self.new).looks ≡ replicate (threads_of gate.now + 1) Unknown }
-        ensures same { (self.new.version ≡ self.old.version) × (self.new.left ≡ self.old.left) × (self.new.rows.items ≡ self.old.rows.items) }
+        ensures same { (version_of self.new ≡ version_of self.old) × (switches_left self.new ≡ switches_left self.old) × (rows_of_key self.new ≡ rows_of_key self.old) }
     {
         let first = usize::from(gate.threads) + 1;
         'words: for w in 0..gate.flags {
@@ -84,15 +83,16 @@ impl Key {
         }
     }
 
-    /// Looks at a thread.
+    /// Where a thread was when this call loaded its word. Threads are 1 to the gate's number of them.
     pub fn look(&mut self, gate: &Gate, t: u8) -> Looked
         requires gate { IsKeyOf gate.now self.old }
         requires thread { IsThread (threads_of gate.now) t }
         ensures gate { IsKeyOf gate.now self.new }
         ensures once { (view_of_key self.new).count ≡ (view_of_key self.old).count + 1 }
         ensures found { (view_of_key self.new).looks ≡ slice_set (view_of_key self.old).looks t (look_told result) }
+        ensures place { IsPlaceBelow (places_of gate.now) result }
         ensures flags { (view_of_key self.new).up ≡ (view_of_key self.old).up }
-        ensures same { (self.new.up ≡ self.old.up) × (self.new.version ≡ self.old.version) × (self.new.left ≡ self.old.left) × (self.new.rows.items ≡ self.old.rows.items) }
+        ensures same { (has_flags_up self.new ≡ has_flags_up self.old) × (version_of self.new ≡ version_of self.old) × (switches_left self.new ≡ switches_left self.old) × (rows_of_key self.new ≡ rows_of_key self.old) }
     {
         let thread = usize::from(t);
         let word = gate.table.shared.load::<LookAt>(&mut self.seat, thread);
@@ -109,12 +109,12 @@ impl Key {
     pub fn switch(&mut self, gate: &Gate)
         requires gate { IsKeyOf gate.now self.old }
         requires stood { AllStood (threads_of gate.now) (view_of_key self.old) }
-        requires left { 0 < self.old.left }
+        requires left { 0 < switches_left self.old }
         ensures gate { IsKeyOf gate.now self.new }
         ensures nobody { AmidKey (view_of_key self.old) NobodyInside }
-        ensures version { (self.new.version ≡ self.old.version + 1) × (self.new.left + 1 ≡ self.old.left) }
-        ensures rows { self.new.rows.items ≡ self.old.rows.items ++ switch_rows (self.old.version + 1) (view_of_key self.old).looks (threads_of gate.now) }
-        ensures same { (self.new.up ≡ self.old.up) × ((view_of_key self.new).up ≡ (view_of_key self.old).up) × ((view_of_key self.new).looks ≡ (view_of_key self.old).looks) }
+        ensures version { (version_of self.new ≡ version_of self.old + 1) × (switches_left self.new + 1 ≡ switches_left self.old) }
+        ensures rows { rows_of_key self.new ≡ rows_of_key self.old ++ switch_rows (version_of self.old + 1) (view_of_key self.old).looks (threads_of gate.now) }
+        ensures same { (has_flags_up self.new ≡ has_flags_up self.old) × ((view_of_key self.new).up ≡ (view_of_key self.old).up) × ((view_of_key self.new).looks ≡ (view_of_key self.old).looks) }
     {
         let version = self.version + 1;
         gate.table

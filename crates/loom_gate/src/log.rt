@@ -20,7 +20,7 @@ pub struct PassRow {
 #[derive(Debug, Drop)]
 pub struct SwitchRows(pub Vec<SwitchRow>);
 
-/// Rows of passes, in order of thread and version.
+/// Rows of passes, in order of thread, and of one thread in order of version.
 #[derive(Debug, Drop)]
 pub struct PassRows(pub Vec<PassRow>);
 

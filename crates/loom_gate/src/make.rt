@@ -2,8 +2,8 @@
 ghost use Rattle.std.specs.Prelude.{◌≡◌, ℕ, ◌+◌, ◌*◌, ◌<◌, ◌≤◌, [], IfOk, false, length, replicate, vec_capacity, All};
 ghost use Rattle.loom_trace.specs.Places.{has_place};
 ghost use Rattle.loom_gate.specs.declared.view.View.TheVariants.{Key};
-ghost use Rattle.loom_gate.specs.Rule.{flag_words};
-ghost use Rattle.loom_gate.specs.Seats.{threads_of, places_of, view_of_pass, view_of_key, IsKeyOf, IsStanding, ArePassesOf};
+ghost use Rattle.loom_gate.specs.View.{flag_words};
+ghost use Rattle.loom_gate.specs.Seats.{threads_of, places_of, view_of_pass, view_of_key, version_of, switches_left, has_flags_up, rows_of_key, place_of_pass, rows_of_pass, IsKeyOf, IsStanding, ArePassesOf};
 
 use crate::gate::Gate;
 use crate::key::Key;
@@ -32,9 +32,9 @@ impl Gate {
         requires { (0 < threads) × (threads ≤ 8) × (0 < places) × (places ≤ 8321) × (switches ≤ 128) }
         ensures size { IfOk result (λ r. (threads_of r.0 ≡ threads) × (places_of r.0 ≡ places)) }
         ensures key { IfOk result (λ r. IsKeyOf r.0 r.1) }
-        ensures first { IfOk result (λ r. (r.1.version ≡ 0) × (r.1.left ≡ switches) × (r.1.rows.items ≡ []) × (r.1.up ≡ false) × ((p : ℕ) → has_place (view_of_key r.1).up p ≡ false)) }
+        ensures first { IfOk result (λ r. (version_of r.1 ≡ 0) × (switches_left r.1 ≡ switches) × (rows_of_key r.1 ≡ []) × (has_flags_up r.1 ≡ false) × ((p : ℕ) → has_place (view_of_key r.1).up p ≡ false)) }
         ensures passes { IfOk result (λ r. ArePassesOf r.0 r.2.0.items) }
-        ensures stand { IfOk result (λ r. All (λ p. IsStanding p × (p.place ≡ 0) × (p.rows.items ≡ [])) r.2.0.items) }
+        ensures stand { IfOk result (λ r. All (λ p. IsStanding p × (place_of_pass p ≡ 0) × (rows_of_pass p ≡ [])) r.2.0.items) }
     {
         let n = usize::from(threads);
         let flags = (usize::from(places) + 63) / 64;

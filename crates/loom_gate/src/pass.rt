@@ -1,9 +1,9 @@
 //! The pass of one thread.
 ghost use Rattle.std.specs.Prelude.{◌≡◌, ◌+◌, ◌<◌, ◌≤◌, ◌/◌, length, vec_capacity};
-ghost use Rattle.loom_gate.specs.View.{tried, with_row};
+ghost use Rattle.loom_gate.specs.View.{with_row};
 ghost use Rattle.loom_gate.specs.Machine.{Amid};
-ghost use Rattle.loom_gate.specs.Seats.{threads_of, places_of, flag_index, view_of_pass, IsPassOf, IsStanding, IsInside, IsInsideAt, FoundBit};
-ghost use Rattle.loom_gate.specs.Calls.{HasEntered, ClearAt, ReadsVersion, rows_after};
+ghost use Rattle.loom_gate.specs.Seats.{threads_of, places_of, flag_index, view_of_pass, thread_of_pass, place_of_pass, rows_of_pass, IsPassOf, IsStanding, IsInside, IsInsideAt, FoundBit};
+ghost use Rattle.loom_gate.specs.Calls.{HasEntered, rows_after};
 
 use crate::gate::Gate;
 use crate::log::PassRow;
@@ -16,7 +16,7 @@ use atomic_table::Seat;
 pub enum Entered {
     /// The pass is inside, with this version.
     Inside(u32),
-    /// The pass stands as before: the flag of its place was up.
+    /// The pass stands as before, at this place: its own load found the place's flag up.
     Flagged(u16),
 }
 
@@ -42,17 +42,16 @@ fn index_of(gate: &Gate, place: u16) -> usize
 }
 
 impl Pass {
-    /// Enters, from the place where the pass stands.
+    /// Enters, from the place where the pass stands. It is inside exactly where its own load found the
+    /// flag of that place down.
     pub fn enter(&mut self, gate: &Gate) -> Entered
         requires gate { IsPassOf gate.now self.old }
         requires stands { IsStanding self.old }
         ensures gate { IsPassOf gate.now self.new }
-        ensures same { (self.new.thread ≡ self.old.thread) × (self.new.place ≡ self.old.place) }
-        ensures answer { HasEntered (flag_index gate.now self.old.place) self.old.place result self.new }
+        ensures same { (thread_of_pass self.new ≡ thread_of_pass self.old) × (place_of_pass self.new ≡ place_of_pass self.old) }
+        ensures answer { HasEntered (flag_index gate.now (place_of_pass self.old)) (place_of_pass self.old) result self.new }
         ensures once { (view_of_pass self.new).checks ≡ (view_of_pass self.old).checks + 1 }
-        ensures clear { ClearAt self.old.thread (tried (view_of_pass self.old)) self.old.place result }
-        ensures version { ReadsVersion self.old.thread result }
-        ensures rows { self.new.rows.items ≡ rows_after self.old.thread self.old.place result self.old.rows.items }
+        ensures rows { rows_of_pass self.new ≡ rows_after (thread_of_pass self.old) (place_of_pass self.old) result (rows_of_pass self.old) }
     {
         let shared = &gate.table.shared;
         let own = usize::from(self.thread);
@@ -86,16 +85,16 @@ impl Pass {
         }
     }
 
-    /// Whether the flag of a place is up.
+    /// Whether the flag of a place was up when this call loaded it. The pass is inside.
     pub fn poll(&mut self, gate: &Gate, place: u16) -> bool
         requires gate { IsPassOf gate.now self.old }
         requires inside { IsInside self.old }
         requires place { place < places_of gate.now }
         ensures gate { IsPassOf gate.now self.new }
-        ensures same { (self.new.thread ≡ self.old.thread) × (self.new.place ≡ self.old.place) × (self.new.rows.items ≡ self.old.rows.items) × ((view_of_pass self.new).stage ≡ (view_of_pass self.old).stage) }
+        ensures same { (thread_of_pass self.new ≡ thread_of_pass self.old) × (place_of_pass self.new ≡ place_of_pass self.old) × (rows_of_pass self.new ≡ rows_of_pass self.old) × ((view_of_pass self.new).stage ≡ (view_of_pass self.old).stage) }
         ensures found { FoundBit (flag_index gate.now place) place result self.new }
         ensures once { (view_of_pass self.new).checks ≡ (view_of_pass self.old).checks + 1 }
-        ensures version { (v : _) → IsInsideAt v self.old → Amid self.old.thread (view_of_pass self.old) (λ a. a.key.version ≡ v) }
+        ensures version { (v : _) → IsInsideAt v self.old → Amid (thread_of_pass self.old) (view_of_pass self.old) (λ a. a.key.version ≡ v) }
     {
         let word = gate
             .table
@@ -110,9 +109,9 @@ impl Pass {
         requires inside { IsInside self.old }
         requires place { place < places_of gate.now }
         ensures gate { IsPassOf gate.now self.new }
-        ensures same { (self.new.thread ≡ self.old.thread) × (self.new.rows.items ≡ self.old.rows.items) }
-        ensures stands { IsStanding self.new × (self.new.place ≡ place) }
-        ensures version { (v : _) → IsInsideAt v self.old → Amid self.old.thread (view_of_pass self.old) (λ a. a.key.version ≡ v) }
+        ensures same { (thread_of_pass self.new ≡ thread_of_pass self.old) × (rows_of_pass self.new ≡ rows_of_pass self.old) }
+        ensures stands { IsStanding self.new × (place_of_pass self.new ≡ place) }
+        ensures version { (v : _) → IsInsideAt v self.old → Amid (thread_of_pass self.old) (view_of_pass self.old) (λ a. a.key.version ≡ v) }
     {
         gate.table
             .shared

@@ -1,7 +1,7 @@
 //! A gate is settled.
 ghost use Rattle.std.specs.Prelude.{◌≡◌, ◌+◌, ◌*◌, ◌≤◌, ◌++◌, false, length, vec_capacity, All};
-ghost use Rattle.loom_gate.specs.Record.{IsSound};
-ghost use Rattle.loom_gate.specs.Seats.{threads_of, IsKeyOf, IsStanding, ArePassesOf, rows_of, ends_of};
+ghost use Rattle.loom_gate.specs.Record.{IsSound, AreInOrder};
+ghost use Rattle.loom_gate.specs.Seats.{threads_of, IsKeyOf, IsStanding, ArePassesOf, has_flags_up, rows_of_key, rows_of, ends_of};
 
 use crate::gate::Gate;
 use crate::key::Key;
@@ -21,16 +21,18 @@ fn append(rows: &mut Vec<PassRow>, more: &[PassRow])
     }
 }
 
-/// Ends a gate, and gives its record.
+/// Ends a gate whose passes stand and whose flags are down, with all of its passes in the order of their
+/// threads, and gives its record.
 pub fn settle(gate: Gate, key: Key, passes: Passes) -> GateLog
     requires key { IsKeyOf gate key }
     requires passes { ArePassesOf gate passes.0.items }
     requires stand { All IsStanding passes.0.items }
-    requires down { key.up ≡ false }
-    ensures switches { result.switches.0.items ≡ key.rows.items }
+    requires down { has_flags_up key ≡ false }
+    ensures switches { result.switches.0.items ≡ rows_of_key key }
     ensures rows { result.rows.0.items ≡ rows_of passes.0.items }
     ensures ends { result.ends.0.items ≡ ends_of passes.0.items }
     ensures sound { IsSound result }
+    ensures order { AreInOrder result.rows.0.items }
 {
     let Gate {
         table,

@@ -17,13 +17,13 @@ pub struct Size {
 pub struct GateRule;
 
 impl TableRule<u8, View, Size> for GateRule {
-    ghost use Rattle.loom_gate.specs.Rule.{GateHolds, flag_words};
+    ghost use Rattle.loom_gate.specs.Rule.{GateHolds};
     ghost use Rattle.loom_gate.specs.View.{first_key};
     ghost use Rattle.loom_gate.specs.declared.view.View.TheVariants.{Key};
 
-    ghost holds = { λ k s. GateHolds k.threads (flag_words k.places) s.words s.views };
+    ghost holds = { λ k s. GateHolds k.threads k.places s.words s.views };
 
-    ghost first = { λ k. Key (first_key k.threads (flag_words k.places)) };
+    ghost first = { λ k. Key (first_key k.threads k.places) };
 }
 
 pub(crate) struct Try;

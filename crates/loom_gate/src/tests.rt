@@ -5,11 +5,12 @@ ghost use Rattle.loom_gate.specs.Seats.{threads_of, places_of, IsPassOf, ArePass
 
 use crate::gate::Gate;
 use crate::key::{Key, Looked};
-use crate::log::GateLog;
+use crate::log::{GateLog, PassRow};
 use crate::make::Passes;
 use crate::pass::{Entered, Pass};
 use crate::settle::settle;
 use loom_trace::places::Places;
+use std::sync::Wait;
 use std::test::Fail;
 use std::thread::{Threads, join_mut};
 
@@ -78,37 +79,37 @@ fn one_thread_of_four_places(rt: HostRuntime) -> Result<(), Fail> {
     Ok(())
 }
 
-// Enters, and leaves at place 1, so many times.
-fn come_and_go(gate: &Gate, pass: &mut Pass, times: u32)
+// Enters so many times, as soon as its flag is down each time, and leaves at places 1, 2, 0, 1 and so on.
+// Tells how many times it entered.
+fn come_and_go<R: Wait>(rt: &R, gate: &Gate, pass: &mut Pass, times: u32) -> u32
     requires pass { IsPassOf gate.now pass.old × IsStanding pass.old }
-    requires places { 1 < places_of gate.now }
+    requires places { 2 < places_of gate.now }
     ensures pass { IsPassOf gate.now pass.new × IsStanding pass.new }
     ensures same { pass.new.thread ≡ pass.old.thread }
 {
-    'times: for _ in 0..times {
-        'tries: for _ in 0..100000u32 {
-            match pass.enter(gate) {
-                Entered::Inside(_) => {
-                    pass.leave(gate, 1);
-                    break;
-                }
-                Entered::Flagged(_) => {}
+    let mut entered = 0u32;
+    'times: for i in 0..times {
+        'tries: for _ in rt.forever() {
+            if let Entered::Inside(_) = pass.enter(gate) {
+                pass.leave(gate, ((i + 1) % 3) as u16);
+                entered = entered.wrapping_add(1);
+                break;
             }
         }
     }
+    entered
 }
 
-// Raises places 0 and 1, switches where the thread is found at one of them, and lowers.
-fn evacuate(gate: &Gate, key: &mut Key, looks: u32)
+// Raises places 0 and 1, switches as soon as the thread is found at one of them, and lowers.
+fn evacuate<R: Wait>(rt: &R, gate: &Gate, key: &mut Key)
     requires key { IsKeyOf gate.now key.old × (key.old.up ≡ false) × (0 < key.old.left) }
     requires threads { (threads_of gate.now ≡ 1) × (1 < places_of gate.now) }
     ensures key { IsKeyOf gate.now key.new × (key.new.up ≡ false) × (key.old.left ≤ key.new.left + 1) }
 {
     let flags = two(0, 1, 2);
     key.raise(gate, &flags);
-    'looks: for _ in 0..looks {
+    'looks: for _ in rt.forever() {
         if let Looked::Stands(place) = key.look(gate, 1)
-            && place < 2
             && flags.has(place)
         {
             key.switch(gate);
@@ -118,46 +119,62 @@ fn evacuate(gate: &Gate, key: &mut Key, looks: u32)
     key.lower(gate);
 }
 
-// The thread comes and goes while the key evacuates twice.
-fn both<R: Threads + Sync>(rt: &R, gate: &Gate, key: &mut Key, pass: &mut Pass)
+// The thread comes and goes a thousand times while the key evacuates twice. Tells how often it entered.
+fn both<R: Threads + Wait + Sync>(rt: &R, gate: &Gate, key: &mut Key, pass: &mut Pass) -> u32
     requires key { IsKeyOf gate.now key.old × (key.old.up ≡ false) × (1 < key.old.left) }
     requires pass { IsPassOf gate.now pass.old × IsStanding pass.old }
-    requires threads { (threads_of gate.now ≡ 1) × (1 < places_of gate.now) }
+    requires threads { (threads_of gate.now ≡ 1) × (2 < places_of gate.now) }
     ensures key { IsKeyOf gate.now key.new × (key.new.up ≡ false) }
     ensures pass { IsPassOf gate.now pass.new × IsStanding pass.new × (pass.new.thread ≡ pass.old.thread) }
 {
-    join_mut(
+    let (entered, _) = join_mut(
         rt,
         &mut ||
-            requires { IsPassOf gate.now pass.now × IsStanding pass.now × (1 < places_of gate.now) }
+            requires { IsSync R.row × IsPassOf gate.now pass.now × IsStanding pass.now × (2 < places_of gate.now) }
             ensures { IsPassOf gate.entry.now pass.exit.now × IsStanding pass.exit.now × (pass.exit.now.thread ≡ pass.entry.now.thread) }
-        { come_and_go(gate, pass, 1000) },
+        { come_and_go(rt, gate, pass, 1000) },
         &mut ||
-            requires { IsKeyOf gate.now key.now × (key.now.up ≡ false) × (1 < key.now.left) × (threads_of gate.now ≡ 1) × (1 < places_of gate.now) }
+            requires { IsSync R.row × IsKeyOf gate.now key.now × (key.now.up ≡ false) × (1 < key.now.left) × (threads_of gate.now ≡ 1) × (2 < places_of gate.now) }
             ensures { IsKeyOf gate.entry.now key.exit.now × (key.exit.now.up ≡ false) }
         {
-            evacuate(gate, key, 100000);
-            evacuate(gate, key, 100000)
+            evacuate(rt, gate, key);
+            evacuate(rt, gate, key)
         },
     );
+    entered
 }
 
 // Whether each place at a switch is the one that its thread next entered from, or stands at.
 fn is_sound(log: &GateLog) -> bool {
     'switches: for w in log.switches.0.as_slice() {
-        let mut place = match log.ends.0.first() {
+        let Some(index) = usize::from(w.thread).checked_sub(1) else {
+            return false;
+        };
+        let mut place = match log.ends.0.get(index) {
             Some(place) => *place,
             None => return false,
         };
         'rows: for r in log.rows.0.as_slice() {
-            if r.version >= w.version {
+            if r.thread == w.thread && r.version >= w.version {
                 place = r.place;
                 break;
             }
         }
-        if place != w.place || w.thread != 1 {
+        if place != w.place {
             return false;
         }
+    }
+    true
+}
+
+// Whether each row is of thread 1, and its version above that of the row before.
+fn are_rising(rows: &[PassRow]) -> bool {
+    let mut least = 0u32;
+    'rows: for r in rows {
+        if r.thread != 1 || r.version < least {
+            return false;
+        }
+        least = r.version.wrapping_add(1);
     }
     true
 }
@@ -170,13 +187,25 @@ fn two_threads(rt: HostRuntime) -> Result<(), Fail> {
     let Some(mut pass) = only(&gate, &mut passes) else {
         panic!(rt; "no pass")
     };
-    come_and_go(&gate, &mut pass, 1);
-    both(&rt, &gate, &mut key, &mut pass);
+    let entered = both(&rt, &gate, &mut key, &mut pass);
+    assert!(rt; entered == 1000);
+    // So the record has a row of the last version, and the end is another place.
+    let more = come_and_go(&rt, &gate, &mut pass, 2);
+    assert!(rt; more == 2);
     let Ok(()) = passes.push(pass) else {
         panic!(rt; "memory")
     };
-    let log = settle(gate, key, Passes(passes));
-    assert!(rt; log.switches.0.len() <= 2 && !log.rows.0.is_empty());
+    let mut log = settle(gate, key, Passes(passes));
+    assert!(rt; log.switches.0.len() == 2 && log.ends.0.len() == 1 && log.ends.0[0] == 2);
+    assert!(rt; log.switches.0[0].version == 1 && log.switches.0[1].version == 2);
+    assert!(rt; log.switches.0[0].place < 2 && log.switches.0[1].place < 2);
+    assert!(rt; are_rising(log.rows.0.as_slice()));
+    let Some(last) = log.rows.0.last() else {
+        panic!(rt; "no row")
+    };
+    assert!(rt; last.version == 2 && last.place == log.switches.0[1].place);
     assert!(rt; is_sound(&log));
+    log.switches.0[0].place = 3;
+    assert!(rt; !is_sound(&log));
     Ok(())
 }

@@ -50,6 +50,7 @@ pub struct KeyView {
     /// The words of flags stored so far, each with its number.
     pub ever: LinkedList<(u64, u64)>,
     pub threads: u64,
+    pub places: u64,
     /// How many passes were made.
     pub born: u64,
     /// The places looked at, of each switch.

@@ -6,7 +6,7 @@ use Rattle.loom_gate.proofs.Trials.{all_of_one}
 use Rattle.loom_gate.proofs.tests.evacuate.Goals as goal
 
 pub switch-requires-clause-stood : goal.switch-requires-clause-stood
-switch-requires-clause-stood c =
+switch-requires-clause-stood g c =
     let i = c.looks.invariant in
     let old = (view_of_key c.looks.key).looks in
     let wide = i.0.10 in let one = c.requires.threads.0 in

@@ -1,7 +1,6 @@
 use Rattle.std.proofs.Common.{rules, ◌≡◌, ◌+◌, ◌/◌, [], arith, ap, sym, ◌∙◌, length, replicate, refl}
 use Rattle.loom_gate.specs.declared.pass.Pass as pass
 use Rattle.loom_gate.specs.View.{key_of, first_key}
-use Rattle.loom_gate.specs.Rule.{flag_words}
 use Rattle.loom_gate.specs.Seats.{IsStanding}
 use Rattle.loom_gate.proofs.Rows.{all_snoc, length_snoc}
 use Rattle.loom_gate.proofs.Words.{begins}
@@ -14,13 +13,14 @@ of_words-requires c =
     let ws_is : c.as_slice.result.now ≡ replicate ((c.from-n.result + 1) + (c.from.result + 63) / 64) 0 = search rules in
     let a : c.from-n.result ≡ c.from-3.result = (let x = c.from-n.ensures in let y = c.from-3.ensures in omega arith) in
     let b : c.from.result ≡ c.from-4.result = (let x = c.from.ensures in let y = c.from-4.ensures in omega arith) in
-    begins c.from-3.result (flag_words c.from-4.result) c.as_slice.result.now (ws_is ∙ (λ j. replicate ((a j + 1) + (b j + 63) / 64) 0))
+    let y = c.from-4.ensures in let some = c.requires.2 in let most = c.requires.3 in
+    begins c.from-3.result c.from-4.result c.as_slice.result.now (omega arith, omega arith) (ws_is ∙ (λ j. replicate ((a j + 1) + (b j + 63) / 64) 0))
 
 pub split_seat-requires : goal.split_seat-requires
 split_seat-requires c =
     let l = c.threads.invariant in let t = c.threads-test.true in
     let x = c.from-3.ensures in
-    (l.table, search rules, makes_at _ _ _ c.threads.seat.me.0 (record (first_key c.args.threads (flag_words c.args.places)) { born = c.threads.t }) (ap (λ m. m.0) l.view) (search rules) refl)
+    (l.table, search rules, makes_at _ _ _ c.threads.seat.me.0 (record (first_key c.args.threads c.args.places) { born = c.threads.t }) (ap (λ m. m.0) l.view) (search rules) refl)
 
 pub threads-preserved : goal.threads-preserved
 threads-preserved c =

@@ -2,7 +2,6 @@ use Rattle.std.proofs.Common.{◌≡◌, ◌≤◌, length, [], All}
 use Rattle.std.specs.Vec.{vec_capacity}
 use Rattle.loom_gate.specs.declared.view.View.TheVariants.{Key}
 use Rattle.loom_gate.specs.View.{first_key}
-use Rattle.loom_gate.specs.Rule.{flag_words}
 use Rattle.loom_gate.specs.Seats.{ArePassesFrom, IsStanding}
 use Rattle.loom_gate.proofs.gate.Gate.make.Given as goal
 
@@ -11,7 +10,7 @@ invariant-threads l = record {
   are : ArePassesFrom l.table.shared.table_id l.threads l.places 1 l.passes.items;
   stand : All (λ p. IsStanding p × (p.place ≡ 0) × (p.rows.items ≡ [])) l.passes.items;
   table : l.seat.table_id ≡ l.table.shared.table_id;
-  view : l.seat.me ≡ (Key (record (first_key l.threads (flag_words l.places)) { born = l.t }), []);
+  view : l.seat.me ≡ (Key (record (first_key l.threads l.places) { born = l.t }), []);
   count : length l.passes.items ≡ l.t;
   room : l.n ≤ vec_capacity l.passes;
   within : l.t ≤ l.threads;

@@ -6,7 +6,7 @@ use Rattle.loom_gate.specs.View.{tried, checked, with_row}
 use Rattle.loom_gate.specs.Record.{has_version}
 use Rattle.loom_gate.specs.Seats.{view_of_pass}
 use Rattle.loom_gate.proofs.GateSteps.{tries_at, checks_at, leaves_at, reads_at}
-use Rattle.loom_gate.proofs.CallFacts.{after_pass, tried_place, checked_set, checked_clear, read_then, version_read, row_told}
+use Rattle.loom_gate.proofs.CallFacts.{after_pass, tried_place, checked_set, checked_clear, read_then, row_told}
 use Rattle.loom_gate.proofs.pass.Pass.enter.Goals as goal
 
 pub store-requires : goal.store-requires
@@ -45,15 +45,6 @@ load-version-requires c =
     let q = tried p in
     let at = checked_clear c.index_of.result c.load-word.result c.args.self.now.place q (tried_place p c.args.self.now.place c.requires.stands) (ne_eqb _ _ c.if-word-self-eq1.false) in
     (d.0 ∙ (e.0 ∙ r.0), omega arith, reads_at _ _ _ _ _ c.args.self.now.place (checked c.index_of.result c.load-word.result q) _ (after_pass _ _ _ q (checked c.index_of.result c.load-word.result) (after_pass _ _ _ p tried r.2 e.2) d.2.0) at)
-
-pub returns-else-word-self-eq1-clause-version : goal.returns-else-word-self-eq1-clause-version
-returns-else-word-self-eq1-clause-version c =
-    let r = c.requires.gate in
-    let e = c.store.ensures in let d = c.load-word.ensures in
-    let p = view_of_pass c.args.self.now in
-    let q : PassView = checked c.index_of.result c.load-word.result (tried p) in
-    let view = after_pass _ _ _ (tried p) (checked c.index_of.result c.load-word.result) (after_pass _ _ _ p tried r.2 e.2) d.2.0 in
-    (q, version_read c.args.self.now.thread c.load-version.result q (read_then _ _ q _ view c.load-version.ensures.2.1))
 
 pub returns-else-word-self-eq1-clause-rows : goal.returns-else-word-self-eq1-clause-rows
 returns-else-word-self-eq1-clause-rows c =

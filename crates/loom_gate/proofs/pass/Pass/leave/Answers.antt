@@ -10,7 +10,7 @@ pub store-requires : goal.store-requires
 store-requires c =
     let r = c.requires.gate in
     let s = c.args.gate.now.sized.0 in let a = r.1.1 in
-    let e = c.from.ensures in let d = c.from-2.ensures in let b : c.args.place < 65536 = c.ranges.place.fits in
+    let w = c.requires.place in let e = c.from.ensures in let d = c.from-2.ensures in let b : c.args.place < 65536 = c.ranges.place.fits in
     (r.0, omega arith, leaves_at _ _ _ _ _ _ _ (view_of_pass c.args.self.now) _ e r.2 (omega arith) (inr c.requires.inside))
 
 pub returns-clause-version : goal.returns-clause-version

@@ -38,13 +38,14 @@ pub struct Key {
 }
 
 impl Key {
-    /// Raises the flags of these places.
+    /// Raises the flags of these places, by one step for each word of flags. None is up before.
     pub fn raise(&mut self, gate: &Gate, flags: &Places)
         requires gate { IsKeyOf gate.now self.old }
         requires down { has_flags_up self.old ≡ false }
         requires places { (p : ℕ) → has_place flags.now p ≡ true → p < places_of gate.now }
         ensures gate { IsKeyOf gate.now self.new }
         ensures up { (has_flags_up self.new ≡ true) × ((p : ℕ) → has_place (view_of_key self.new).up p ≡ has_place flags.now p) }
+        ensures steps { length (view_of_key self.new).ever ≡ length (view_of_key self.old).ever + flag_words (places_of gate.now) }
         ensures forgotten { (view_of_key self.new).looks ≡ replicate (threads_of gate.now + 1) Unknown }
         ensures same { (version_of self.new ≡ version_of self.old) × (switches_left self.new ≡ switches_left self.old) × (rows_of_key self.new ≡ rows_of_key self.old) }
     {
@@ -52,12 +53,13 @@ impl Key {
         self.up = true;
     }
 
-    /// Clears the flags, and forgets the looks.
+    /// Clears the flags, by one step for each word of them, and forgets the looks.
     pub fn lower(&mut self, gate: &Gate)
         requires gate { IsKeyOf gate.now self.old }
         requires up { has_flags_up self.old ≡ true }
         ensures gate { IsKeyOf gate.now self.new }
         ensures down { (has_flags_up self.new ≡ false) × ((p : ℕ) → has_place (view_of_key self.new).up p ≡ false) }
+        ensures steps { length (view_of_key self.new).ever ≡ length (view_of_key self.old).ever + flag_words (places_of gate.now) }
         ensures forgotten { (view_of_key self.new).looks ≡ replicate (threads_of gate.now + 1) Unknown }
         ensures same { (version_of self.new ≡ version_of self.old) × (switches_left self.new ≡ switches_left self.old) × (rows_of_key self.new ≡ rows_of_key self.old) }
     {
@@ -72,6 +74,7 @@ impl Key {
         requires words { length words.now ≡ 131 }
         ensures gate { IsKeyOf gate.now self.new }
         ensures up { (w : ℕ) → w < flag_words (places_of gate.now) → slice_index_or (view_of_key self.new).up w 0 ≡ slice_index_or words.now w 0 }
+        ensures steps { length (view_of_key self.new).ever ≡ length (view_of_key self.old).ever + flag_words (places_of gate.now) }
         ensures forgotten { (view_of_key self.new).looks ≡ replicate (threads_of gate.now + 1) Unknown }
         ensures same { (version_of self.new ≡ version_of self.old) × (switches_left self.new ≡ switches_left self.old) × (rows_of_key self.new ≡ rows_of_key self.old) }
     {

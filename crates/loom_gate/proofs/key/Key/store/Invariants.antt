@@ -1,4 +1,4 @@
-use Rattle.std.proofs.Common.{◌≡◌, ℕ, ◌+◌, ◌<◌, ◌≤◌, replicate}
+use Rattle.std.proofs.Common.{◌≡◌, ℕ, ◌+◌, ◌<◌, ◌≤◌, length, replicate}
 use Rattle.std.specs.Prelude.{slice_index_or}
 use Rattle.loom_gate.specs.declared.view.Look.TheVariants.{Unknown}
 use Rattle.loom_gate.specs.Seats.{threads_of, view_of_key, IsKeyOf}
@@ -11,3 +11,4 @@ invariant-words l =
     × (0 < l.w → (view_of_key l.self).looks ≡ replicate (threads_of l.gate + 1) Unknown)
     × (l.self.version ≡ l.fn.self.version) × (l.self.left ≡ l.fn.self.left) × (l.self.rows.items ≡ l.fn.self.rows.items)
     × (l.w ≤ l.gate.flags)
+    × (length (view_of_key l.self).ever ≡ length (view_of_key l.fn.self).ever + l.w)

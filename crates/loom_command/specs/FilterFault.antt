@@ -7,12 +7,12 @@ use Rattle.loom_command.specs.FilterForm.{TestForm, EventForm, StepForm, RegionF
 use Rattle.loom_command.specs.FilterText.{IsText, IsForm, BeginsWith}
 
 -- A fault stands in a clause, counted from 1, and has a number.
-pub record Fault : Type 0 where
+pub record FilterFault : Type 0 where
   pub clause : ℕ
   pub number : ℕ
 
 -- The least clause counts, and in it the least number.
-abbrev pub IsBefore : Fault → Fault → Type 0
+abbrev pub IsBefore : FilterFault → FilterFault → Type 0
 IsBefore a b = (a.clause < b.clause) ⊎ ((a.clause ≡ b.clause) × (a.number ≤ b.number))
 
 -- the grammar is left
@@ -105,19 +105,19 @@ HasFault n before c number =
     ((number ≡ 5) × (is_miscounted c ≡ true)) ⊎ (((number ≡ 9) × Repeats c) ⊎ ((number ≡ 13) × (is_too_much n before c ≡ true)))
 
 -- A clause of these has the fault; the first has this number, and so many events stand before it.
-abbrev pub IsFaultOf : ℕ → ℕ → List ClauseForm → Fault → Type 0
+abbrev pub IsFaultOf : ℕ → ℕ → List ClauseForm → FilterFault → Type 0
 IsFaultOf n before [] x = ⊥
 IsFaultOf n before (c ∷ cs) x = ((x.clause ≡ n) × HasFault n before c x.number) ⊎ IsFaultOf (suc n) (before + clause_events c) cs x
 
 -- The text is refused so: the grammar goes before all, then the first fault.
-pub record IsFaulty (bytes : List ℕ) (x : Fault) : Type 0 where
+pub record IsFaulty (bytes : List ℕ) (x : FilterFault) : Type 0 where
   pub first : ClauseForm
   pub others : List ClauseForm
   pub form : IsForm bytes first others
   pub is : IsFaultOf 1 0 (first ∷ others) x
-  pub least : (y : Fault) → IsFaultOf 1 0 (first ∷ others) y → IsBefore x y
+  pub least : (y : FilterFault) → IsFaultOf 1 0 (first ∷ others) y → IsBefore x y
 
-abbrev pub IsRefusedText : List ℕ → Fault → Type 0
+abbrev pub IsRefusedText : List ℕ → FilterFault → Type 0
 IsRefusedText bytes x = ((x.number ≡ 1) × LeavesGrammar bytes x.clause) ⊎ IsFaulty bytes x
 
 -- The text is that of a filter, which nothing in it refuses.
@@ -125,5 +125,5 @@ pub record IsFilter (bytes : List ℕ) (f : tree.Filter) : Type 0 where
   pub first : ClauseForm
   pub others : List ClauseForm
   pub form : IsForm bytes first others
-  pub faultless : (x : Fault) → IsFaultOf 1 0 (first ∷ others) x → ⊥
+  pub faultless : (x : FilterFault) → IsFaultOf 1 0 (first ∷ others) x → ⊥
   pub tree : f ≡ filter_tree (first ∷ others)

@@ -5,8 +5,9 @@ use Rattle.loom_tree.specs.Tree.{Expression}
 use Rattle.loom_tree.specs.Token.{LineToken, Token}
 use Rattle.loom_lexer.specs.declared.lexeme.LexemeKind.{LexemeKind}
 use Rattle.loom_lexer.specs.declared.lexeme.LexemeKind.TheVariants as k
-use Rattle.loom_lexer.specs.Lexeme.{Lexeme, Each, is, is_letter, is_digit, is_part, IsLexed}
-use Rattle.loom_lexer.specs.Tokens.{value_from, keyword_of, tokens_from}
+use Rattle.loom_lexer.specs.Lexeme.{Lexeme, Each, is, is_digit, is_part, IsLexed}
+use Rattle.loom_lexer.specs.Name.{IsName}
+use Rattle.loom_lexer.specs.Tokens.{value_from, tokens_from}
 use Rattle.loom_expression.specs.Text.{IsExpression}
 use Rattle.std.specs.Prelude.{Bool, true, false, not, ◌||◌, nat_eq, nat_le}
 use Rattle.loom_command.specs.Filter as tree
@@ -45,23 +46,18 @@ pub data ClauseForm : Type 0 where
 abbrev pub is_file_part : ℕ → Bool
 is_file_part b = is_part b || nat_eq b 46 || nat_eq b 45
 
-abbrev pub IsFile : List ℕ → Type 0
-IsFile [] = ⊥
-IsFile (b ∷ bs) = (is_part b ≡ true) × Each is_file_part bs
+abbrev pub IsFileWord : List ℕ → Type 0
+IsFileWord [] = ⊥
+IsFileWord (b ∷ bs) = (is_part b ≡ true) × Each is_file_part bs
 
--- a name of the language, none of its words
-abbrev pub IsName : List ℕ → Type 0
-IsName [] = ⊥
-IsName (b ∷ bs) = (is_letter b ≡ true) × Each is_part bs × (keyword_of (b ∷ bs) ≡ None)
-
-abbrev pub largest_number : ℕ
-largest_number = 1000000
+abbrev pub filter_number_limit : ℕ
+filter_number_limit = 1000000
 
 -- digits of a number from 1 to the largest; zeros may lead
 pub record IsNumber (digits : List ℕ) : Type 0 where
   pub digits_alone : Each is_digit digits
   pub least : 1 ≤ value_from 0 digits
-  pub most : value_from 0 digits ≤ largest_number
+  pub most : value_from 0 digits ≤ filter_number_limit
 
 abbrev pub is_comment : LexemeKind → Bool
 is_comment k.Comment = true
@@ -80,7 +76,7 @@ IsTestIf None = Unit {0}
 IsTestIf (Some x) = IsTest x
 
 pub record IsEvent (x : EventForm) : Type 0 where
-  pub file : IsFile x.file
+  pub file : IsFileWord x.file
   pub line : IsNumber x.line
   pub test : IsTestIf x.test
 
@@ -105,7 +101,7 @@ IsClause (order a b ss) = IsStep a × IsStep b × AllByRecursion IsStep ss
 IsClause (exclusive r rs) = IsRegion r × AllByRecursion IsRegion rs
 IsClause (unilateral r) = IsRegion r
 
--- The tree that a written filter is. A step without a count has the count 1; those of a region count nothing.
+-- The tree that a written filter is. Where a step writes no count, 1 counts; those of a region count nothing.
 
 abbrev pub test_tree : Option TestForm → Option Expression
 test_tree None = None

@@ -70,7 +70,7 @@ abbrev pub IsWord : List ℕ → Type 0
 IsWord [] = ⊥
 IsWord (b ∷ bs) = (is_letter b ≡ true) × Each is_part bs
 
-pub record IsName (name : List ℕ) : Type 0 where
+pub record IsFilterName (name : List ℕ) : Type 0 where
   pub form : IsWord name
   pub short : length name ≤ longest_name
 
@@ -108,7 +108,7 @@ pub record IsCommandLine (number : ℕ) (line : List ℕ) (c : ScriptCommand) : 
   pub fields : HasFields (when ∷ which ∷ verb ∷ c.name ∷ []) rest line
   pub trigger : WhenFields c.trigger when which
   pub action : ActionFields c.action verb rest
-  pub name : IsName c.name
+  pub name : IsFilterName c.name
 
 -- Scripts
 

@@ -143,17 +143,17 @@ after_act s t (spawn c f vs) = record s { spawned = s.spawned ++ new_thread f vs
 after_act s t (join c) = s
 after_act s t (print v) = s
 
-abbrev pub after : Store → Event → Store
-after s x = after_act s x.thread x.act
+abbrev pub after_event : Store → Event → Store
+after_event s x = after_act s x.thread x.act
 
 abbrev pub replay : Store → List Event → Store
 replay s [] = s
-replay s (x ∷ xs) = replay (after s x) xs
+replay s (x ∷ xs) = replay (after_event s x) xs
 
 -- each event is allowed where the replay of those before it stands
 abbrev pub AreAllowed : Store → List Event → Type 0
 AreAllowed s [] = Unit {0}
-AreAllowed s (x ∷ xs) = IsAllowed s x × AreAllowed (after s x) xs
+AreAllowed s (x ∷ xs) = IsAllowed s x × AreAllowed (after_event s x) xs
 
 -- What a thread asks for is disabled: a mutex that is held, a semaphore at 0, the end of a thread that lives. What filters make threads wait
 -- for isn't in the store.

@@ -3,7 +3,7 @@ use Rattle.std.proofs.Common.{◌≡◌, List, [], ◌∷◌, ◌++◌, refl}
 use Rattle.loom_tree.specs.Tree.{Expression}
 use Rattle.loom_expression.specs.declared.part.Prefix.{Prefix}
 use Rattle.loom_expression.specs.Reader as m
-use Rattle.loom_expression.specs.View.{prefix_of, onto, stack_of}
+use Rattle.loom_expression.specs.ReaderView.{prefix_of, onto, stack_of}
 
 pub onto_push : (fs : List Prefix) (x : Prefix) (k : List (m.Prefix Expression)) → onto (fs ++ x ∷ []) k ≡ prefix_of x ∷ onto fs k
 onto_push [] x k = refl

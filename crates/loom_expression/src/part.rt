@@ -1,7 +1,7 @@
 //! What a reader of expressions has read.
 ghost use Rattle.std.specs.Prelude.{◌≡◌, true};
 ghost use Rattle.loom_expression.specs.Text.{prec};
-ghost use Rattle.loom_expression.specs.View.{size_of};
+ghost use Rattle.loom_expression.specs.ReaderView.{size_of};
 ghost use Rattle.loom_expression.specs.Reader as m;
 
 use loom_tree::expression::{Expr, Op};

@@ -2,7 +2,7 @@
 ghost use Rattle.std.specs.Prelude.{◌≡◌, ◌≤◌, [], ◌∷◌, length, IfOk, OnOk, Some};
 ghost use Rattle.loom_tree.specs.Tree.{Expression, expression_of};
 ghost use Rattle.loom_tree.specs.Token.{IsSmall, text_of, token_by};
-ghost use Rattle.loom_expression.specs.View.{expression_if, prefix_of, phrase_of, reduced, size_of, stack_of, reader_if, reader_of};
+ghost use Rattle.loom_expression.specs.ReaderView.{expression_if, prefix_of, phrase_of, reduced, size_of, stack_of, reader_if, reader_of};
 ghost use Rattle.loom_expression.specs.Reader as m;
 
 use crate::part::{Phrase, Prefix, Size, prec};

@@ -7,7 +7,7 @@ use Rattle.loom_tree.specs.Tree.{Expression, Source}
 use Rattle.loom_lang.specs.Trace.{Lists, Thread, Locals, expression, arguments}
 use Rattle.loom_flow.specs.declared.code.Target.TheVariants as target
 use Rattle.loom_flow.specs.declared.code.Step.{Step}
-use Rattle.loom_flow.specs.Flat.{Flat}
+use Rattle.loom_flow.specs.Flow.{Flow}
 use Rattle.loom_flow.specs.State.{State, given, jumped, named}
 use Rattle.loom_flow.specs.FlatCode.{steps_to, argument_steps}
 use Rattle.loom_flow.proofs.Straight.{straight, straight_append, skip, skip_append}
@@ -24,7 +24,7 @@ topped vs z = record z { values = reverse vs ++ z.values }
 twice : (v : ℤ) (vs ws : List ℤ) → reverse vs ++ (v ∷ ws) ≡ reverse (v ∷ vs) ++ ws
 twice v vs ws = sym (ap (λ us. us ++ ws) (reverse-append (v ∷ []) vs) ∙ append_assoc (reverse vs) (v ∷ []) ws)
 
-pub arguments_are : (c : Flat) (t : Thread) (l k : ℕ) (xs : List (List ℕ)) (es : List Expression) (next : State → Lists) (z : State) (at : ℕ)
+pub arguments_are : (c : Flow) (t : Thread) (l k : ℕ) (xs : List (List ℕ)) (es : List Expression) (next : State → Lists) (z : State) (at : ℕ)
     → length xs ≤ length z.locals → AllKnown t.program xs es
     → straight c t l k (argument_steps t.program xs es) next (jumped z at)
     ≡ arguments t l (named xs z.locals) es (λ vs. next (jumped (topped vs z) (skip at (argument_steps t.program xs es))))

@@ -5,7 +5,7 @@ use Rattle.loom_tree.specs.Tree as tree
 use Rattle.loom_lang.specs.Rules.{takes, KeepsRules}
 use Rattle.loom_flow.specs.Arguments.{takes_right, takes_simple}
 use Rattle.loom_flow.proofs.StatementRules.{few_in}
-use Rattle.loom_lang.specs.Numbers.{position, function_number}
+use Rattle.loom_lang.specs.Numbers.{index_of, function_number}
 use Rattle.loom_flow.specs.declared.code.Operand.{Operand}
 use Rattle.loom_flow.specs.declared.code.Operand.TheVariants as operand
 use Rattle.loom_flow.specs.declared.code.Target.{Target}
@@ -16,16 +16,16 @@ use Rattle.loom_flow.specs.declared.code.Compute.TheVariants.{Negate, Invert, Ap
 use Rattle.loom_flow.specs.declared.code.Ask.TheVariants.{ReadCell, Write, WriteCell, Join, Print, Spawn}
 use Rattle.loom_flow.specs.declared.code.Control.TheVariants.{Begin, Done, Edge, Jump, JumpIfZero, Call, Return, Out}
 use Rattle.loom_flow.specs.FlatCode.{or_zero, word_named, array_named, operand_of, unless_there, variable_step, steps_to, operand_steps, argument_steps, call_steps, spawn_steps, store_step, value_steps, set_steps, simple_steps}
-use Rattle.loom_flow.specs.Depth.{taken, put, takes_off, puts_on, nodes, AreSmall, IsSmallRight, IsSmallSimple}
+use Rattle.loom_flow.specs.Depth.{pops, pushes, takes_off, puts_on, nodes, AreSmall, IsSmallRight, IsSmallSimple}
 
 -- A step may stand where there are `d` values: what jumps, calls or returns takes off all.
 abbrev pub Fits : ℕ → Step → Type 0
 Fits d (s.Control (Call f n)) = d ≡ n
-Fits d (s.Control (Return a)) = d ≡ taken a
+Fits d (s.Control (Return a)) = d ≡ pops a
 Fits d (s.Control Out) = d ≡ 0
 Fits d (s.Control (Edge to)) = d ≡ 0
 Fits d (s.Control (Jump to)) = d ≡ 0
-Fits d (s.Control (JumpIfZero a to)) = d ≡ taken a
+Fits d (s.Control (JumpIfZero a to)) = d ≡ pops a
 Fits d x = takes_off x ≤ d
 
 pub fits_takes : (d : ℕ) (x : Step) → Fits d x → takes_off x ≤ d
@@ -48,7 +48,7 @@ balanced_append m d e f (x ∷ xs) ys h g = (h.0, h.1, balanced_append m (d - ta
 
 -- Expressions
 
-taken_one : (a : Operand) → taken a ≤ 1
+taken_one : (a : Operand) → pops a ≤ 1
 taken_one operand.Top = omega arith
 taken_one (operand.Local j) = omega arith
 taken_one (operand.Number n) = omega arith
@@ -61,48 +61,48 @@ some_nodes (neg a) = omega arith
 some_nodes (inverse a) = omega arith
 some_nodes (bin o a b) = omega arith
 
-variable_balanced : (p : Source) (m d : ℕ) (t : Target) (x : List ℕ) (a : Option ℕ) → d ≤ m → Balanced m d (variable_step p t x a ∷ []) (d + put t)
+variable_balanced : (p : Source) (m d : ℕ) (t : Target) (x : List ℕ) (a : Option ℕ) → d ≤ m → Balanced m d (variable_step p t x a ∷ []) (d + pushes t)
 variable_balanced p m d t x None h = (omega arith, h, omega arith)
 variable_balanced p m d t x (Some j) h = (omega arith, h, omega arith)
 
-unless_balanced : (m d : ℕ) (a : Operand) (steps : List Step) → Balanced m d steps (d + 1) → Balanced m d (unless_there a steps) (d + taken a)
+unless_balanced : (m d : ℕ) (a : Operand) (steps : List Step) → Balanced m d steps (d + 1) → Balanced m d (unless_there a steps) (d + pops a)
 unless_balanced m d operand.Top steps h = h
 unless_balanced m d (operand.Local j) steps h = omega arith
 unless_balanced m d (operand.Number n) steps h = omega arith
 
 -- An expression needs no more room than it has nodes.
-pub steps_balanced : (p : Source) (xs : List (List ℕ)) (m d : ℕ) (t : Target) (e : Expression) → d + nodes e ≤ m → Balanced m d (steps_to p xs t e) (d + put t)
+pub steps_balanced : (p : Source) (xs : List (List ℕ)) (m d : ℕ) (t : Target) (e : Expression) → d + nodes e ≤ m → Balanced m d (steps_to p xs t e) (d + pushes t)
 steps_balanced p xs m d t (num n) h = (omega arith, omega (arith, h), omega arith)
-steps_balanced p xs m d t (var x) h = variable_balanced p m d t x (position x xs) (omega (arith, h))
+steps_balanced p xs m d t (var x) h = variable_balanced p m d t x (index_of x xs) (omega (arith, h))
 steps_balanced p xs m d t (cell x i) h =
-    balanced_append m d (d + taken (operand_of xs i)) (d + put t) (operand_steps p xs i) (s.Ask (ReadCell (array_named p x) (operand_of xs i) t) ∷ [])
+    balanced_append m d (d + pops (operand_of xs i)) (d + pushes t) (operand_steps p xs i) (s.Ask (ReadCell (array_named p x) (operand_of xs i) t) ∷ [])
     (unless_balanced m d (operand_of xs i) _ (steps_balanced p xs m d target.Push i (omega (arith, h))))
     (omega arith, omega (arith, h, taken_one (operand_of xs i)), omega arith)
 steps_balanced p xs m d t (neg a) h =
-    balanced_append m d (d + taken (operand_of xs a)) (d + put t) (operand_steps p xs a) (s.Compute (Negate (operand_of xs a) t) ∷ [])
+    balanced_append m d (d + pops (operand_of xs a)) (d + pushes t) (operand_steps p xs a) (s.Compute (Negate (operand_of xs a) t) ∷ [])
     (unless_balanced m d (operand_of xs a) _ (steps_balanced p xs m d target.Push a (omega (arith, h))))
     (omega arith, omega (arith, h, taken_one (operand_of xs a)), omega arith)
 steps_balanced p xs m d t (inverse a) h =
-    balanced_append m d (d + taken (operand_of xs a)) (d + put t) (operand_steps p xs a) (s.Compute (Invert (operand_of xs a) t) ∷ [])
+    balanced_append m d (d + pops (operand_of xs a)) (d + pushes t) (operand_steps p xs a) (s.Compute (Invert (operand_of xs a) t) ∷ [])
     (unless_balanced m d (operand_of xs a) _ (steps_balanced p xs m d target.Push a (omega (arith, h))))
     (omega arith, omega (arith, h, taken_one (operand_of xs a)), omega arith)
 steps_balanced p xs m d t (bin o a b) h =
-    let one : ℕ = d + taken (operand_of xs a) in
-    let two : ℕ = one + taken (operand_of xs b) in
-    balanced_append m d one (d + put t) (operand_steps p xs a) (operand_steps p xs b ++ s.Compute (Apply o (operand_of xs a) (operand_of xs b) t) ∷ [])
+    let one : ℕ = d + pops (operand_of xs a) in
+    let two : ℕ = one + pops (operand_of xs b) in
+    balanced_append m d one (d + pushes t) (operand_steps p xs a) (operand_steps p xs b ++ s.Compute (Apply o (operand_of xs a) (operand_of xs b) t) ∷ [])
     (unless_balanced m d (operand_of xs a) _ (steps_balanced p xs m d target.Push a (omega (arith, h))))
-    (balanced_append m one two (d + put t) (operand_steps p xs b) (s.Compute (Apply o (operand_of xs a) (operand_of xs b) t) ∷ [])
+    (balanced_append m one two (d + pushes t) (operand_steps p xs b) (s.Compute (Apply o (operand_of xs a) (operand_of xs b) t) ∷ [])
     (unless_balanced m one (operand_of xs b) _ (steps_balanced p xs m one target.Push b (omega (arith, h, taken_one (operand_of xs a)))))
     (omega arith, omega (arith, h, taken_one (operand_of xs a), taken_one (operand_of xs b), some_nodes a, some_nodes b), omega arith))
 
-pub operand_balanced : (p : Source) (xs : List (List ℕ)) (m d : ℕ) (e : Expression) → d + nodes e ≤ m → Balanced m d (operand_steps p xs e) (d + taken (operand_of xs e))
+pub operand_balanced : (p : Source) (xs : List (List ℕ)) (m d : ℕ) (e : Expression) → d + nodes e ≤ m → Balanced m d (operand_steps p xs e) (d + pops (operand_of xs e))
 operand_balanced p xs m d e h = unless_balanced m d (operand_of xs e) _ (steps_balanced p xs m d target.Push e h)
 
 -- behind a step that takes what an expression left where there was nothing
-taking_balanced : (p : Source) (xs : List (List ℕ)) (m : ℕ) (e : Expression) (x : Step) → nodes e ≤ m → Fits (taken (operand_of xs e)) x → takes_off x ≡ taken (operand_of xs e) → puts_on x ≡ 0
+taking_balanced : (p : Source) (xs : List (List ℕ)) (m : ℕ) (e : Expression) (x : Step) → nodes e ≤ m → Fits (pops (operand_of xs e)) x → takes_off x ≡ pops (operand_of xs e) → puts_on x ≡ 0
     → Balanced m 0 (operand_steps p xs e ++ x ∷ []) 0
 taking_balanced p xs m e x h fits same none =
-    balanced_append m 0 (taken (operand_of xs e)) 0 (operand_steps p xs e) (x ∷ [])
+    balanced_append m 0 (pops (operand_of xs e)) 0 (operand_steps p xs e) (x ∷ [])
     (subst (λ d. Balanced m 0 (operand_steps p xs e) d) (omega arith) (operand_balanced p xs m 0 e (omega (arith, h))))
     (fits, omega (arith, h, taken_one (operand_of xs e), some_nodes e), omega (arith, same, none))
 
@@ -143,15 +143,15 @@ value_balanced p xs m x e None h = taking_balanced p xs m e (s.Ask (Write (word_
 value_balanced p xs m x e (Some j) h = steps_balanced p xs m 0 (target.Local j) e (omega (arith, h))
 
 set_balanced : (p : Source) (xs : List (List ℕ)) (m n : ℕ) (x : List ℕ) (r : Right Expression) → KeepsRules p → n + 4 ≤ m → takes_right p r ≡ true → IsSmallRight n r → Balanced m 0 (set_steps p xs x r) 0
-set_balanced p xs m n x (Right.value e) l room known small = value_balanced p xs m x e (position x xs) (omega (arith, room, small))
+set_balanced p xs m n x (Right.value e) l room known small = value_balanced p xs m x e (index_of x xs) (omega (arith, room, small))
 set_balanced p xs m n x (Right.call f es) l room known small =
-    balanced_append m 0 1 0 (call_steps p xs f es) (store_step p x (position x xs) ∷ [])
+    balanced_append m 0 1 0 (call_steps p xs f es) (store_step p x (index_of x xs) ∷ [])
     (call_balanced p xs m n f es small (omega (arith, room, four_arguments p f es l known)))
-    (store_balanced p m x (position x xs) (omega (arith, room)))
+    (store_balanced p m x (index_of x xs) (omega (arith, room)))
 set_balanced p xs m n x (Right.spawn f es) l room known small =
-    balanced_append m 0 1 0 (spawn_steps p xs f es) (store_step p x (position x xs) ∷ [])
+    balanced_append m 0 1 0 (spawn_steps p xs f es) (store_step p x (index_of x xs) ∷ [])
     (spawn_balanced p xs m n f es small (omega (arith, room, four_arguments p f es l known)))
-    (store_balanced p m x (position x xs) (omega (arith, room)))
+    (store_balanced p m x (index_of x xs) (omega (arith, room)))
 
 -- with a statement's beginning and its completion
 begun : (m : ℕ) (xs : List Step) → Balanced m 0 xs 0 → Balanced m 0 (s.Control Begin ∷ xs) 0
@@ -160,7 +160,7 @@ begun m xs h = (omega arith, omega arith, h)
 completed : (m : ℕ) (xs : List Step) → Balanced m 0 xs 0 → Balanced m 0 (s.Control Begin ∷ (xs ++ s.Control Done ∷ [])) 0
 completed m xs h = begun m (xs ++ s.Control Done ∷ []) (balanced_append m 0 0 0 xs (s.Control Done ∷ []) h (omega arith, omega arith, refl))
 
-taken_completed : (p : Source) (xs : List (List ℕ)) (m : ℕ) (e : Expression) (x : Step) → nodes e ≤ m → Fits (taken (operand_of xs e)) x → takes_off x ≡ taken (operand_of xs e) → puts_on x ≡ 0
+taken_completed : (p : Source) (xs : List (List ℕ)) (m : ℕ) (e : Expression) (x : Step) → nodes e ≤ m → Fits (pops (operand_of xs e)) x → takes_off x ≡ pops (operand_of xs e) → puts_on x ≡ 0
     → Balanced m 0 (s.Control Begin ∷ (operand_steps p xs e ++ x ∷ s.Control Done ∷ [])) 0
 taken_completed p xs m e x h fits same none =
     subst (λ ys. Balanced m 0 (s.Control Begin ∷ ys) 0) (append_assoc (operand_steps p xs e) (x ∷ []) (s.Control Done ∷ []))
@@ -174,8 +174,8 @@ pub simple_balanced : (p : Source) (xs : List (List ℕ)) (m n : ℕ) (x : Simpl
 simple_balanced p xs m n (let_ x r) l room known small = completed m (set_steps p xs x r) (set_balanced p xs m n x r l room known small)
 simple_balanced p xs m n (set x r) l room known small = completed m (set_steps p xs x r) (set_balanced p xs m n x r l room known small)
 simple_balanced p xs m n (set_cell x i e) l room known small =
-    let one : ℕ = taken (operand_of xs i) in
-    let two : ℕ = one + taken (operand_of xs e) in
+    let one : ℕ = pops (operand_of xs i) in
+    let two : ℕ = one + pops (operand_of xs e) in
     begun m _ (
     balanced_append m 0 one 0 (operand_steps p xs i) (operand_steps p xs e ++ s.Ask (WriteCell (array_named p x) (operand_of xs i) (operand_of xs e)) ∷ s.Control Done ∷ [])
     (subst (λ d. Balanced m 0 (operand_steps p xs i) d) (omega arith) (operand_balanced p xs m 0 i (omega (arith, room, small.0))))

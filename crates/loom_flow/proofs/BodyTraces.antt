@@ -11,7 +11,7 @@ use Rattle.loom_flow.specs.declared.code.Step.{Step}
 use Rattle.loom_flow.specs.declared.code.Step.TheVariants as s
 use Rattle.loom_flow.specs.declared.code.Control.TheVariants.{Begin, Done, Edge, Jump, JumpIfZero}
 use Rattle.loom_flow.specs.declared.code.Instr.{Instr}
-use Rattle.loom_flow.specs.Flat.{Flat, resume}
+use Rattle.loom_flow.specs.Flow.{Flow, resume}
 use Rattle.loom_flow.specs.Position as position
 use Rattle.loom_flow.specs.State.{State, jumped, named, names, locals_now}
 use Rattle.loom_flow.specs.FlatCode.{operand_of, operand_steps, simple_steps, instr, instrs, size, place_count, body_code, body_sites}
@@ -28,7 +28,7 @@ use Rattle.loom_flow.proofs.EachSimple.{IsKnownSimple, Ends, Returns, simple_mee
 use Rattle.loom_flow.proofs.Sizes.{instrs_length, code_length, sites_length}
 
 -- Runs by at most so many steps, or by any number of them: they fetch their instructions, and go round loops.
-pub record Runner (b : Bool) (c : Flat) (t : Thread) (m : ℕ → State → Lists) : Type 1 where
+pub record Runner (b : Bool) (c : Flow) (t : Thread) (m : ℕ → State → Lists) : Type 1 where
   pub fetches : (j : ℕ) → Fetches b c t (m j)
   pub loops : (n j : ℕ) → n ≤ j → (head : List ℤ → State) (turn : Turn) (leave : Locals → Lists) (xs : List (List ℕ)) (count : ℕ)
       → ((env : Locals) (again : Locals → Lists) → turn env again leave [] Open)
@@ -36,7 +36,7 @@ pub record Runner (b : Bool) (c : Flat) (t : Thread) (m : ℕ → State → List
       → (vs : List ℤ) → length vs ≡ count → Meets b (fetched c t (m i) (head vs) (slice_get c.code (head vs).at)) (turn (named xs vs) again leave))
       → (vs : List ℤ) → length vs ≡ count → Meets b (m n (head vs)) (turns j turn leave (named xs vs))
 
-runs_loop : (c : Flat) (t : Thread) → t.stopped [] Open → (n j : ℕ) → n ≤ j → (head : List ℤ → State) (turn : Turn) (leave : Locals → Lists) (xs : List (List ℕ)) (count : ℕ)
+runs_loop : (c : Flow) (t : Thread) → t.stopped [] Open → (n j : ℕ) → n ≤ j → (head : List ℤ → State) (turn : Turn) (leave : Locals → Lists) (xs : List (List ℕ)) (count : ℕ)
     → ((env : Locals) (again : Locals → Lists) → turn env again leave [] Open)
     → ((i : ℕ) → i ≤ n → (again : Locals → Lists) → ((h : ℕ) → h ≤ i → (vs : List ℤ) → length vs ≡ count → Within (runs_from c t h (head vs)) (again (named xs vs)))
     → (vs : List ℤ) → length vs ≡ count → Within (fetched c t (runs_from c t i) (head vs) (slice_get c.code (head vs).at)) (turn (named xs vs) again leave))
@@ -48,10 +48,10 @@ runs_loop c t stops (suc n) (suc j) le head turn leave xs count opens step vs h 
     (λ i below ws g. runs_loop c t stops i j (omega (arith, below, le)) head turn leave xs count opens (λ i' le'. step i' (omega (arith, le', below))) ws g) vs h es r
     (runs_next c t stops n (head vs) es r f)
 
-pub runs_runner : (c : Flat) (t : Thread) → t.stopped [] Open → Runner true c t (runs_from c t)
+pub runs_runner : (c : Flow) (t : Thread) → t.stopped [] Open → Runner true c t (runs_from c t)
 runs_runner c t stops = record { fetches = runs_fetched c t stops; loops = runs_loop c t stops }
 
-ever_loop : (c : Flat) (t : Thread) (n j : ℕ) (head : List ℤ → State) (turn : Turn) (leave : Locals → Lists) (xs : List (List ℕ)) (count : ℕ)
+ever_loop : (c : Flow) (t : Thread) (n j : ℕ) (head : List ℤ → State) (turn : Turn) (leave : Locals → Lists) (xs : List (List ℕ)) (count : ℕ)
     → ((i : ℕ) → i ≤ n → (again : Locals → Lists) → ((h : ℕ) → h ≤ i → (vs : List ℤ) → length vs ≡ count → Within (again (named xs vs)) (ever_from c t (head vs)))
     → (vs : List ℤ) → length vs ≡ count → Within (turn (named xs vs) again leave) (fetched c t (ever_from c t) (head vs) (slice_get c.code (head vs).at)))
     → (vs : List ℤ) → length vs ≡ count → Within (turns j turn leave (named xs vs)) (ever_from c t (head vs))
@@ -59,7 +59,7 @@ ever_loop c t n zero head turn leave xs count step vs h = breaks (ever_from c t 
 ever_loop c t n (suc j) head turn leave xs count step vs h = λ es r g.
     ever_fetched c t (head vs) es r (step n (omega arith) (λ env. turns j turn leave env) (λ i below ws e. ever_loop c t n j head turn leave xs count step ws e) vs h es r g)
 
-pub ever_runner : (c : Flat) (t : Thread) → Runner false c t (λ j. ever_from c t)
+pub ever_runner : (c : Flow) (t : Thread) → Runner false c t (λ j. ever_from c t)
 ever_runner c t = record {
   fetches = λ j z. ever_fetched c t z;
   loops = λ n j le head turn leave xs count opens step. ever_loop c t n j head turn leave xs count step;
@@ -72,7 +72,7 @@ pub condition_length : (l k : ℕ) (xs : List Step) (x y : Step) → length (ins
 condition_length l k xs x y = instrs_length l k (x ∷ (xs ++ y ∷ [])) ∙ (let e : length (xs ++ y ∷ []) ≡ length xs + 1 = length-append xs (y ∷ []) in omega arith)
 
 -- steps one behind another, and then any step
-meets_then : (b : Bool) (c : Flat) (t : Thread) (l k : ℕ) (m : State → Lists) (xs : List Step) (x : Step) (at : ℕ) (z : State)
+meets_then : (b : Bool) (c : Flow) (t : Thread) (l k : ℕ) (m : State → Lists) (xs : List Step) (x : Step) (at : ℕ) (z : State)
     → Fetches b c t m → AllStraight xs → Lies c.code at (instrs l k (xs ++ x ∷ [])) → z.at ≡ at
     → Meets b (m z) (straight c t l k xs (λ z'. performed c t m z' (instr l k x) x) z)
 meets_then b c t l k m [] x at z f a h e = meets_instr b c t m z (instr l k x) f (ap (slice_get c.code) e ∙ h.0)
@@ -81,7 +81,7 @@ meets_then b c t l k m (y ∷ ys) x at z f a h e =
     (meets_instr b c t m z (instr l k y) f (ap (slice_get c.code) e ∙ h.0))
     (meets_performed b c t m (straight c t l k ys (λ z'. performed c t m z' (instr l k x) x)) z (instr l k y) y a.0 (λ z' g. meets_then b c t l k m ys x (suc at) z' f a.1 h.1 (g ∙ ap suc e)))
 
-fetched_then : (b : Bool) (c : Flat) (t : Thread) (l k : ℕ) (m : State → Lists) (xs : List Step) (x : Step) (at : ℕ) (z : State)
+fetched_then : (b : Bool) (c : Flow) (t : Thread) (l k : ℕ) (m : State → Lists) (xs : List Step) (x : Step) (at : ℕ) (z : State)
     → Fetches b c t m → AllStraight xs → Lies c.code at (instrs l k (xs ++ x ∷ [])) → z.at ≡ at
     → Meets b (fetched c t m z (slice_get c.code z.at)) (straight c t l k xs (λ z'. performed c t m z' (instr l k x) x) z)
 fetched_then b c t l k m [] x at z f a h e = meets_same b _ _ (ap (fetched c t m z) (ap (slice_get c.code) e ∙ h.0))
@@ -90,13 +90,13 @@ fetched_then b c t l k m (y ∷ ys) x at z f a h e =
     (meets_same b _ _ (ap (fetched c t m z) (ap (slice_get c.code) e ∙ h.0)))
     (meets_performed b c t m (straight c t l k ys (λ z'. performed c t m z' (instr l k x) x)) z (instr l k y) y a.0 (λ z' g. meets_then b c t l k m ys x (suc at) z' f a.1 h.1 (g ∙ ap suc e)))
 
-jump_is : (c : Flat) (t : Thread) (l k to n : ℕ) (a : Operand) (m : State → Lists) (z : State) (v : ℤ)
+jump_is : (c : Flow) (t : Thread) (l k to n : ℕ) (a : Operand) (m : State → Lists) (z : State) (v : ℤ)
     → performed c t m (jumped (left a v z) n) (instr l k (s.Control (JumpIfZero a to))) (s.Control (JumpIfZero a to)) ≡ choice (is_zero (settled a z.locals v)) (m (jumped z to)) (m (jumped z (suc n)))
 jump_is c t l k to n operand.Top m z v = jump_gives c t m (jumped (left operand.Top v z) n) (instr l k (s.Control (JumpIfZero operand.Top to))) operand.Top to
 jump_is c t l k to n (operand.Local j) m z v = jump_gives c t m (jumped (left (operand.Local j) v z) n) (instr l k (s.Control (JumpIfZero (operand.Local j) to))) (operand.Local j) to
 jump_is c t l k to n (operand.Number i) m z v = jump_gives c t m (jumped (left (operand.Number i) v z) n) (instr l k (s.Control (JumpIfZero (operand.Number i) to))) (operand.Number i) to
 
-condition_are : (c : Flat) (t : Thread) (l k to at : ℕ) (xs : List (List ℕ)) (m : State → Lists) (z : State) (e : Expression) → length xs ≤ length z.locals → IsKnown t.program xs e
+condition_are : (c : Flow) (t : Thread) (l k to at : ℕ) (xs : List (List ℕ)) (m : State → Lists) (z : State) (e : Expression) → length xs ≤ length z.locals → IsKnown t.program xs e
     → straight c t l k (operand_steps t.program xs e) (λ z'. performed c t m z' (instr l k (s.Control (JumpIfZero (operand_of xs e) to))) (s.Control (JumpIfZero (operand_of xs e) to))) (jumped z at)
     ≡ expression t l (named xs z.locals) e (λ v. choice (is_zero v) (m (jumped z to)) (m (jumped z (suc (skip at (operand_steps t.program xs e))))))
 condition_are c t l k to at xs m z e h known =
@@ -124,12 +124,12 @@ at_most : {k m n : ℕ} → k ≤ n → m ≡ n → k ≤ m
 at_most {k = k} {m = m} {n = n} h g = subst (λ j. k ≤ j) (sym g) h
 
 -- at an instruction that completes a statement
-meets_done : (b : Bool) (c : Flat) (t : Thread) (m : State → Lists) (l k at : ℕ) (z : State) (q : Lists) → Fetches b c t m → slice_get c.code at ≡ Some (instr l k (s.Control Done))
+meets_done : (b : Bool) (c : Flow) (t : Thread) (m : State → Lists) (l k at : ℕ) (z : State) (q : Lists) → Fetches b c t m → slice_get c.code at ≡ Some (instr l k (s.Control Done))
     → Meets b (m (jumped z (suc at))) q → Meets b (m (jumped z at)) (emit (done l) q)
 meets_done b c t m l k at z q f e g = meets_on b (m (jumped z at)) (emit (done l) (m (jumped z (suc at)))) _ (meets_instr b c t m (jumped z at) (instr l k (s.Control Done)) f e) (meets_emit b (done l) _ q g)
 
 -- at one that begins it
-begins_at : (b : Bool) (c : Flat) (t : Thread) (m : State → Lists) (l k at : ℕ) (xs : List (List ℕ)) (z : State) (q : Lists)
+begins_at : (b : Bool) (c : Flow) (t : Thread) (m : State → Lists) (l k at : ℕ) (xs : List (List ℕ)) (z : State) (q : Lists)
     → Fetches b c t m → names (slice_get c.program.funcs z.func) ≡ xs → slice_get c.code at ≡ Some (instr l k (s.Control Begin))
     → Meets b (m (jumped z (suc at))) q → Meets b (m (jumped z at)) (emit (begins l (named xs z.locals)) q)
 begins_at b c t m l k at xs z q f e g h =
@@ -148,7 +148,7 @@ first_again at n = omega arith
 second_is : (head : ℕ) (steps : List Step) → head + (1 + length steps) ≡ suc (skip head steps)
 second_is head steps = let e : skip head steps ≡ head + length steps = skip_length head steps in omega arith
 
-pub body_meets : (b : Bool) (c : Flat) (t : Thread) (m : ℕ → State → Lists) → Runner b c t m → (most n : ℕ) → n ≤ most → (calls : Calls) (xs : List (List ℕ)) (z : State) (a : Body) (k at : ℕ) (ret : ℤ → Lists) (more : Locals → Lists)
+pub body_meets : (b : Bool) (c : Flow) (t : Thread) (m : ℕ → State → Lists) → Runner b c t m → (most n : ℕ) → n ≤ most → (calls : Calls) (xs : List (List ℕ)) (z : State) (a : Body) (k at : ℕ) (ret : ℤ → Lists) (more : Locals → Lists)
     → ((j : ℕ) → j ≤ n → CallsMeet b c t m j (length z.below) calls) → names (slice_get c.program.funcs z.func) ≡ xs → length xs ≤ length z.locals
     → IsKnownBody t.program xs a → Lies c.code at (body_code t.program xs at k a) → Lies c.sites k (body_sites t.program xs at a)
     → Returns b c t m n z ret → Ends b m n xs z (at + size t.program xs a) more

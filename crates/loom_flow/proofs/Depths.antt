@@ -10,9 +10,9 @@ use Rattle.loom_flow.specs.declared.code.Step.TheVariants as s
 use Rattle.loom_flow.specs.declared.code.Control.TheVariants.{Begin, Done, Edge, Jump, JumpIfZero, Call, Return, Out}
 use Rattle.loom_flow.specs.declared.code.Instr.{Instr}
 use Rattle.loom_flow.specs.declared.code.Entrance.{Entrance}
-use Rattle.loom_flow.specs.Flat.{Flat}
+use Rattle.loom_flow.specs.Flow.{Flow}
 use Rattle.loom_flow.specs.FlatCode.{operand_of, operand_steps, simple_steps, instr, instrs, size, place_count, body_code, functions_code, entrances, lowered}
-use Rattle.loom_flow.specs.Depth.{taken, takes_off, puts_on, depth_after, depth_before, nodes, IsSmallBody, AreSmallFunctions, IsSmall}
+use Rattle.loom_flow.specs.Depth.{pops, takes_off, puts_on, depth_after, depth_before, nodes, IsSmallBody, AreSmallFunctions, IsSmall}
 use Rattle.loom_flow.specs.Laws.{KeepsDepth, HasOperands}
 use Rattle.loom_flow.proofs.Sublist.{Lies, lies_first, lies_second, lies_whole}
 use Rattle.loom_flow.proofs.Each.{AllOf, all_append, Each, each_append, each_at, same_element}
@@ -41,50 +41,50 @@ depth_through first (j ∷ is) (suc at) i d h e le =
       | false ↦ λ f. cc
     ] e
 
-depth_next : (c : Flat) (at : ℕ) (i : Instr) (d : ℕ) → slice_get c.code at ≡ Some i → depth_before c at ≡ Some d → takes_off i.step ≤ d → depth_before c (suc at) ≡ Some (d - takes_off i.step + puts_on i.step)
+depth_next : (c : Flow) (at : ℕ) (i : Instr) (d : ℕ) → slice_get c.code at ≡ Some i → depth_before c at ≡ Some d → takes_off i.step ≤ d → depth_before c (suc at) ≡ Some (d - takes_off i.step + puts_on i.step)
 depth_next c at i d h e le = depth_through 0 c.code at i d h e le
 
-depth_at : (c : Flat) (at to d : ℕ) → at ≡ to → depth_before c at ≡ Some d → depth_before c to ≡ Some d
+depth_at : (c : Flow) (at to d : ℕ) → at ≡ to → depth_before c at ≡ Some d → depth_before c to ≡ Some d
 depth_at c at to d e h = subst (λ n. depth_before c n ≡ Some d) e h
 
 -- Steps
 
-depth_over : (c : Flat) (l k at m d e : ℕ) (xs : List Step) → depth_before c at ≡ Some d → Balanced m d xs e → Lies c.code at (instrs l k xs) → depth_before c (at + length xs) ≡ Some e
+depth_over : (c : Flow) (l k at m d e : ℕ) (xs : List Step) → depth_before c at ≡ Some d → Balanced m d xs e → Lies c.code at (instrs l k xs) → depth_before c (at + length xs) ≡ Some e
 depth_over c l k at m d e [] h b lies = depth_at c at (at + 0) e (omega arith) (h ∙ ap {B = Option ℕ} Some b)
 depth_over c l k at m d e (x ∷ xs) h b lies =
     depth_at c (suc at + length xs) (at + suc (length xs)) e (omega arith)
     (depth_over c l k (suc at) m (d - takes_off x + puts_on x) e xs (depth_next c at (instr l k x) d lies.0 h (fits_takes d x b.0)) b.2 lies.1)
 
 -- where a jump or a back edge leads
-abbrev Elsewhere : Flat → Step → Type 0
+abbrev Elsewhere : Flow → Step → Type 0
 Elsewhere c (s.Control (Edge to)) = depth_before c to ≡ Some 0
 Elsewhere c (s.Control (Jump to)) = depth_before c to ≡ Some 0
 Elsewhere c (s.Control (JumpIfZero a to)) = depth_before c to ≡ Some 0
 Elsewhere c _ = Unit {0}
 
-plain_elsewhere : (c : Flat) (x : Step) → is_plain x ≡ true → Elsewhere c x
+plain_elsewhere : (c : Flow) (x : Step) → is_plain x ≡ true → Elsewhere c x
 plain_elsewhere c (s.Control (Edge to)) h = cc
 plain_elsewhere c (s.Control (Jump to)) h = cc
 plain_elsewhere c (s.Control (JumpIfZero a to)) h = cc
 plain_elsewhere c _ h = tt
 
-right_elsewhere : (c : Flat) (r : Right Expression) → CallsRight (Elsewhere c) c.program r
+right_elsewhere : (c : Flow) (r : Right Expression) → CallsRight (Elsewhere c) c.program r
 right_elsewhere c (Right.value e) = tt
 right_elsewhere c (Right.call f es) = tt
 right_elsewhere c (Right.spawn f es) = tt
 
-calls_elsewhere : (c : Flat) (x : Simple Expression) → CallsSimple (Elsewhere c) c.program x
+calls_elsewhere : (c : Flow) (x : Simple Expression) → CallsSimple (Elsewhere c) c.program x
 calls_elsewhere c (let_ x r) = right_elsewhere c r
 calls_elsewhere c (set x r) = right_elsewhere c r
 calls_elsewhere c _ = tt
 
-abbrev Keeps : Flat → ℕ → ℕ → Instr → Type 0
+abbrev Keeps : Flow → ℕ → ℕ → Instr → Type 0
 Keeps c m at i = (d : ℕ) × (depth_before c at ≡ Some d) × (d ≤ m) × KeepsDepth c at d i.step
 
-step_keeps : (c : Flat) (l k at d : ℕ) (x : Step) → slice_get c.code at ≡ Some (instr l k x) → depth_before c at ≡ Some d → Fits d x → Elsewhere c x → KeepsDepth c at d x
+step_keeps : (c : Flow) (l k at d : ℕ) (x : Step) → slice_get c.code at ≡ Some (instr l k x) → depth_before c at ≡ Some d → Fits d x → Elsewhere c x → KeepsDepth c at d x
 step_keeps c l k at d (s.Control (Jump to)) h e fits other = (fits, other)
 step_keeps c l k at d (s.Control (JumpIfZero a to)) h e fits other =
-    (fits, depth_next c at (instr l k (s.Control (JumpIfZero a to))) d h e (omega (arith, fits)) ∙ ap {B = Option ℕ} Some (let f : d - taken a + 0 ≡ 0 = omega (arith, fits) in f), other)
+    (fits, depth_next c at (instr l k (s.Control (JumpIfZero a to))) d h e (omega (arith, fits)) ∙ ap {B = Option ℕ} Some (let f : d - pops a + 0 ≡ 0 = omega (arith, fits) in f), other)
 step_keeps c l k at d (s.Control (Edge to)) h e fits other = (fits, other)
 step_keeps c l k at d (s.Control (Call f n)) h e fits other =
     (fits, depth_next c at (instr l k (s.Control (Call f n))) d h e (omega (arith, fits)) ∙ ap {B = Option ℕ} Some (let g : d - n + 1 ≡ 1 = omega (arith, fits) in g))
@@ -92,7 +92,7 @@ step_keeps c l k at d (s.Control (Return a)) h e fits other = fits
 step_keeps c l k at d (s.Control Out) h e fits other = fits
 step_keeps c l k at d x h e fits other = (fits, depth_next c at (instr l k x) d h e fits)
 
-steps_keep : (c : Flat) (l k at m d e : ℕ) (xs : List Step) → depth_before c at ≡ Some d → Balanced m d xs e → Lies c.code at (instrs l k xs) → AllOf (Elsewhere c) xs → Each (Keeps c m) at (instrs l k xs)
+steps_keep : (c : Flow) (l k at m d e : ℕ) (xs : List Step) → depth_before c at ≡ Some d → Balanced m d xs e → Lies c.code at (instrs l k xs) → AllOf (Elsewhere c) xs → Each (Keeps c m) at (instrs l k xs)
 steps_keep c l k at m d e [] h b lies other = tt
 steps_keep c l k at m d e (x ∷ xs) h b lies other = (
   (d, h, b.1, step_keeps c l k at d x lies.0 h b.0 other.0),
@@ -100,14 +100,14 @@ steps_keep c l k at m d e (x ∷ xs) h b lies other = (
 )
 
 -- a statement's beginning and its condition
-condition_keeps : (c : Flat) (l k at m to : ℕ) (xs : List (List ℕ)) (e : Expression) → nodes e ≤ m → depth_before c at ≡ Some 0 → depth_before c to ≡ Some 0
+condition_keeps : (c : Flow) (l k at m to : ℕ) (xs : List (List ℕ)) (e : Expression) → nodes e ≤ m → depth_before c at ≡ Some 0 → depth_before c to ≡ Some 0
     → Lies c.code at (instrs l k (s.Control Begin ∷ (operand_steps c.program xs e ++ s.Control (JumpIfZero (operand_of xs e) to) ∷ [])))
     → Each (Keeps c m) at (instrs l k (s.Control Begin ∷ (operand_steps c.program xs e ++ s.Control (JumpIfZero (operand_of xs e) to) ∷ [])))
 condition_keeps c l k at m to xs e small h there lies =
     steps_keep c l k at m 0 0 (s.Control Begin ∷ (operand_steps c.program xs e ++ s.Control (JumpIfZero (operand_of xs e) to) ∷ [])) h (condition_balanced c.program xs m to e small) lies
     (tt, all_append (Elsewhere c) (operand_steps c.program xs e) _ (operand_all (Elsewhere c) (plain_elsewhere c) c.program xs e) (there, tt))
 
-condition_depth : (c : Flat) (l k at m to : ℕ) (xs : List (List ℕ)) (e : Expression) → nodes e ≤ m → depth_before c at ≡ Some 0
+condition_depth : (c : Flow) (l k at m to : ℕ) (xs : List (List ℕ)) (e : Expression) → nodes e ≤ m → depth_before c at ≡ Some 0
     → Lies c.code at (instrs l k (s.Control Begin ∷ (operand_steps c.program xs e ++ s.Control (JumpIfZero (operand_of xs e) to) ∷ [])))
     → depth_before c (at + (2 + length (operand_steps c.program xs e))) ≡ Some 0
 condition_depth c l k at m to xs e small h lies =
@@ -119,7 +119,7 @@ condition_depth c l k at m to xs e small h lies =
 
 -- Statements: each of their instructions, and the number behind them
 
-body_keeps : (c : Flat) (m n : ℕ) (xs : List (List ℕ)) → KeepsRules c.program → n + 4 ≤ m → (at k : ℕ) (a : Body) → takes_body c.program a ≡ true → IsSmallBody n a
+body_keeps : (c : Flow) (m n : ℕ) (xs : List (List ℕ)) → KeepsRules c.program → n + 4 ≤ m → (at k : ℕ) (a : Body) → takes_body c.program a ≡ true → IsSmallBody n a
     → Lies c.code at (body_code c.program xs at k a) → depth_before c at ≡ Some 0
     → Each (Keeps c m) at (body_code c.program xs at k a) × (depth_before c (at + size c.program xs a) ≡ Some 0)
 body_keeps c m n xs law room at k end known small lies h = (tt, depth_at c at (at + 0) 0 (omega arith) h)
@@ -228,14 +228,14 @@ body_keeps c m n xs law room at k (while_ l e x rest) known small lies h =
 
 -- Functions: each of their instructions, and their starts
 
-abbrev AreStarts : Flat → List Entrance → Type 0
+abbrev AreStarts : Flow → List Entrance → Type 0
 AreStarts c es = (n : ℕ) (e : Entrance) → slice_get es n ≡ Some e → depth_before c e.start ≡ Some 0
 
-starts_more : (c : Flat) (e : Entrance) (es : List Entrance) → depth_before c e.start ≡ Some 0 → AreStarts c es → AreStarts c (e ∷ es)
+starts_more : (c : Flow) (e : Entrance) (es : List Entrance) → depth_before c e.start ≡ Some 0 → AreStarts c es → AreStarts c (e ∷ es)
 starts_more c e es h f zero d g = subst (λ (q : Entrance). depth_before c q.start ≡ Some 0) (same_element e d g) h
 starts_more c e es h f (suc n) d g = f n d g
 
-functions_keep : (c : Flat) (m n : ℕ) → KeepsRules c.program → n + 4 ≤ m → (fs : List Function) (at place : ℕ) → FunctionsKeepRules c.program fs → AreSmallFunctions n fs
+functions_keep : (c : Flow) (m n : ℕ) → KeepsRules c.program → n + 4 ≤ m → (fs : List Function) (at place : ℕ) → FunctionsKeepRules c.program fs → AreSmallFunctions n fs
     → Lies c.code at (functions_code c.program at place fs) → depth_before c at ≡ Some 0
     → Each (Keeps c m) at (functions_code c.program at place fs) × AreStarts c (entrances c.program at place fs)
 functions_keep c m n law room [] at place l small code h = (tt, λ k e g. cc)
@@ -261,7 +261,7 @@ functions_keep c m n law room (g ∷ gs) at place l small code h =
 -- where each expression of the program has at most `n` nodes
 pub lowered_operands : (p : Source) → KeepsRules p → (n : ℕ) → IsSmall n p → HasOperands (lowered p) (n + 4)
 lowered_operands p l n small =
-    let c : Flat = lowered p in
+    let c : Flow = lowered p in
     let code : List Instr = functions_code p 0 1 p.funcs in
     let all : Each (Keeps c (n + 4)) 0 code × AreStarts c (entrances p 0 1 p.funcs) =
     functions_keep c (n + 4) n l (omega arith) p.funcs 0 1 l.functions small (lies_whole code) refl in

@@ -2,7 +2,7 @@
 use Rattle.std.proofs.Common.{ℕ, suc, ◌+◌, ◌≡◌, ◌≤◌, List, [], ◌∷◌, ◌++◌, Bool, ℤ, pos, Option, Some, None, refl, sym, ap, subst, ◌∙◌, slice_get, length, append_assoc, length-append, arith}
 use Rattle.loom_tree.specs.Tree.{Expression, Right, Simple, let_, set, set_cell, return, Source}
 use Rattle.loom_tree.specs.Tree as tree
-use Rattle.loom_lang.specs.Numbers.{position, mutex_number, sema_number, function_number}
+use Rattle.loom_lang.specs.Numbers.{index_of, mutex_number, sema_number, function_number}
 use Rattle.loom_lang.specs.Trace as trace
 use Rattle.loom_lang.specs.Trace.{Item, Lists, Thread, Locals, Calls, made, begins, done, out, broken, emit, any, either, trapped, value_in, updated, expression, arguments, indexed, writing_word, stored, effect, right, joined, numbered}
 use Rattle.loom_flow.specs.declared.code.Operand.{Operand}
@@ -13,7 +13,7 @@ use Rattle.loom_flow.specs.declared.code.Step.TheVariants as s
 use Rattle.loom_flow.specs.declared.code.Compute.TheVariants.{Discard}
 use Rattle.loom_flow.specs.declared.code.Ask.TheVariants.{WriteCell, Lock, Unlock, Down, Up, Join, Print, Spawn}
 use Rattle.loom_flow.specs.declared.code.Control.TheVariants.{Begin, Done, Call, Return}
-use Rattle.loom_flow.specs.Flat.{Flat, resume}
+use Rattle.loom_flow.specs.Flow.{Flow, resume}
 use Rattle.loom_flow.specs.State.{State, jumped, named, names}
 use Rattle.loom_flow.specs.FlatCode.{or_zero, array_named, operand_of, steps_to, operand_steps, argument_steps, call_steps, store_step, value_steps, set_steps, simple_steps, resume_of, instr, instrs}
 use Rattle.loom_flow.proofs.Relations.{Meets, meets_itself, meets_same, meets_on, meets_emit, meets_either}
@@ -40,8 +40,8 @@ IsKnownRight p xs (Right.call f es) = IsFunction p f × AllKnown p xs es
 IsKnownRight p xs (Right.spawn f es) = IsFunction p f × AllKnown p xs es
 
 abbrev pub IsKnownSimple : Source → List (List ℕ) → Simple Expression → Type 0
-IsKnownSimple p xs (let_ x r) = IsNumbered p x (position x xs) × IsKnownRight p xs r
-IsKnownSimple p xs (set x r) = IsNumbered p x (position x xs) × IsKnownRight p xs r
+IsKnownSimple p xs (let_ x r) = IsNumbered p x (index_of x xs) × IsKnownRight p xs r
+IsKnownSimple p xs (set x r) = IsNumbered p x (index_of x xs) × IsKnownRight p xs r
 IsKnownSimple p xs (set_cell x i e) = IsArray p x × IsKnown p xs i × IsKnown p xs e
 IsKnownSimple p xs (Simple.call f es) = IsFunction p f × AllKnown p xs es
 IsKnownSimple p xs (return None) = Unit {0}
@@ -59,7 +59,7 @@ IsKnownSimple p xs tree.skip = Unit {0}
 abbrev pub Ends : Bool → (ℕ → State → Lists) → ℕ → List (List ℕ) → State → ℕ → (Locals → Lists) → Type 0
 Ends b m n xs z at more = (j : ℕ) → j ≤ n → (vs : List ℤ) → length vs ≡ length z.locals → Meets b (m j (jumped (record z { locals = vs }) at)) (more (named xs vs))
 
-abbrev pub Returns : Bool → Flat → Thread → (ℕ → State → Lists) → ℕ → State → (ℤ → Lists) → Type 0
+abbrev pub Returns : Bool → Flow → Thread → (ℕ → State → Lists) → ℕ → State → (ℤ → Lists) → Type 0
 Returns b c t m n z ret = (j : ℕ) → j ≤ n → (v : ℤ) → Meets b (emit (out z.func) (returned c t (m j) z.values v z.below)) (ret v)
 
 -- Names are set
@@ -85,22 +85,22 @@ resume_set : Source → List (List ℕ) → ℕ → Right Expression → ℕ
 resume_set p xs at (Right.call f es) = at + (1 + length (call_steps p xs f es))
 resume_set p xs at _ = 0
 
-set_meets : (b : Bool) (c : Flat) (t : Thread) (m : ℕ → State → Lists) (n l k at : ℕ) (xs : List (List ℕ)) (z : State) (calls : Calls) (x : List ℕ) (r : Right Expression) (more : Locals → Lists)
+set_meets : (b : Bool) (c : Flow) (t : Thread) (m : ℕ → State → Lists) (n l k at : ℕ) (xs : List (List ℕ)) (z : State) (calls : Calls) (x : List ℕ) (r : Right Expression) (more : Locals → Lists)
     → ((j : ℕ) → Fetches b c t (m j)) → CallsMeet b c t m n (length z.below) calls → names (slice_get c.program.funcs z.func) ≡ xs → length xs ≤ length z.locals
-    → IsNumbered t.program x (position x xs) → IsKnownRight t.program xs r
+    → IsNumbered t.program x (index_of x xs) → IsKnownRight t.program xs r
     → Lies c.code at (instrs l k (s.Control Begin ∷ (set_steps t.program xs x r ++ s.Control Done ∷ [])))
     → ((f : List ℕ) (es : List Expression) → r ≡ Right.call f es → resume (slice_get c.sites k) ≡ at + (1 + length (call_steps t.program xs f es)))
     → Ends b m n xs z (skip at (s.Control Begin ∷ (set_steps t.program xs x r ++ s.Control Done ∷ []))) more
     → Meets b (m n (jumped z at)) (emit (begins l (named xs z.locals)) (right t calls l (named xs z.locals) r (λ v. stored t l (named xs z.locals) (value_in (named xs z.locals) x) x v (λ env. emit (done l) (more env)))))
 set_meets b c t m n l k at xs z calls x (Right.value e) more fetches meets names_are h numbered_x known lies site ends =
-    meets_begin b c t (m n) l k at xs z (value_steps t.program xs x e (position x xs) ++ s.Control Done ∷ []) _ (fetches n) names_are (value_straight t.program x xs e (position x xs)) lies
+    meets_begin b c t (m n) l k at xs z (value_steps t.program xs x e (index_of x xs) ++ s.Control Done ∷ []) _ (fetches n) names_are (value_straight t.program x xs e (index_of x xs)) lies
     (meets_value b c t (m n) l k (suc at) x xs z e more h numbered_x known (ends n (omega arith)))
 set_meets b c t m n l k at xs z calls x (Right.call f es) more fetches meets names_are h numbered_x known lies site ends =
     let before : List Step = argument_steps t.program xs es in
     let call : Step = s.Control (Call (or_zero (function_number t.program f)) (length es)) in
-    let store : Step = store_step t.program x (position x xs) in
+    let store : Step = store_step t.program x (index_of x xs) in
     meets_call b c t m n l k at xs z calls f es (store ∷ s.Control Done ∷ []) (λ v. stored t l (named xs z.locals) (value_in (named xs z.locals) x) x v (λ env. emit (done l) (more env)))
-    fetches meets names_are h known.0 known.1 (store_straight t.program x (position x xs))
+    fetches meets names_are h known.0 known.1 (store_straight t.program x (index_of x xs))
     (subst (λ steps. Lies c.code at (instrs l k (s.Control Begin ∷ steps))) (three_behind before call store (s.Control Done)) lies)
     (site f es refl ∙ call_resumes at before call)
     (λ j le v. meets_store b c t (m j) l k (suc (skip (suc at) before)) x xs z v more h numbered_x (λ vs g.
@@ -108,10 +108,10 @@ set_meets b c t m n l k at xs z calls x (Right.call f es) more fetches meets nam
 set_meets b c t m n l k at xs z calls x (Right.spawn f es) more fetches meets names_are h numbered_x known lies site ends =
     let before : List Step = argument_steps t.program xs es in
     let spawn : Step = s.Ask (Spawn (or_zero (function_number t.program f)) (length es) target.Push) in
-    let store : Step = store_step t.program x (position x xs) in
+    let store : Step = store_step t.program x (index_of x xs) in
     let rest : List Step = before ++ spawn ∷ store ∷ s.Control Done ∷ [] in
     meets_begin b c t (m n) l k at xs z rest _ (fetches n) names_are
-    (all_straight_append before (spawn ∷ store ∷ s.Control Done ∷ []) (arguments_straight t.program xs es) (refl, store_straight t.program x (position x xs)))
+    (all_straight_append before (spawn ∷ store ∷ s.Control Done ∷ []) (arguments_straight t.program xs es) (refl, store_straight t.program x (index_of x xs)))
     (subst (λ steps. Lies c.code at (instrs l k (s.Control Begin ∷ steps))) (three_behind before spawn store (s.Control Done)) lies)
     (spawn_is b c t (m n) l k (suc at) xs z f es (store ∷ s.Control Done ∷ []) (λ v. stored t l (named xs z.locals) (value_in (named xs z.locals) x) x v (λ env. emit (done l) (more env)))
     h known.0 known.1
@@ -120,7 +120,7 @@ set_meets b c t m n l k at xs z calls x (Right.spawn f es) more fetches meets na
 
 -- A step with a number, without an operand
 
-numbered_step : (b : Bool) (c : Flat) (t : Thread) (m : State → Lists) (l k at : ℕ) (xs : List (List ℕ)) (z : State) (number : Option ℕ) (n : ℕ)
+numbered_step : (b : Bool) (c : Flow) (t : Thread) (m : State → Lists) (l k at : ℕ) (xs : List (List ℕ)) (z : State) (number : Option ℕ) (n : ℕ)
     (x : ℕ → Step) (y : ℕ → Lists → Lists) (q : Lists)
     → ((i : ℕ) (next : State → Lists) (z' : State) → straight c t l k (x i ∷ []) next z' ≡ y i (next (jumped z' (suc z'.at))))
     → ((i : ℕ) (p r : Lists) → Meets b p r → Meets b (y i p) (y i r))
@@ -133,13 +133,13 @@ numbered_step b c t m l k at xs z number n x y q taken grows e ends =
     (grows n _ _ (meets_emit b (done l) _ _ ends)))
     (meets_same b _ _ (ap {B = Lists} (λ o. numbered o (λ i. y i (emit (done l) q))) (sym e)))
 
-join_is : (c : Flat) (t : Thread) (l k : ℕ) (z : State) (a : Operand) (next : State → Lists) (n : ℕ) (v : ℤ)
+join_is : (c : Flow) (t : Thread) (l k : ℕ) (z : State) (a : Operand) (next : State → Lists) (n : ℕ) (v : ℤ)
     → straight c t l k (s.Ask (Join a) ∷ []) next (jumped (left a v z) n) ≡ joined t l (settled a z.locals v) (next (jumped z (suc n)))
 join_is c t l k z operand.Top next n v = refl
 join_is c t l k z (operand.Local j) next n v = refl
 join_is c t l k z (operand.Number i) next n v = refl
 
-print_is : (c : Flat) (t : Thread) (l k : ℕ) (z : State) (a : Operand) (next : State → Lists) (n : ℕ) (v : ℤ)
+print_is : (c : Flow) (t : Thread) (l k : ℕ) (z : State) (a : Operand) (next : State → Lists) (n : ℕ) (v : ℤ)
     → straight c t l k (s.Ask (Print a) ∷ []) next (jumped (left a v z) n) ≡ emit (made l (trace.print (settled a z.locals v))) (next (jumped z (suc n)))
 print_is c t l k z operand.Top next n v = refl
 print_is c t l k z (operand.Local j) next n v = refl
@@ -147,7 +147,7 @@ print_is c t l k z (operand.Number i) next n v = refl
 
 -- Every statement without a block
 
-pub simple_meets : (b : Bool) (c : Flat) (t : Thread) (m : ℕ → State → Lists) (n l k at : ℕ) (xs : List (List ℕ)) (z : State) (calls : Calls) (x : Simple Expression) (ret : ℤ → Lists) (more : Locals → Lists)
+pub simple_meets : (b : Bool) (c : Flow) (t : Thread) (m : ℕ → State → Lists) (n l k at : ℕ) (xs : List (List ℕ)) (z : State) (calls : Calls) (x : Simple Expression) (ret : ℤ → Lists) (more : Locals → Lists)
     → ((j : ℕ) → Fetches b c t (m j)) → CallsMeet b c t m n (length z.below) calls → names (slice_get c.program.funcs z.func) ≡ xs → length xs ≤ length z.locals
     → IsKnownSimple t.program xs x → Lies c.code at (instrs l k (simple_steps t.program xs x)) → resume (slice_get c.sites k) ≡ resume_of t.program xs at x
     → Returns b c t m n z ret → Ends b m n xs z (skip at (simple_steps t.program xs x)) more

@@ -2,7 +2,7 @@
 use Rattle.std.proofs.Common.{ℕ, suc, zero, ◌+◌, ◌≡◌, ◌&&◌, ◌||◌, Bool, true, false, List, [], ◌∷◌, ◌++◌, Option, Some, None, refl, subst, ⊎_elim, slice_get, length}
 use Rattle.loom_tree.specs.Tree.{Expression, num, var, cell, neg, inverse, bin, Right, Simple, let_, set, set_cell, return, Body, end, simple, if_, while_, Function, Source}
 use Rattle.loom_tree.specs.Tree as tree
-use Rattle.loom_lang.specs.Numbers.{position, mutex_number, sema_number, function_number}
+use Rattle.loom_lang.specs.Numbers.{index_of, mutex_number, sema_number, function_number}
 use Rattle.loom_lang.specs.Rules.{is_in, is_word, is_array, is_sema, takes, knows, knows_all, knows_call, knows_right, knows_simple, knows_body, locals_of, KeepsRules, FunctionsKeepRules}
 use Rattle.loom_flow.specs.declared.code.Operand.{Operand}
 use Rattle.loom_flow.specs.declared.code.Operand.TheVariants as operand
@@ -51,10 +51,10 @@ pub record HoldsOf (p : Source) (P : Step → Type 0) : Type 0 where
 -- Expressions
 
 -- a name that is no local is that of a word
-word_behind : (p : Source) (xs : List (List ℕ)) (x : List ℕ) → position x xs ≡ None → (is_in x xs || is_word p.words x) ≡ true → is_word p.words x ≡ true
+word_behind : (p : Source) (xs : List (List ℕ)) (x : List ℕ) → index_of x xs ≡ None → (is_in x xs || is_word p.words x) ≡ true → is_word p.words x ≡ true
 word_behind p xs x e h = ⊎_elim (λ (here : is_in x xs ≡ true). absurd (not_in x xs e here)) (λ (there : is_word p.words x ≡ true). there) (or_else (is_in x xs) (is_word p.words x) h)
 
-variable_each : (p : Source) (P : Step → Type 0) (d : Target) (xs : List (List ℕ)) (x : List ℕ) (a : Option ℕ) → HoldsOf p P → position x xs ≡ a
+variable_each : (p : Source) (P : Step → Type 0) (d : Target) (xs : List (List ℕ)) (x : List ℕ) (a : Option ℕ) → HoldsOf p P → index_of x xs ≡ a
     → (is_in x xs || is_word p.words x) ≡ true → P (variable_step p d x a)
 variable_each p P d xs x None h e k = h.read x d (word_behind p xs x e k)
 variable_each p P d xs x (Some j) h e k = h.other _ refl
@@ -66,7 +66,7 @@ unless_each P (operand.Number n) steps h = tt
 
 steps_each : (p : Source) (P : Step → Type 0) (xs : List (List ℕ)) (d : Target) (e : Expression) → HoldsOf p P → knows p xs e ≡ true → AllOf P (steps_to p xs d e)
 steps_each p P xs d (num n) h k = (h.other _ refl, tt)
-steps_each p P xs d (var x) h k = (variable_each p P d xs x (position x xs) h refl k, tt)
+steps_each p P xs d (var x) h k = (variable_each p P d xs x (index_of x xs) h refl k, tt)
 steps_each p P xs d (cell x i) h k =
     let g : (is_array p.words x ≡ true) × (knows p xs i ≡ true) = both _ _ k in
     all_append P (operand_steps p xs i) _ (unless_each P (operand_of xs i) _ (steps_each p P xs target.Push i h g.1)) (h.read_cell x (operand_of xs i) d g.0, tt)
@@ -97,11 +97,11 @@ spawn_each : (p : Source) (P : Step → Type 0) (xs : List (List ℕ)) (f : List
 spawn_each p P xs f es h k t = all_append P (argument_steps p xs es) _ (arguments_each p P xs es h (both _ _ k).1) (h.spawn f (length es) target.Push t, tt)
 
 -- what comes of a call is put into a local
-store_each : (p : Source) (P : Step → Type 0) (xs : List (List ℕ)) (x : List ℕ) (a : Option ℕ) → HoldsOf p P → position x xs ≡ a → is_in x xs ≡ true → P (store_step p x a)
+store_each : (p : Source) (P : Step → Type 0) (xs : List (List ℕ)) (x : List ℕ) (a : Option ℕ) → HoldsOf p P → index_of x xs ≡ a → is_in x xs ≡ true → P (store_step p x a)
 store_each p P xs x None h e k = absurd (not_in x xs e k)
 store_each p P xs x (Some j) h e k = h.other _ refl
 
-value_each : (p : Source) (P : Step → Type 0) (xs : List (List ℕ)) (x : List ℕ) (e : Expression) (a : Option ℕ) → HoldsOf p P → position x xs ≡ a
+value_each : (p : Source) (P : Step → Type 0) (xs : List (List ℕ)) (x : List ℕ) (e : Expression) (a : Option ℕ) → HoldsOf p P → index_of x xs ≡ a
     → (is_in x xs || is_word p.words x) ≡ true → knows p xs e ≡ true → AllOf P (value_steps p xs x e a)
 value_each p P xs x e None h is k g = all_append P (operand_steps p xs e) _ (operand_each p P xs e h g) (h.write x (operand_of xs e) (word_behind p xs x is k), tt)
 value_each p P xs x e (Some j) h is k g = steps_each p P xs (target.Local j) e h g
@@ -109,13 +109,13 @@ value_each p P xs x e (Some j) h is k g = steps_each p P xs (target.Local j) e h
 set_each : (p : Source) (P : Step → Type 0) (xs : List (List ℕ)) (x : List ℕ) (r : Right Expression) → HoldsOf p P → knows_right p xs x r ≡ true → takes_right p r ≡ true → AllOf P (set_steps p xs x r)
 set_each p P xs x (Right.value e) h k t =
     let g : ((is_in x xs || is_word p.words x) ≡ true) × (knows p xs e ≡ true) = both _ _ k in
-    value_each p P xs x e (position x xs) h refl g.0 g.1
+    value_each p P xs x e (index_of x xs) h refl g.0 g.1
 set_each p P xs x (Right.call f es) h k t =
     let g : (is_in x xs ≡ true) × (knows_call p xs f es ≡ true) = both _ _ k in
-    all_append P (call_steps p xs f es) _ (call_each p P xs f es h g.1 t) (store_each p P xs x (position x xs) h refl g.0, tt)
+    all_append P (call_steps p xs f es) _ (call_each p P xs f es h g.1 t) (store_each p P xs x (index_of x xs) h refl g.0, tt)
 set_each p P xs x (Right.spawn f es) h k t =
     let g : (is_in x xs ≡ true) × (knows_call p xs f es ≡ true) = both _ _ k in
-    all_append P (spawn_steps p xs f es) _ (spawn_each p P xs f es h g.1 t) (store_each p P xs x (position x xs) h refl g.0, tt)
+    all_append P (spawn_steps p xs f es) _ (spawn_each p P xs f es h g.1 t) (store_each p P xs x (index_of x xs) h refl g.0, tt)
 
 simple_each : (p : Source) (P : Step → Type 0) (xs : List (List ℕ)) (x : Simple Expression) → HoldsOf p P → knows_simple p xs x ≡ true → takes_simple p x ≡ true → AllOf P (simple_steps p xs x)
 simple_each p P xs (let_ x r) h k t = (h.other _ refl, all_append P (set_steps p xs x r) _ (set_each p P xs x r h k t) (h.other _ refl, tt))

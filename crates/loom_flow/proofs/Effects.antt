@@ -12,7 +12,7 @@ use Rattle.loom_flow.specs.declared.code.Step.{Step}
 use Rattle.loom_flow.specs.declared.code.Step.TheVariants as s
 use Rattle.loom_flow.specs.declared.code.Ask.TheVariants.{WriteCell, Spawn}
 use Rattle.loom_flow.specs.declared.code.Control.TheVariants.{Begin, Done, Return}
-use Rattle.loom_flow.specs.Flat.{Flat}
+use Rattle.loom_flow.specs.Flow.{Flow}
 use Rattle.loom_flow.specs.State.{State, jumped, named, names}
 use Rattle.loom_flow.specs.FlatCode.{or_zero, array_of, array_named, operand_of, operand_steps, argument_steps, instr, instrs}
 use Rattle.loom_flow.proofs.Relations.{Meets, meets_itself, meets_same, meets_on, meets_emit, meets_any, meets_either}
@@ -27,7 +27,7 @@ use Rattle.loom_flow.proofs.Simple.{IsFunction}
 
 -- Spawns
 
-pub spawn_is : (b : Bool) (c : Flat) (t : Thread) (m : State → Lists) (l k at : ℕ) (xs : List (List ℕ)) (z : State) (f : List ℕ) (es : List Expression) (rest : List Step) (more : ℤ → Lists)
+pub spawn_is : (b : Bool) (c : Flow) (t : Thread) (m : State → Lists) (l k at : ℕ) (xs : List (List ℕ)) (z : State) (f : List ℕ) (es : List Expression) (rest : List Step) (more : ℤ → Lists)
     → length xs ≤ length z.locals → IsFunction t.program f → AllKnown t.program xs es
     → ((v : ℤ) → Meets b (straight c t l k rest m (jumped (record z { values = v ∷ z.values }) (suc (skip at (argument_steps t.program xs es))))) (more v))
     → Meets b (straight c t l k (argument_steps t.program xs es ++ s.Ask (Spawn (or_zero (function_number t.program f)) (length es) target.Push) ∷ rest) m (jumped z at))
@@ -60,7 +60,7 @@ spawn_is b c t m l k at xs z f es rest more h function known goes_on =
 
 -- Cells
 
-write_cell_is : (c : Flat) (t : Thread) (l k : ℕ) (x : List ℕ) (a b : Operand) (next : State → Lists) (z : State) (n : ℕ) (v w : ℤ) → IsArray t.program x
+write_cell_is : (c : Flow) (t : Thread) (l k : ℕ) (x : List ℕ) (a b : Operand) (next : State → Lists) (z : State) (n : ℕ) (v w : ℤ) → IsArray t.program x
     → straight c t l k (s.Ask (WriteCell (array_named t.program x) a b) ∷ []) next (jumped (left b w (left a v z)) n)
     ≡ indexed t l (cells_named t.program x) (settled a z.locals v) (λ i. emit (made l (trace.write i (settled b z.locals w))) (next (jumped z (suc n))))
 write_cell_is c t l k x a b next z n v w h =
@@ -83,7 +83,7 @@ write_cell_is c t l k x a b next z n v w h =
     by (operand.Number i) (operand.Local j) = write_cell_gives c t next (jumped (left (operand.Local j) w (left (operand.Number i) v z)) n) (instr l k (s.Ask (WriteCell (array_of here) (operand.Number i) (operand.Local j)))) (array_of here) (operand.Number i) (operand.Local j)
     by (operand.Number i) (operand.Number j) = write_cell_gives c t next (jumped (left (operand.Number j) w (left (operand.Number i) v z)) n) (instr l k (s.Ask (WriteCell (array_of here) (operand.Number i) (operand.Number j)))) (array_of here) (operand.Number i) (operand.Number j)
 
-pub meets_cell : (b : Bool) (c : Flat) (t : Thread) (m : State → Lists) (l k at : ℕ) (x : List ℕ) (xs : List (List ℕ)) (z : State) (e f : Expression) (q : Lists)
+pub meets_cell : (b : Bool) (c : Flow) (t : Thread) (m : State → Lists) (l k at : ℕ) (x : List ℕ) (xs : List (List ℕ)) (z : State) (e f : Expression) (q : Lists)
     → length xs ≤ length z.locals → IsArray t.program x → IsKnown t.program xs e → IsKnown t.program xs f
     → Meets b (m (jumped z (skip at (operand_steps t.program xs e ++ (operand_steps t.program xs f ++ s.Ask (WriteCell (array_named t.program x) (operand_of xs e) (operand_of xs f)) ∷ s.Control Done ∷ []))))) q
     → Meets b (straight c t l k (operand_steps t.program xs e ++ (operand_steps t.program xs f ++ s.Ask (WriteCell (array_named t.program x) (operand_of xs e) (operand_of xs f)) ∷ s.Control Done ∷ [])) m (jumped z at))
@@ -118,14 +118,14 @@ meets_cell way c t m l k at x xs z e f q h array known_e known_f ends =
 -- Returns
 
 -- The frame ends with an operand.
-pub return_is : (b : Bool) (c : Flat) (t : Thread) (m : State → Lists) (l k n : ℕ) (a : Operand) (z : State) (v : ℤ) (ret : ℤ → Lists)
+pub return_is : (b : Bool) (c : Flow) (t : Thread) (m : State → Lists) (l k n : ℕ) (a : Operand) (z : State) (v : ℤ) (ret : ℤ → Lists)
     → ((w : ℤ) → Meets b (emit (out z.func) (returned c t m z.values w z.below)) (ret w))
     → Meets b (performed c t m (jumped (left a v z) n) (instr l k (s.Control (Return a))) (s.Control (Return a))) (emit (done l) (ret (settled a z.locals v)))
 return_is b c t m l k n operand.Top z v ret f = meets_emit b (done l) _ _ (f v)
 return_is b c t m l k n (operand.Local j) z v ret f = meets_emit b (done l) _ _ (f _)
 return_is b c t m l k n (operand.Number i) z v ret f = meets_emit b (done l) _ _ (f i)
 
-pub meets_return : (b : Bool) (c : Flat) (t : Thread) (m : State → Lists) (l k at : ℕ) (xs : List (List ℕ)) (z : State) (e : Expression) (ret : ℤ → Lists)
+pub meets_return : (b : Bool) (c : Flow) (t : Thread) (m : State → Lists) (l k at : ℕ) (xs : List (List ℕ)) (z : State) (e : Expression) (ret : ℤ → Lists)
     → Fetches b c t m → names (slice_get c.program.funcs z.func) ≡ xs → length xs ≤ length z.locals → IsKnown t.program xs e
     → Lies c.code at (instrs l k (s.Control Begin ∷ (operand_steps t.program xs e ++ s.Control (Return (operand_of xs e)) ∷ [])))
     → ((w : ℤ) → Meets b (emit (out z.func) (returned c t m z.values w z.below)) (ret w))

@@ -3,7 +3,7 @@ use Rattle.std.proofs.Common.{◌≤◌, ℕ, suc, ◌≡◌, List, [], ◌∷�
 use mathlib.Core.Path.{fun_ext}
 use Rattle.loom_tree.specs.declared.expression.Op.{Op}
 use Rattle.loom_tree.specs.Tree.{Expression, num, var, cell, neg, inverse, bin, Source}
-use Rattle.loom_lang.specs.Numbers.{position, Cells, cells_named}
+use Rattle.loom_lang.specs.Numbers.{index_of, Cells, cells_named}
 use Rattle.loom_lang.specs.Values.{negated, inverted}
 use Rattle.loom_lang.specs.Trace.{Lists, Thread, Locals, value_in, reading, reading_word, variable, indexed, operated, expression}
 use Rattle.loom_flow.specs.declared.code.Operand.{Operand}
@@ -14,7 +14,7 @@ use Rattle.loom_flow.specs.declared.code.Step.{Step}
 use Rattle.loom_flow.specs.declared.code.Step.TheVariants as s
 use Rattle.loom_flow.specs.declared.code.Compute.TheVariants.{Negate, Invert, Apply}
 use Rattle.loom_flow.specs.declared.code.Ask.TheVariants.{ReadCell}
-use Rattle.loom_flow.specs.Flat.{Flat}
+use Rattle.loom_flow.specs.Flow.{Flow}
 use Rattle.loom_flow.specs.State.{State, value_of, given, jumped, named}
 use Rattle.loom_flow.specs.FlatCode.{instr, array_of, array_named, first_cell, local_operand, operand_of, unless_there, variable_step, steps_to, operand_steps}
 use Rattle.loom_flow.proofs.Locals.{local_value, value_named}
@@ -32,7 +32,7 @@ IsArray p x = (first : ℕ) × (n : ℕ) × (cells_named p x ≡ Some (record { 
 
 abbrev pub IsKnown : Source → List (List ℕ) → Expression → Type 0
 IsKnown p xs (num n) = Unit {0}
-IsKnown p xs (var x) = IsNumbered p x (position x xs)
+IsKnown p xs (var x) = IsNumbered p x (index_of x xs)
 IsKnown p xs (cell x i) = IsArray p x × IsKnown p xs i
 IsKnown p xs (neg a) = IsKnown p xs a
 IsKnown p xs (inverse a) = IsKnown p xs a
@@ -65,10 +65,10 @@ pub settled_is : (t : Thread) (l : ℕ) (xs : List (List ℕ)) (vs : List ℤ) (
     → expression t l (named xs vs) e more ≡ expression t l (named xs vs) e (λ v. more (settled (operand_of xs e) vs v))
 settled_is t l xs vs (num n) more h = refl
 settled_is t l xs vs (var x) more h =
-    let found : value_in (named xs vs) x ≡ local_value vs (position x xs) = value_named xs vs x h in
+    let found : value_in (named xs vs) x ≡ local_value vs (index_of x xs) = value_named xs vs x h in
     ap {B = Lists} (λ w. variable t l w x more) found
-    ∙ settled_variable t l x vs more (position x xs)
-    ∙ ap {B = Lists} (λ w. variable t l w x (λ v. more (settled (local_operand (position x xs)) vs v))) (sym found)
+    ∙ settled_variable t l x vs more (index_of x xs)
+    ∙ ap {B = Lists} (λ w. variable t l w x (λ v. more (settled (local_operand (index_of x xs)) vs v))) (sym found)
 settled_is t l xs vs (cell x i) more h = refl
 settled_is t l xs vs (neg a) more h = refl
 settled_is t l xs vs (inverse a) more h = refl
@@ -76,24 +76,24 @@ settled_is t l xs vs (bin o a b) more h = refl
 
 -- The steps that leave a value on top serve for an operand, too.
 
-variable_operand : (c : Flat) (t : Thread) (l k : ℕ) (x : List ℕ) (steps : List Step) (next : State → Lists) (z : State) (at : ℕ) (a : Option ℕ)
+variable_operand : (c : Flow) (t : Thread) (l k : ℕ) (x : List ℕ) (steps : List Step) (next : State → Lists) (z : State) (at : ℕ) (a : Option ℕ)
     → straight c t l k steps next (jumped z at) ≡ variable t l (local_value z.locals a) x (λ v. next (jumped (given z target.Push v) (skip at steps)))
     → straight c t l k (unless_there (local_operand a) steps) next (jumped z at)
     ≡ variable t l (local_value z.locals a) x (λ v. next (jumped (left (local_operand a) v z) (skip at (unless_there (local_operand a) steps))))
 variable_operand c t l k x steps next z at None h = h
 variable_operand c t l k x steps next z at (Some j) h = refl
 
-pub operand_are : (c : Flat) (t : Thread) (l k : ℕ) (xs : List (List ℕ)) (e : Expression) (next : State → Lists) (z : State) (at : ℕ) → length xs ≤ length z.locals
+pub operand_are : (c : Flow) (t : Thread) (l k : ℕ) (xs : List (List ℕ)) (e : Expression) (next : State → Lists) (z : State) (at : ℕ) → length xs ≤ length z.locals
     → straight c t l k (steps_to t.program xs target.Push e) next (jumped z at)
     ≡ expression t l (named xs z.locals) e (λ v. next (jumped (given z target.Push v) (skip at (steps_to t.program xs target.Push e))))
     → straight c t l k (operand_steps t.program xs e) next (jumped z at)
     ≡ expression t l (named xs z.locals) e (λ v. next (jumped (left (operand_of xs e) v z) (skip at (operand_steps t.program xs e))))
 operand_are c t l k xs (num n) next z at h g = refl
 operand_are c t l k xs (var x) next z at h g =
-    let found : value_in (named xs z.locals) x ≡ local_value z.locals (position x xs) = value_named xs z.locals x h in
+    let found : value_in (named xs z.locals) x ≡ local_value z.locals (index_of x xs) = value_named xs z.locals x h in
     let steps : List Step = steps_to t.program xs target.Push (var x) in
-    let a : Operand = local_operand (position x xs) in
-    variable_operand c t l k x steps next z at (position x xs) (g ∙ ap {B = Lists} (λ w. variable t l w x (λ v. next (jumped (given z target.Push v) (skip at steps)))) found)
+    let a : Operand = local_operand (index_of x xs) in
+    variable_operand c t l k x steps next z at (index_of x xs) (g ∙ ap {B = Lists} (λ w. variable t l w x (λ v. next (jumped (given z target.Push v) (skip at steps)))) found)
     ∙ ap {B = Lists} (λ w. variable t l w x (λ v. next (jumped (left a v z) (skip at (unless_there a steps))))) (sym found)
 operand_are c t l k xs (cell x i) next z at h g = g
 operand_are c t l k xs (neg a) next z at h g = g
@@ -102,19 +102,19 @@ operand_are c t l k xs (bin o a b) next z at h g = g
 
 -- Single steps behind their operands
 
-negate_is : (c : Flat) (t : Thread) (l k : ℕ) (d : Target) (a : Operand) (next : State → Lists) (z : State) (n : ℕ) (v : ℤ)
+negate_is : (c : Flow) (t : Thread) (l k : ℕ) (d : Target) (a : Operand) (next : State → Lists) (z : State) (n : ℕ) (v : ℤ)
     → straight c t l k (s.Compute (Negate a d) ∷ []) next (jumped (left a v z) n) ≡ next (jumped (given z d (negated (settled a z.locals v))) (suc n))
 negate_is c t l k d operand.Top next z n v = refl
 negate_is c t l k d (operand.Local j) next z n v = refl
 negate_is c t l k d (operand.Number m) next z n v = refl
 
-invert_is : (c : Flat) (t : Thread) (l k : ℕ) (d : Target) (a : Operand) (next : State → Lists) (z : State) (n : ℕ) (v : ℤ)
+invert_is : (c : Flow) (t : Thread) (l k : ℕ) (d : Target) (a : Operand) (next : State → Lists) (z : State) (n : ℕ) (v : ℤ)
     → straight c t l k (s.Compute (Invert a d) ∷ []) next (jumped (left a v z) n) ≡ next (jumped (given z d (inverted (settled a z.locals v))) (suc n))
 invert_is c t l k d operand.Top next z n v = refl
 invert_is c t l k d (operand.Local j) next z n v = refl
 invert_is c t l k d (operand.Number m) next z n v = refl
 
-apply_is : (c : Flat) (t : Thread) (l k : ℕ) (d : Target) (o : Op) (a b : Operand) (next : State → Lists) (z : State) (n : ℕ) (v w : ℤ)
+apply_is : (c : Flow) (t : Thread) (l k : ℕ) (d : Target) (o : Op) (a b : Operand) (next : State → Lists) (z : State) (n : ℕ) (v w : ℤ)
     → straight c t l k (s.Compute (Apply o a b d) ∷ []) next (jumped (left b w (left a v z)) n)
     ≡ operated t l o (settled a z.locals v) (settled b z.locals w) (λ u. next (jumped (given z d u) (suc n)))
 apply_is c t l k d o operand.Top operand.Top next z n v w = apply_gives c t next (jumped (left operand.Top w (left operand.Top v z)) n) (instr l k (s.Compute (Apply o operand.Top operand.Top d))) o operand.Top operand.Top d
@@ -128,7 +128,7 @@ apply_is c t l k d o (operand.Number i) (operand.Local j) next z n v w = apply_g
 apply_is c t l k d o (operand.Number i) (operand.Number m) next z n v w = apply_gives c t next (jumped (left (operand.Number m) w (left (operand.Number i) v z)) n) (instr l k (s.Compute (Apply o (operand.Number i) (operand.Number m) d))) o (operand.Number i) (operand.Number m) d
 
 -- a cell is read where its array has a number
-read_cell_is : (c : Flat) (t : Thread) (l k : ℕ) (d : Target) (x : List ℕ) (a : Operand) (next : State → Lists) (z : State) (n : ℕ) (v : ℤ) → IsArray t.program x
+read_cell_is : (c : Flow) (t : Thread) (l k : ℕ) (d : Target) (x : List ℕ) (a : Operand) (next : State → Lists) (z : State) (n : ℕ) (v : ℤ) → IsArray t.program x
     → straight c t l k (s.Ask (ReadCell (array_named t.program x) a d) ∷ []) next (jumped (left a v z) n)
     ≡ indexed t l (cells_named t.program x) (settled a z.locals v) (λ w. reading l w (λ u. next (jumped (given z d u) (suc n))))
 read_cell_is c t l k d x a next z n v h =
@@ -145,7 +145,7 @@ read_cell_is c t l k d x a next z n v h =
     by (operand.Local j) = read_cell_gives c t next (jumped (left (operand.Local j) v z) n) (instr l k (s.Ask (ReadCell (array_of here) (operand.Local j) d))) (array_of here) (operand.Local j) d
     by (operand.Number m) = read_cell_gives c t next (jumped (left (operand.Number m) v z) n) (instr l k (s.Ask (ReadCell (array_of here) (operand.Number m) d))) (array_of here) (operand.Number m) d
 
-variable_is : (c : Flat) (t : Thread) (l k : ℕ) (d : Target) (x : List ℕ) (next : State → Lists) (z : State) (at : ℕ) (a : Option ℕ) → IsNumbered t.program x a
+variable_is : (c : Flow) (t : Thread) (l k : ℕ) (d : Target) (x : List ℕ) (next : State → Lists) (z : State) (at : ℕ) (a : Option ℕ) → IsNumbered t.program x a
     → straight c t l k (variable_step t.program d x a ∷ []) next (jumped z at) ≡ variable t l (local_value z.locals a) x (λ v. next (jumped (given z d v) (suc at)))
 variable_is c t l k d x next z at None h =
     ap {B = Lists} (λ cells. reading l (first_cell cells) (λ v. next (jumped (given z d v) (suc at)))) h.1
@@ -155,13 +155,13 @@ variable_is c t l k d x next z at (Some j) h = refl
 skip_variable : (at : ℕ) (p : Source) (d : Target) (x : List ℕ) (a : Option ℕ) → skip at (variable_step p d x a ∷ []) ≡ suc at
 skip_variable at p d x a = refl
 
-pub steps_are : (c : Flat) (t : Thread) (l k : ℕ) (xs : List (List ℕ)) (d : Target) (e : Expression) (next : State → Lists) (z : State) (at : ℕ)
+pub steps_are : (c : Flow) (t : Thread) (l k : ℕ) (xs : List (List ℕ)) (d : Target) (e : Expression) (next : State → Lists) (z : State) (at : ℕ)
     → length xs ≤ length z.locals → IsKnown t.program xs e
     → straight c t l k (steps_to t.program xs d e) next (jumped z at)
     ≡ expression t l (named xs z.locals) e (λ v. next (jumped (given z d v) (skip at (steps_to t.program xs d e))))
 steps_are c t l k xs d (num n) next z at h g = refl
 steps_are c t l k xs d (var x) next z at h g =
-    variable_is c t l k d x next z at (position x xs) g
+    variable_is c t l k d x next z at (index_of x xs) g
     ∙ ap {B = Lists} (λ w. variable t l w x (λ v. next (jumped (given z d v) (suc at)))) (sym (value_named xs z.locals x h))
 steps_are c t l k xs d (cell x i) next z at h g =
     let env : Locals = named xs z.locals in

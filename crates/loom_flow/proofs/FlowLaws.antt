@@ -6,7 +6,7 @@ use Rattle.std.proofs.lemmas.Option.{slice_get-map, slice_get-get_or}
 use Rattle.loom_tree.specs.Tree.{Function, Source}
 use Rattle.loom_lang.specs.Places.{places, place_at, line_of_place}
 use Rattle.loom_flow.specs.declared.code.Site.{Site}
-use Rattle.loom_flow.specs.Flat.{Flat}
+use Rattle.loom_flow.specs.Flow.{Flow}
 use Rattle.loom_flow.specs.Laws.{HasTraces, HasPlaces, HasInstructionPlaces, HasCalls}
 use Rattle.loom_flow.specs.FlatCode.{or_zero, calls_body, set_of}
 use Rattle.loom_flow.specs.Code.{IsLowered}
@@ -15,51 +15,51 @@ use Rattle.loom_flow.proofs.CallSets.{lowered_calls}
 use Rattle.loom_flow.proofs.InstructionPlaces as located
 use Rattle.loom_flow.proofs.Traces.{lowered_traces}
 
-pub has_places : (c : Flat) → IsLowered c → HasPlaces c c.program
-has_places c h = let P : Flat → Type 0 = λ z. HasPlaces z c.program in subst P (sym h.is) (lowered_places c.program)
+pub has_places : (c : Flow) → IsLowered c → HasPlaces c c.program
+has_places c h = let P : Flow → Type 0 = λ z. HasPlaces z c.program in subst P (sym h.is) (lowered_places c.program)
 
-pub has_calls : (c : Flat) → IsLowered c → HasCalls c c.program
-has_calls c h = let P : Flat → Type 0 = λ z. HasCalls z c.program in subst P (sym h.is) (lowered_calls c.program)
+pub has_calls : (c : Flow) → IsLowered c → HasCalls c c.program
+has_calls c h = let P : Flow → Type 0 = λ z. HasCalls z c.program in subst P (sym h.is) (lowered_calls c.program)
 
 -- the same, at a program that is that of the flat code
 
-pub places_of : (c : Flat) (p : Source) → IsLowered c → c.program ≡ p → HasPlaces c p
+pub places_of : (c : Flow) (p : Source) → IsLowered c → c.program ≡ p → HasPlaces c p
 places_of c p h e = let P : Source → Type 0 = λ q. HasPlaces c q in subst P e (has_places c h)
 
-pub calls_of : (c : Flat) (p : Source) → IsLowered c → c.program ≡ p → HasCalls c p
+pub calls_of : (c : Flow) (p : Source) → IsLowered c → c.program ≡ p → HasCalls c p
 calls_of c p h e = let P : Source → Type 0 = λ q. HasCalls c q in subst P e (has_calls c h)
 
-pub traces_of : (c : Flat) (p : Source) → IsLowered c → c.program ≡ p → HasTraces c p
+pub traces_of : (c : Flow) (p : Source) → IsLowered c → c.program ≡ p → HasTraces c p
 traces_of c p h e =
-    let P : Flat → Type 0 = λ z. HasTraces z c.program in
+    let P : Flow → Type 0 = λ z. HasTraces z c.program in
     let Q : Source → Type 0 = λ q. HasTraces c q in
     subst Q e (subst P (sym h.is) (lowered_traces c.program h.lawful))
 
-pub instructions_of : (c : Flat) (p : Source) → IsLowered c → c.program ≡ p → HasInstructionPlaces c p
+pub instructions_of : (c : Flow) (p : Source) → IsLowered c → c.program ≡ p → HasInstructionPlaces c p
 instructions_of c p h e =
-    let P : Flat → Type 0 = λ z. HasInstructionPlaces z c.program in
+    let P : Flow → Type 0 = λ z. HasInstructionPlaces z c.program in
     let Q : Source → Type 0 = λ q. HasInstructionPlaces c q in
     subst Q e (subst P (sym h.is) (located.lowered_places c.program))
 
 -- the accessors of `Flow`
 
-pub as_many_sites : (c : Flat) → IsLowered c → length c.sites ≡ length (places c.program)
+pub as_many_sites : (c : Flow) → IsLowered c → length c.sites ≡ length (places c.program)
 as_many_sites c h = sym (length-map c.sites (λ (s : Site). s.line)) ∙ ap length (has_places c h) ∙ length-map (places c.program) (line_of_place c.program)
 
-pub few_sites : (c : Flat) → IsLowered c → length c.sites ≤ 8321
+pub few_sites : (c : Flow) → IsLowered c → length c.sites ≤ 8321
 few_sites c h = let is = as_many_sites c h in let few = few_places c.program h.lawful in omega arith
 
-pub site_line : (c : Flat) (k : ℕ) (d : Site) → IsLowered c → k < length c.sites → option_map (line_of_place c.program) (place_at c.program k) ≡ Some (get_or c.sites k d).line
+pub site_line : (c : Flow) (k : ℕ) (d : Site) → IsLowered c → k < length c.sites → option_map (line_of_place c.program) (place_at c.program k) ≡ Some (get_or c.sites k d).line
 site_line c k d h l =
     sym (slice_get-map (line_of_place c.program) (places c.program) k)
     ∙ ap (λ z. slice_get z k) (sym (has_places c h))
     ∙ slice_get-map (λ (s : Site). s.line) c.sites k
     ∙ ap (option_map (λ (s : Site). s.line)) (slice_get-get_or c.sites k d l)
 
-pub as_many_calls : (c : Flat) → IsLowered c → length c.calls ≡ length c.program.funcs
-as_many_calls c h = ap (λ (z : Flat). length z.calls) h.is ∙ length-map c.program.funcs (λ (f : Function). set_of 0 (calls_body c.program f.body))
+pub as_many_calls : (c : Flow) → IsLowered c → length c.calls ≡ length c.program.funcs
+as_many_calls c h = ap (λ (z : Flow). length z.calls) h.is ∙ length-map c.program.funcs (λ (f : Function). set_of 0 (calls_body c.program f.body))
 
-pub calls_kept : (c : Flat) (f d : ℕ) (h : Function) (g : ℕ) → IsLowered c → f < length c.program.funcs → slice_get c.program.funcs f ≡ Some h → IsBitSet (get_or c.calls f d) g ↔ Contains (calls_body c.program h.body) g
+pub calls_kept : (c : Flow) (f d : ℕ) (h : Function) (g : ℕ) → IsLowered c → f < length c.program.funcs → slice_get c.program.funcs f ≡ Some h → IsBitSet (get_or c.calls f d) g ↔ Contains (calls_body c.program h.body) g
 calls_kept c f d h g k l e =
     let P : ℕ → Type 0 = λ z. IsBitSet z g ↔ Contains (calls_body c.program h.body) g in
     let many = as_many_calls c k in

@@ -4,7 +4,7 @@ use Rattle.std.specs.Cmp.Lexicographic.{pointwise}
 use Rattle.std.proofs.lemmas.Option.{slice_get_within}
 use Rattle.loom_tree.specs.Tree.{Expression, Right, Simple, let_, set, Body, end, simple, if_, while_, Function, Source}
 use Rattle.loom_lang.specs.Rules.{locals_of, KeepsRules, FunctionKeepsRules, FunctionsKeepRules}
-use Rattle.loom_lang.specs.Numbers.{position, function_number}
+use Rattle.loom_lang.specs.Numbers.{index_of, function_number}
 use Rattle.loom_flow.specs.declared.code.Step.{Step}
 use Rattle.loom_flow.specs.declared.code.Step.TheVariants as s
 use Rattle.loom_flow.specs.declared.code.Compute.TheVariants.{Discard}
@@ -12,7 +12,7 @@ use Rattle.loom_flow.specs.declared.code.Ask.TheVariants.{Spawn}
 use Rattle.loom_flow.specs.declared.code.Control.TheVariants.{Begin, Done, Edge, Jump, JumpIfZero, Call, Return, Out}
 use Rattle.loom_flow.specs.declared.code.Instr.{Instr}
 use Rattle.loom_flow.specs.declared.code.Entrance.{Entrance}
-use Rattle.loom_flow.specs.Flat.{Flat, resume}
+use Rattle.loom_flow.specs.Flow.{Flow, resume}
 use Rattle.loom_flow.specs.FlatCode.{or_zero, operand_of, operand_steps, argument_steps, call_steps, store_step, set_steps, simple_steps, resume_of, instr, instrs, size, place_count, body_code, body_sites, entrances, lowered}
 use Rattle.loom_flow.specs.Laws.{IsInFunction, HasStart, LeadsInto, JumpsForward, KeepsFunctions}
 use Rattle.loom_flow.proofs.Sublist.{Lies, lies_first, lies_second}
@@ -31,19 +31,19 @@ abbrev Inside : (ℕ → Type 0) → ℕ → ℕ → Type 0
 Inside Q lo hi = (m : ℕ) → lo ≤ m → m ≤ hi → Q m
 
 -- The functions that a program names have their starts.
-abbrev Starts : Flat → Type 0
+abbrev Starts : Flow → Type 0
 Starts c = (f : List ℕ) → IsFunction c.program f → HasStart c (or_zero (function_number c.program f))
 
-abbrev LeadsAt : (ℕ → Type 0) → Flat → ℕ → Instr → Type 0
+abbrev LeadsAt : (ℕ → Type 0) → Flow → ℕ → Instr → Type 0
 LeadsAt Q c m i = LeadsInto Q c m i i.step
 
 -- a step of a statement on line `l`, at place `k`, whatever its number
-abbrev LeadsWithin : (ℕ → Type 0) → Flat → ℕ → ℕ → ℕ → ℕ → Step → Type 0
+abbrev LeadsWithin : (ℕ → Type 0) → Flow → ℕ → ℕ → ℕ → ℕ → Step → Type 0
 LeadsWithin Q c lo hi l k x = (m : ℕ) → lo ≤ m → m < hi → LeadsInto Q c m (instr l k x) x
 
 -- Statements
 
-plain_leads : (Q : ℕ → Type 0) (c : Flat) (lo hi l k : ℕ) → Inside Q lo hi → (x : Step) → is_plain x ≡ true → LeadsWithin Q c lo hi l k x
+plain_leads : (Q : ℕ → Type 0) (c : Flow) (lo hi l k : ℕ) → Inside Q lo hi → (x : Step) → is_plain x ≡ true → LeadsWithin Q c lo hi l k x
 plain_leads Q c lo hi l k q (s.Control (Call f n)) e m from to = cc
 plain_leads Q c lo hi l k q (s.Ask (Spawn f n d)) e m from to = cc
 plain_leads Q c lo hi l k q (s.Control (Edge at)) e m from to = cc
@@ -54,7 +54,7 @@ plain_leads Q c lo hi l k q (s.Control (Return a)) e m from to = tt
 plain_leads Q c lo hi l k q _ e m from to = q (suc m) (omega (arith, from)) to
 
 -- a call, with what stands before and behind it
-call_leads : (Q : ℕ → Type 0) (c : Flat) (lo hi l k at : ℕ) (xs : List (List ℕ)) (f : List ℕ) (es : List Expression) (x : Step) (ys : List Step) → Inside Q lo hi → Starts c → IsFunction c.program f → is_plain x ≡ true
+call_leads : (Q : ℕ → Type 0) (c : Flow) (lo hi l k at : ℕ) (xs : List (List ℕ)) (f : List ℕ) (es : List Expression) (x : Step) (ys : List Step) → Inside Q lo hi → Starts c → IsFunction c.program f → is_plain x ≡ true
     → ys ≡ argument_steps c.program xs es ++ s.Control (Call (or_zero (function_number c.program f)) (length es)) ∷ x ∷ s.Control Done ∷ []
     → resume (slice_get c.sites k) ≡ at + (1 + length (call_steps c.program xs f es)) → lo ≤ at → at + suc (length ys) ≤ hi → Each (LeadsAt Q c) at (instrs l k (s.Control Begin ∷ ys))
 call_leads Q c lo hi l k at xs f es x ys q starts known plain same site from to =
@@ -79,23 +79,23 @@ store_plain : (p : Source) (x : List ℕ) (a : Option ℕ) → is_plain (store_s
 store_plain p x None = refl
 store_plain p x (Some j) = refl
 
-set_call_leads : (Q : ℕ → Type 0) (c : Flat) (lo hi l k at : ℕ) (xs : List (List ℕ)) (x f : List ℕ) (es : List Expression) → Inside Q lo hi → Starts c → IsFunction c.program f
+set_call_leads : (Q : ℕ → Type 0) (c : Flow) (lo hi l k at : ℕ) (xs : List (List ℕ)) (x f : List ℕ) (es : List Expression) → Inside Q lo hi → Starts c → IsFunction c.program f
     → resume (slice_get c.sites k) ≡ at + (1 + length (call_steps c.program xs f es)) → lo ≤ at → at + length (simple_steps c.program xs (set x (Right.call f es))) ≤ hi
     → Each (LeadsAt Q c) at (instrs l k (simple_steps c.program xs (set x (Right.call f es))))
 set_call_leads Q c lo hi l k at xs x f es q starts known site from to =
     let before : List Step = argument_steps c.program xs es in
     let call : Step = s.Control (Call (or_zero (function_number c.program f)) (length es)) in
-    let store : Step = store_step c.program x (position x xs) in
-    call_leads Q c lo hi l k at xs f es store (set_steps c.program xs x (Right.call f es) ++ s.Control Done ∷ []) q starts known (store_plain c.program x (position x xs))
+    let store : Step = store_step c.program x (index_of x xs) in
+    call_leads Q c lo hi l k at xs f es store (set_steps c.program xs x (Right.call f es) ++ s.Control Done ∷ []) q starts known (store_plain c.program x (index_of x xs))
     (append_assoc (before ++ call ∷ []) (store ∷ []) (s.Control Done ∷ []) ∙ append_assoc before (call ∷ []) (store ∷ s.Control Done ∷ [])) site from to
 
 -- a statement without a call
-other_leads : (Q : ℕ → Type 0) (c : Flat) (lo hi l k at : ℕ) (xs : List (List ℕ)) (x : Simple Expression) → Inside Q lo hi → CallsSimple (LeadsWithin Q c lo hi l k) c.program x
+other_leads : (Q : ℕ → Type 0) (c : Flow) (lo hi l k at : ℕ) (xs : List (List ℕ)) (x : Simple Expression) → Inside Q lo hi → CallsSimple (LeadsWithin Q c lo hi l k) c.program x
     → lo ≤ at → at + length (simple_steps c.program xs x) ≤ hi → Each (LeadsAt Q c) at (instrs l k (simple_steps c.program xs x))
 other_leads Q c lo hi l k at xs x q calls from to =
     each_instrs (LeadsAt Q c) lo hi at l k (simple_steps c.program xs x) from to (simple_all (LeadsWithin Q c lo hi l k) (plain_leads Q c lo hi l k q) c.program xs x calls)
 
-simple_leads : (Q : ℕ → Type 0) (c : Flat) (lo hi l k at : ℕ) (xs : List (List ℕ)) → Inside Q lo hi → Starts c → (x : Simple Expression) → IsKnownSimple c.program xs x
+simple_leads : (Q : ℕ → Type 0) (c : Flow) (lo hi l k at : ℕ) (xs : List (List ℕ)) → Inside Q lo hi → Starts c → (x : Simple Expression) → IsKnownSimple c.program xs x
     → resume (slice_get c.sites k) ≡ resume_of c.program xs at x → lo ≤ at → at + length (simple_steps c.program xs x) ≤ hi → Each (LeadsAt Q c) at (instrs l k (simple_steps c.program xs x))
 simple_leads Q c lo hi l k at xs q starts (let_ x (Right.call f es)) known site from to = set_call_leads Q c lo hi l k at xs x f es q starts known.1.0 site from to
 simple_leads Q c lo hi l k at xs q starts (let_ x (Right.value e)) known site from to = other_leads Q c lo hi l k at xs (let_ x (Right.value e)) q tt from to
@@ -111,7 +111,7 @@ simple_leads Q c lo hi l k at xs q starts (Simple.call f es) known site from to 
 simple_leads Q c lo hi l k at xs q starts x known site from to = other_leads Q c lo hi l k at xs x q tt from to
 
 -- a statement's beginning and its condition
-condition_leads : (Q : ℕ → Type 0) (c : Flat) (lo hi at l k to : ℕ) (xs : List (List ℕ)) (e : Expression) → Inside Q lo hi → lo ≤ at → at + (2 + length (operand_steps c.program xs e)) ≤ to → to ≤ hi
+condition_leads : (Q : ℕ → Type 0) (c : Flow) (lo hi at l k to : ℕ) (xs : List (List ℕ)) (e : Expression) → Inside Q lo hi → lo ≤ at → at + (2 + length (operand_steps c.program xs e)) ≤ to → to ≤ hi
     → Each (LeadsAt Q c) at (instrs l k (s.Control Begin ∷ (operand_steps c.program xs e ++ s.Control (JumpIfZero (operand_of xs e) to) ∷ [])))
 condition_leads Q c lo hi at l k to xs e q from ahead below =
     let before : List Step = operand_steps c.program xs e in
@@ -124,7 +124,7 @@ condition_leads Q c lo hi at l k to xs e q from ahead below =
           ((λ m above under. (within (suc m) (omega (arith, above)) under, under, within to (omega (arith, from, ahead)) (le_refl to))), tt),
     )
 
-body_leads : (Q : ℕ → Type 0) (c : Flat) (lo hi : ℕ) (xs : List (List ℕ)) → Inside Q lo hi → Starts c → (at k : ℕ) (a : Body) → lo ≤ at → at + size c.program xs a ≤ hi
+body_leads : (Q : ℕ → Type 0) (c : Flow) (lo hi : ℕ) (xs : List (List ℕ)) → Inside Q lo hi → Starts c → (at k : ℕ) (a : Body) → lo ≤ at → at + size c.program xs a ≤ hi
     → Lies c.sites k (body_sites c.program xs at a) → IsKnownBody c.program xs a → Each (LeadsAt Q c) at (body_code c.program xs at k a)
 body_leads Q c lo hi xs q starts at k end from to sites known = tt
 body_leads Q c lo hi xs q starts at k (simple l x rest) from to sites known =
@@ -192,10 +192,10 @@ body_leads Q c lo hi xs q starts at k (while_ l e a rest) from to sites known =
 -- Functions
 
 -- a name's function has an entrance
-entrance_of : (p : Source) (fs : List Function) (x : List ℕ) (n at place : ℕ) → position x (map (λ (f : Function). f.name) fs) ≡ Some n → (e : Entrance) × (slice_get (entrances p at place fs) n ≡ Some e)
+entrance_of : (p : Source) (fs : List Function) (x : List ℕ) (n at place : ℕ) → index_of x (map (λ (f : Function). f.name) fs) ≡ Some n → (e : Entrance) × (slice_get (entrances p at place fs) n ≡ Some e)
 entrance_of p [] x n at place h = cc
 entrance_of p (g ∷ gs) x n at place h =
-    by (λ j. entrance_of p gs x j next later) (pointwise ◌==◌ g.name x) (position x (map (λ (f : Function). f.name) gs)) refl h
+    by (λ j. entrance_of p gs x j next later) (pointwise ◌==◌ g.name x) (index_of x (map (λ (f : Function). f.name) gs)) refl h
   where
     next : ℕ
     next = suc (at + size p (locals_of g) g.body)
@@ -203,8 +203,8 @@ entrance_of p (g ∷ gs) x n at place h =
     later : ℕ
     later = suc (suc (place + place_count g.body))
 
-    by : ((j : ℕ) → position x (map (λ (f : Function). f.name) gs) ≡ Some j → (e : Entrance) × (slice_get (entrances p next later gs) j ≡ Some e))
-        → (b : Bool) (o : Option ℕ) → position x (map (λ (f : Function). f.name) gs) ≡ o → (if b then Some 0 else option_map suc o) ≡ Some n
+    by : ((j : ℕ) → index_of x (map (λ (f : Function). f.name) gs) ≡ Some j → (e : Entrance) × (slice_get (entrances p next later gs) j ≡ Some e))
+        → (b : Bool) (o : Option ℕ) → index_of x (map (λ (f : Function). f.name) gs) ≡ o → (if b then Some 0 else option_map suc o) ≡ Some n
         → (e : Entrance) × (slice_get (entrances p at place (g ∷ gs)) n ≡ Some e)
     by again true o d f = subst (λ m. (e : Entrance) × (slice_get (entrances p at place (g ∷ gs)) m ≡ Some e)) (same_element 0 n f) (record { start = at; place = place; params = length g.params }, refl)
     by again false None d f = cc
@@ -224,7 +224,7 @@ lawful_at p (f ∷ fs) (suc n) g l h = lawful_at p fs n g l.1 h
 function_leads : (p : Source) (n : ℕ) (g : Function) (e : Entrance) → KeepsRules p → slice_get p.funcs n ≡ Some g → slice_get (entrances p 0 1 p.funcs) n ≡ Some e
     → Stands (lowered p) n g e (slice_get (entrances p 0 1 p.funcs) (suc n)) → Each (LeadsAt (IsInFunction (lowered p) n) (lowered p)) e.start (function_code p e.start e.place g)
 function_leads p n g e l there has h =
-    let c : Flat = lowered p in
+    let c : Flow = lowered p in
     let hi : ℕ = e.start + size p (locals_of g) g.body in
     let inside : Inside (IsInFunction c n) e.start hi = λ m above under. record { entrance = e; there = has; from = above; before = omega (arith, h.behind, under) } in
     each_append (LeadsAt (IsInFunction c n) c) e.start hi (body_code p (locals_of g) e.start (suc e.place) g.body) _
@@ -253,7 +253,7 @@ lowered_keeps p l = record {
 }
 
 -- into more
-leads_into : (Q R : ℕ → Type 0) (c : Flat) (at : ℕ) (i : Instr) → ((m : ℕ) → Q m → R m) → (x : Step) → LeadsInto Q c at i x → LeadsInto R c at i x
+leads_into : (Q R : ℕ → Type 0) (c : Flow) (at : ℕ) (i : Instr) → ((m : ℕ) → Q m → R m) → (x : Step) → LeadsInto Q c at i x → LeadsInto R c at i x
 leads_into Q R c at i f (s.Control (Jump to)) h = (f (suc at) h.0, h.1, f to h.2)
 leads_into Q R c at i f (s.Control (JumpIfZero a to)) h = (f (suc at) h.0, h.1, f to h.2)
 leads_into Q R c at i f (s.Control (Edge to)) h = (f (suc at) h.0, f to h.1)
@@ -265,6 +265,6 @@ leads_into Q R c at i f _ h = f (suc at) h
 
 pub lowered_forward : (p : Source) → KeepsRules p → JumpsForward (lowered p)
 lowered_forward p l at i h =
-    let c : Flat = lowered p in
+    let c : Flow = lowered p in
     let n : (n : ℕ) × IsInFunction c n at = covered p at (slice_get_within c.code at i h) in
     leads_into (IsInFunction c n.0) (λ to. to < length c.code) c at i (in_code p n.0) i.step (instruction_leads p l n.0 at i n.1 h)

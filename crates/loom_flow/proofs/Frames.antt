@@ -8,10 +8,10 @@ use Rattle.loom_lang.specs.Trace.{Item, Outcome, Lists, Thread, Locals, Calls, m
 use Rattle.loom_flow.specs.declared.code.Step.TheVariants as s
 use Rattle.loom_flow.specs.declared.code.Control.TheVariants.{Out}
 use Rattle.loom_flow.specs.declared.code.Entrance.{Entrance}
-use Rattle.loom_flow.specs.Flat.{Flat}
+use Rattle.loom_flow.specs.Flow.{Flow}
 use Rattle.loom_flow.specs.State.{frame_room, Frame, State, filled, frame_locals, named, names, locals_now, at_start}
 use Rattle.loom_flow.specs.Progress.{enters}
-use Rattle.loom_flow.specs.FlatTrace.{followed}
+use Rattle.loom_flow.specs.FlatTrace.{progress_lists}
 use Rattle.loom_flow.specs.FlatCode.{instr, size, place_count, body_code, body_sites}
 use Rattle.loom_flow.proofs.Relations.{Within, Meets, meets_itself, meets_same, meets_on, meets_emit}
 use Rattle.loom_flow.proofs.Steps.{by_states, returned, entered}
@@ -39,7 +39,7 @@ named_frame (suc n) (x ∷ xs) ys [] h = ap (λ (env : Locals). (x, pos 0) ∷ e
 named_frame (suc n) (x ∷ xs) ys (v ∷ vs) h = ap (λ (env : Locals). (x, v) ∷ env) (named_frame n xs ys vs (omega (arith, h)))
 
 -- A function of the tree stands in the code.
-pub record IsPlaced (c : Flat) (g : Function) (e : Entrance) : Type 0 where
+pub record IsPlaced (c : Flow) (g : Function) (e : Entrance) : Type 0 where
   pub params : e.params ≡ length g.params
   pub few : length (locals_of g) ≤ frame_room
   pub code : Lies c.code e.start (body_code c.program (locals_of g) e.start (suc e.place) g.body)
@@ -47,32 +47,32 @@ pub record IsPlaced (c : Flat) (g : Function) (e : Entrance) : Type 0 where
   pub sites : Lies c.sites (suc e.place) (body_sites c.program (locals_of g) e.start g.body)
   pub known : IsKnownBody c.program (locals_of g) g.body
 
-abbrev pub IsFunctionPlaced : Flat → Option Function → Option Entrance → Type 0
+abbrev pub IsFunctionPlaced : Flow → Option Function → Option Entrance → Type 0
 IsFunctionPlaced c None e = e ≡ None
 IsFunctionPlaced c (Some g) o = (e : Entrance) × (o ≡ Some e) × IsPlaced c g e
 
-abbrev pub ArePlaced : Flat → Type 0
+abbrev pub ArePlaced : Flow → Type 0
 ArePlaced c = (f : ℕ) → IsFunctionPlaced c (slice_get c.program.funcs f) (slice_get c.entrances f)
 
-frame_named : (c : Flat) (g : Function) (e : Entrance) (vs : List ℤ) → IsPlaced c g e → named (locals_of g) (frame_locals e vs) ≡ trace.frame_locals g vs
+frame_named : (c : Flow) (g : Function) (e : Entrance) (vs : List ℤ) → IsPlaced c g e → named (locals_of g) (frame_locals e vs) ≡ trace.frame_locals g vs
 frame_named c g e vs h =
     let few : length (locals_of g) ≤ frame_room = h.few in
     let is : length (locals_of g) ≡ length g.params + length (lets g.body) = length-append g.params (lets g.body) in
     ap (λ n. named (locals_of g) (filled frame_room (filled n vs))) h.params ∙ named_frame frame_room g.params (lets g.body) vs (omega arith)
 
-frame_length : (c : Flat) (g : Function) (e : Entrance) (vs : List ℤ) → IsPlaced c g e → length (locals_of g) ≤ length (frame_locals e vs)
+frame_length : (c : Flow) (g : Function) (e : Entrance) (vs : List ℤ) → IsPlaced c g e → length (locals_of g) ≤ length (frame_locals e vs)
 frame_length c g e vs h = subst (λ n. length (locals_of g) ≤ n) (sym (filled_length frame_room (filled e.params vs))) h.few
 
 -- A frame from its entrance on
 
 -- at the start of a function
-abbrev pub starts : Flat → Thread → (State → Lists) → ℕ → State → Lists
-starts c t m f z = followed t (by_states c t m) (enters c f z)
+abbrev pub starts : Flow → Thread → (State → Lists) → ℕ → State → Lists
+starts c t m f z = progress_lists t (by_states c t m) (enters c f z)
 
-enter_named : (c : Flat) (f : ℕ) (g : Function) (e : Entrance) (vs ws : List ℤ) (below : List Frame) → slice_get c.program.funcs f ≡ Some g → IsPlaced c g e → locals_now c (at_start f e vs ws below) ≡ trace.frame_locals g vs
+enter_named : (c : Flow) (f : ℕ) (g : Function) (e : Entrance) (vs ws : List ℤ) (below : List Frame) → slice_get c.program.funcs f ≡ Some g → IsPlaced c g e → locals_now c (at_start f e vs ws below) ≡ trace.frame_locals g vs
 enter_named c f g e vs ws below found placed = ap (λ o. named (names o) (frame_locals e vs)) found ∙ frame_named c g e vs placed
 
-frame_meets : (b : Bool) (c : Flat) (t : Thread) (m : ℕ → State → Lists) → Runner b c t m → t.program ≡ c.program → (most n : ℕ) → n ≤ most → (calls : Calls) (f : ℕ) (g : Function) (e : Entrance) (vs ws : List ℤ) (below : List Frame) (more : ℤ → Lists)
+frame_meets : (b : Bool) (c : Flow) (t : Thread) (m : ℕ → State → Lists) → Runner b c t m → t.program ≡ c.program → (most n : ℕ) → n ≤ most → (calls : Calls) (f : ℕ) (g : Function) (e : Entrance) (vs ws : List ℤ) (below : List Frame) (more : ℤ → Lists)
     → slice_get c.program.funcs f ≡ Some g → IsPlaced c g e
     → ((j : ℕ) → j ≤ n → CallsMeet b c t m j (length below) calls)
     → ((j : ℕ) → j ≤ n → (v : ℤ) → Meets b (returned c t (m j) ws v below) (more v))
@@ -99,7 +99,7 @@ frame_meets b c t m runner same most n le calls f g e vs ws below more found pla
 
 -- Calls, with so many frames left
 
-calls_meet : (b : Bool) (c : Flat) (t : Thread) (m : ℕ → State → Lists) → Runner b c t m → t.program ≡ c.program → ArePlaced c → (most : ℕ) (d n : ℕ) → n ≤ most → (depth : ℕ) → suc depth + d ≡ frame_limit
+calls_meet : (b : Bool) (c : Flow) (t : Thread) (m : ℕ → State → Lists) → Runner b c t m → t.program ≡ c.program → ArePlaced c → (most : ℕ) (d n : ℕ) → n ≤ most → (depth : ℕ) → suc depth + d ≡ frame_limit
     → CallsMeet b c t m n depth (calls_to t most d)
 calls_meet b c t m runner same placed most zero n le depth full z i f vs more deep resumes =
     meets_same b _ _ (ap {B = Lists} (λ q. choice q (entered c t (m n) z i f vs (slice_get c.entrances f)) (trapped t i.line trace.frames)) (ap (λ q. nat_lt q frame_limit) (ap suc deep ∙ (let e : suc depth ≡ frame_limit = omega (arith, full) in e))))
@@ -126,7 +126,7 @@ ever_behind i j m es r (inl h) = (0, inl h)
 ever_behind i j m es r (inr (fs, e, inl h)) = (0, inr (fs, e, inl h))
 ever_behind i j m es r (inr (fs, e, inr (gs, d, h))) = (h.0, inr (fs, e, inr (gs, d, h.1)))
 
-pub first_frame : (b : Bool) (c : Flat) (t : Thread) (m : ℕ → State → Lists) → Runner b c t m → t.program ≡ c.program → ArePlaced c → (most n : ℕ) → n ≤ most → (f line : ℕ) (vs : List ℤ) (g : Function) (e : Entrance)
+pub first_frame : (b : Bool) (c : Flow) (t : Thread) (m : ℕ → State → Lists) → Runner b c t m → t.program ≡ c.program → ArePlaced c → (most n : ℕ) → n ≤ most → (f line : ℕ) (vs : List ℤ) (g : Function) (e : Entrance)
     → slice_get c.program.funcs f ≡ Some g → IsPlaced c g e
     → Meets b (starts c t (m n) f (at_start f e vs [] [])) (calls_to t most frame_limit line f vs (λ v. t.stopped))
 first_frame b c t m runner same placed most n le f line vs g e found here =

@@ -8,7 +8,7 @@ use Rattle.loom_flow.specs.declared.code.Step.TheVariants as s
 use Rattle.loom_flow.specs.declared.code.Control.TheVariants.{Out}
 use Rattle.loom_flow.specs.declared.code.Instr.{Instr}
 use Rattle.loom_flow.specs.declared.code.Entrance.{Entrance}
-use Rattle.loom_flow.specs.Flat.{Flat}
+use Rattle.loom_flow.specs.Flow.{Flow}
 use Rattle.loom_flow.specs.FlatCode.{instr, size, place_count, body_code, body_sites, site, functions_code, functions_sites, entrances, lowered}
 use Rattle.loom_flow.specs.Laws.{start_or, IsInFunction}
 use Rattle.loom_flow.proofs.Sublist.{Lies, lies_first, lies_second, lies_behind, lies_whole}
@@ -20,7 +20,7 @@ abbrev pub function_code : Source → ℕ → ℕ → Function → List Instr
 function_code p at place g = body_code p (locals_of g) at (suc place) g.body ++ instr g.line (suc place + place_count g.body) (s.Control Out) ∷ []
 
 -- Function `n` stands from its entrance to that of the next one.
-pub record Stands (c : Flat) (n : ℕ) (g : Function) (e : Entrance) (next : Option Entrance) : Type 0 where
+pub record Stands (c : Flow) (n : ℕ) (g : Function) (e : Entrance) (next : Option Entrance) : Type 0 where
   pub code : Lies c.code e.start (function_code c.program e.start e.place g)
   pub places : Lies (places c.program) e.place (entry n ∷ (body_places g.body ++ out n ∷ []))
   pub sites : Lies c.sites (suc e.place) (body_sites c.program (locals_of g) e.start g.body)
@@ -55,7 +55,7 @@ next_start p l at place [] e = sym e ∙ omega arith
 next_start p l at place (g ∷ gs) e = refl
 
 -- the functions from one on, whose number, first instruction and first place are these
-stands_from : (c : Flat) (fs : List Function) (n at place : ℕ)
+stands_from : (c : Flow) (fs : List Function) (n at place : ℕ)
     → Lies c.code at (functions_code c.program at place fs) → Lies (places c.program) place (places_from n fs) → Lies c.sites place (functions_sites c.program at fs)
     → at + length (functions_code c.program at place fs) ≡ length c.code
     → (k : ℕ) (e : Entrance) → slice_get (entrances c.program at place fs) k ≡ Some e

@@ -7,7 +7,7 @@ use Rattle.loom_tree.specs.declared.item.Word.{Word}
 use Rattle.loom_tree.specs.declared.item.Sema.{Sema}
 use Rattle.loom_tree.specs.Tree.{Source}
 use Rattle.loom_lang.specs.Limits.{name_limit}
-use Rattle.loom_lang.specs.Numbers.{Cells, position}
+use Rattle.loom_lang.specs.Numbers.{Cells, index_of}
 use Rattle.loom_lang.specs.Rules.{KeepsRules}
 use Rattle.loom_flow.specs.FlatCode.{first_cell, array_of}
 
@@ -20,18 +20,18 @@ shifted : (n : ℕ) (o : Option ℕ) → option_map (λ k. (n + 1) + k) o ≡ op
 shifted n None = refl
 shifted n (Some k) = ap Some (omega arith)
 
-from_any : (x : List ℕ) (ys : List (List ℕ)) (n : ℕ) → position_from n x ys ≡ option_map (λ k. n + k) (position x ys)
+from_any : (x : List ℕ) (ys : List (List ℕ)) (n : ℕ) → position_from n x ys ≡ option_map (λ k. n + k) (index_of x ys)
 from_any x [] n = refl
 from_any x (y ∷ ys) n =
-    elim (pointwise ◌==◌ y x) as (λ b. (if b then Some n else position_from (n + 1) x ys) ≡ option_map (λ k. n + k) (if b then Some 0 else option_map suc (position x ys)))
-    [ true ↦ ap Some (omega arith) | false ↦ from_any x ys (n + 1) ∙ shifted n (position x ys) ]
+    elim (pointwise ◌==◌ y x) as (λ b. (if b then Some n else position_from (n + 1) x ys) ≡ option_map (λ k. n + k) (if b then Some 0 else option_map suc (index_of x ys)))
+    [ true ↦ ap Some (omega arith) | false ↦ from_any x ys (n + 1) ∙ shifted n (index_of x ys) ]
 
 none_added : (o : Option ℕ) → option_map (λ k. 0 + k) o ≡ o
 none_added None = refl
 none_added (Some k) = ap Some (omega arith)
 
-pub from_zero : (x : List ℕ) (ys : List (List ℕ)) → position_from 0 x ys ≡ position x ys
-from_zero x ys = from_any x ys 0 ∙ none_added (position x ys)
+pub from_zero : (x : List ℕ) (ys : List (List ℕ)) → position_from 0 x ys ≡ index_of x ys
+from_zero x ys = from_any x ys 0 ∙ none_added (index_of x ys)
 
 pub first_of_array : (c : Option Cells) → (array_of c).first ≡ first_cell c
 first_of_array None = refl

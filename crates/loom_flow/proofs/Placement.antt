@@ -6,7 +6,7 @@ use Rattle.loom_flow.specs.declared.code.Step.TheVariants as s
 use Rattle.loom_flow.specs.declared.code.Control.TheVariants.{Out}
 use Rattle.loom_flow.specs.declared.code.Instr.{Instr}
 use Rattle.loom_flow.specs.declared.code.Site.{Site}
-use Rattle.loom_flow.specs.Flat.{Flat}
+use Rattle.loom_flow.specs.Flow.{Flow}
 use Rattle.loom_flow.specs.FlatCode.{instr, size, place_count, body_code, body_sites, site, functions_code, functions_sites, entrances, lowered}
 use Rattle.loom_flow.proofs.Sublist.{Lies, lies_first, lies_second, lies_behind, lies_whole}
 use Rattle.loom_flow.proofs.Sizes.{code_length, sites_length}
@@ -14,7 +14,7 @@ use Rattle.loom_flow.proofs.Roles.{body_known}
 use Rattle.loom_flow.proofs.Frames.{IsFunctionPlaced, ArePlaced}
 
 -- the functions from one on, whose first instruction and first place have these numbers
-placed_from : (c : Flat) (fs : List Function) (at place : ℕ) → KeepsRules c.program → FunctionsKeepRules c.program fs
+placed_from : (c : Flow) (fs : List Function) (at place : ℕ) → KeepsRules c.program → FunctionsKeepRules c.program fs
     → Lies c.code at (functions_code c.program at place fs) → Lies c.sites place (functions_sites c.program at fs)
     → (f : ℕ) → IsFunctionPlaced c (slice_get fs f) (slice_get (entrances c.program at place fs) f)
 placed_from c [] at place l ls code sites f = refl

@@ -2,7 +2,7 @@
 use Rattle.std.proofs.Common.{ℕ, ◌≡◌, List, [], ◌∷◌, Bool, true, false, Option, Some, None, refl, length}
 use Rattle.loom_tree.specs.Tree.{Expression, num, var, cell, neg, inverse, bin, Right, Simple, let_, set, set_cell, return, Source}
 use Rattle.loom_tree.specs.Tree as tree
-use Rattle.loom_lang.specs.Numbers.{position, function_number}
+use Rattle.loom_lang.specs.Numbers.{index_of, function_number}
 use Rattle.loom_flow.specs.declared.code.Operand.{Operand}
 use Rattle.loom_flow.specs.declared.code.Operand.TheVariants as operand
 use Rattle.loom_flow.specs.declared.code.Target.{Target}
@@ -37,7 +37,7 @@ unless_all P (operand.Number n) steps h = tt
 
 pub steps_all : (P : Step → Type 0) → ((x : Step) → is_plain x ≡ true → P x) → (p : Source) (xs : List (List ℕ)) (d : Target) (e : Expression) → AllOf P (steps_to p xs d e)
 steps_all P plain p xs d (num n) = (plain _ refl, tt)
-steps_all P plain p xs d (var x) = (variable_all P plain p d x (position x xs), tt)
+steps_all P plain p xs d (var x) = (variable_all P plain p d x (index_of x xs), tt)
 steps_all P plain p xs d (cell x i) = all_append P (operand_steps p xs i) _ (unless_all P (operand_of xs i) _ (steps_all P plain p xs target.Push i)) (plain _ refl, tt)
 steps_all P plain p xs d (neg a) = all_append P (operand_steps p xs a) _ (unless_all P (operand_of xs a) _ (steps_all P plain p xs target.Push a)) (plain _ refl, tt)
 steps_all P plain p xs d (inverse a) = all_append P (operand_steps p xs a) _ (unless_all P (operand_of xs a) _ (steps_all P plain p xs target.Push a)) (plain _ refl, tt)
@@ -74,11 +74,11 @@ value_all P plain p xs x e None = all_append P (operand_steps p xs e) _ (operand
 value_all P plain p xs x e (Some j) = steps_all P plain p xs (target.Local j) e
 
 set_all : (P : Step → Type 0) → ((x : Step) → is_plain x ≡ true → P x) → (p : Source) (xs : List (List ℕ)) (x : List ℕ) (r : Right Expression) → CallsRight P p r → AllOf P (set_steps p xs x r)
-set_all P plain p xs x (Right.value e) h = value_all P plain p xs x e (position x xs)
+set_all P plain p xs x (Right.value e) h = value_all P plain p xs x e (index_of x xs)
 set_all P plain p xs x (Right.call f es) h =
-    all_append P (call_steps p xs f es) _ (all_append P (argument_steps p xs es) _ (arguments_all P plain p xs es) (h, tt)) (store_all P plain p x (position x xs), tt)
+    all_append P (call_steps p xs f es) _ (all_append P (argument_steps p xs es) _ (arguments_all P plain p xs es) (h, tt)) (store_all P plain p x (index_of x xs), tt)
 set_all P plain p xs x (Right.spawn f es) h =
-    all_append P (spawn_steps p xs f es) _ (all_append P (argument_steps p xs es) _ (arguments_all P plain p xs es) (h, tt)) (store_all P plain p x (position x xs), tt)
+    all_append P (spawn_steps p xs f es) _ (all_append P (argument_steps p xs es) _ (arguments_all P plain p xs es) (h, tt)) (store_all P plain p x (index_of x xs), tt)
 
 pub simple_all : (P : Step → Type 0) → ((x : Step) → is_plain x ≡ true → P x) → (p : Source) (xs : List (List ℕ)) (x : Simple Expression) → CallsSimple P p x → AllOf P (simple_steps p xs x)
 simple_all P plain p xs (let_ x r) h = (plain _ refl, all_append P (set_steps p xs x r) _ (set_all P plain p xs x r h) (plain _ refl, tt))

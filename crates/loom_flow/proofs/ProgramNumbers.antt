@@ -6,7 +6,7 @@ use Rattle.std.proofs.lemmas.List.{length-map}
 use Rattle.loom_tree.specs.declared.item.Word.{Word}
 use Rattle.loom_tree.specs.declared.item.Sema.{Sema}
 use Rattle.loom_tree.specs.Tree.{Function, Source}
-use Rattle.loom_lang.specs.Numbers.{position, Cells, cells_from, cells_named, sema_number}
+use Rattle.loom_lang.specs.Numbers.{index_of, Cells, cells_from, cells_named, sema_number}
 use Rattle.loom_lang.specs.Rules.{cells_of, cell_count, is_in, is_distinct, is_word, is_sema, takes, shared_names, KeepsRules}
 use Rattle.loom_flow.specs.declared.code.Step.{Step}
 use Rattle.loom_flow.specs.declared.code.Step.TheVariants as s
@@ -77,18 +77,18 @@ place_behind : (n : ℕ) (o : Option ℕ) → or_zero o < n → or_zero (option_
 place_behind n None h = omega arith
 place_behind n (Some k) h = omega (arith, h)
 
-name_within : (x : List ℕ) (ys : List (List ℕ)) → is_in x ys ≡ true → or_zero (position x ys) < length ys
+name_within : (x : List ℕ) (ys : List (List ℕ)) → is_in x ys ≡ true → or_zero (index_of x ys) < length ys
 name_within x [] h = cc
 name_within x (y ∷ ys) h =
-    elim (pointwise ◌==◌ y x) as (λ b. (b || is_in x ys) ≡ true → or_zero (if b then Some 0 else option_map suc (position x ys)) < suc (length ys)) [
+    elim (pointwise ◌==◌ y x) as (λ b. (b || is_in x ys) ≡ true → or_zero (if b then Some 0 else option_map suc (index_of x ys)) < suc (length ys)) [
       | true ↦ λ e. omega arith
-      | false ↦ λ e. place_behind (length ys) (position x ys) (name_within x ys e)
+      | false ↦ λ e. place_behind (length ys) (index_of x ys) (name_within x ys e)
     ] h
 
 sema_within : (p : Source) (x : List ℕ) → is_sema p.semas x ≡ true → or_zero (sema_number p x) < length p.semas
 sema_within p x h =
     let names : List (List ℕ) = map (λ (r : Sema). r.name) p.semas in
-    let within : or_zero (position x names) < length names = name_within x names (sema_in p.semas x h) in
+    let within : or_zero (index_of x names) < length names = name_within x names (sema_in p.semas x h) in
     let many : length names ≡ length p.semas = length-map p.semas (λ (r : Sema). r.name) in
     omega (arith, within, many)
 
@@ -110,23 +110,23 @@ taking_in (f ∷ fs) x n h =
 abbrev Taken : List Function → Option ℕ → ℕ → Type 0
 Taken fs o n = (k : ℕ) × (g : Function) × (o ≡ Some k) × (slice_get fs k ≡ Some g) × (n ≡ length g.params)
 
-taken_named : (fs : List Function) (x : List ℕ) (n : ℕ) → is_distinct (map (λ (f : Function). f.name) fs) ≡ true → takes fs x n ≡ true → Taken fs (position x (map (λ (f : Function). f.name) fs)) n
+taken_named : (fs : List Function) (x : List ℕ) (n : ℕ) → is_distinct (map (λ (f : Function). f.name) fs) ≡ true → takes fs x n ≡ true → Taken fs (index_of x (map (λ (f : Function). f.name) fs)) n
 taken_named [] x n d h = cc
 taken_named (f ∷ fs) x n d h = by (pointwise ◌==◌ f.name x) refl h (taken_named fs x n (both _ _ d).1)
   where
     names : List (List ℕ)
     names = map (λ (g : Function). g.name) fs
 
-    by : (b : Bool) → pointwise ◌==◌ f.name x ≡ b → ((b && length f.params == n) || takes fs x n) ≡ true → (takes fs x n ≡ true → Taken fs (position x names) n)
-        → Taken (f ∷ fs) (if b then Some 0 else option_map suc (position x names)) n
+    by : (b : Bool) → pointwise ◌==◌ f.name x ≡ b → ((b && length f.params == n) || takes fs x n) ≡ true → (takes fs x n ≡ true → Taken fs (index_of x names) n)
+        → Taken (f ∷ fs) (if b then Some 0 else option_map suc (index_of x names)) n
     by true e g again = ⊎_elim (λ (here : (length f.params == n) ≡ true). (0, f, refl, refl, sym (eqb-true (length f.params) n here)))
         (λ (later : takes fs x n ≡ true). absurd (never (is_in f.name names) (subst (λ (y : List ℕ). is_in y names ≡ true) (sym (same_text f.name x (sym e))) (taking_in fs x n later)) (both _ _ d).0))
         (or_else (length f.params == n) (takes fs x n) g)
-    by false e g again = let t : Taken fs (position x names) n = again g in (suc t.0, t.1, ap (option_map suc) t.2, t.3, t.4)
+    by false e g again = let t : Taken fs (index_of x names) n = again g in (suc t.0, t.1, ap (option_map suc) t.2, t.3, t.4)
 
-params_there : (p : Source) (f : List ℕ) (n : ℕ) → KeepsRules p → takes p.funcs f n ≡ true → HasParams p (or_zero (position f (map (λ (g : Function). g.name) p.funcs))) n
+params_there : (p : Source) (f : List ℕ) (n : ℕ) → KeepsRules p → takes p.funcs f n ≡ true → HasParams p (or_zero (index_of f (map (λ (g : Function). g.name) p.funcs))) n
 params_there p f n l h =
-    let t : Taken p.funcs (position f (map (λ (g : Function). g.name) p.funcs)) n = taken_named p.funcs f n (distinct_behind (shared_names p) _ l.once) h in
+    let t : Taken p.funcs (index_of f (map (λ (g : Function). g.name) p.funcs)) n = taken_named p.funcs f n (distinct_behind (shared_names p) _ l.once) h in
     (t.1, subst (λ (o : Option ℕ). slice_get p.funcs (or_zero o) ≡ Some t.1) (sym t.2) t.3, t.4)
 
 -- Instructions

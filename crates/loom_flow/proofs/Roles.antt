@@ -6,7 +6,7 @@ use Rattle.loom_tree.specs.declared.item.Sema.{Sema}
 use Rattle.loom_tree.specs.Tree.{Expression, num, var, cell, neg, inverse, bin, Right, Simple, let_, set, set_cell, return, Body, end, simple, if_, while_, Function, Source}
 use Rattle.loom_tree.specs.Tree as tree
 use Rattle.loom_lang.specs.Rules.{cells_of, is_in, is_distinct, is_word, is_array, is_sema, is_function, knows, knows_all, knows_call, knows_right, knows_simple, knows_body, shared_names, KeepsRules}
-use Rattle.loom_lang.specs.Numbers.{position, Cells, cells_from}
+use Rattle.loom_lang.specs.Numbers.{index_of, Cells, cells_from}
 use Rattle.loom_flow.proofs.Expressions.{IsNumbered, IsArray, IsKnown}
 use Rattle.loom_flow.proofs.Arguments.{AllKnown}
 use Rattle.loom_flow.proofs.Simple.{IsFunction}
@@ -16,20 +16,20 @@ use Rattle.loom_flow.proofs.Truths.{both, or_else}
 
 -- Names in lists
 
-has_position : (x : List ℕ) (ys : List (List ℕ)) → is_in x ys ≡ true → (n : ℕ) × (position x ys ≡ Some n)
+has_position : (x : List ℕ) (ys : List (List ℕ)) → is_in x ys ≡ true → (n : ℕ) × (index_of x ys ≡ Some n)
 has_position x [] h = cc
 has_position x (y ∷ ys) h =
-    elim (pointwise ◌==◌ y x) as (λ b. (b || is_in x ys) ≡ true → (n : ℕ) × ((if b then Some 0 else option_map suc (position x ys)) ≡ Some n)) [
+    elim (pointwise ◌==◌ y x) as (λ b. (b || is_in x ys) ≡ true → (n : ℕ) × ((if b then Some 0 else option_map suc (index_of x ys)) ≡ Some n)) [
       | true ↦ λ e. (0, refl)
-      | false ↦ λ e. let g : (n : ℕ) × (position x ys ≡ Some n) = has_position x ys e in (suc g.0, ap (option_map suc) g.1)
+      | false ↦ λ e. let g : (n : ℕ) × (index_of x ys ≡ Some n) = has_position x ys e in (suc g.0, ap (option_map suc) g.1)
     ] h
 
 nowhere : (n : ℕ) → None ≡ Some n → ⊥
 nowhere n e = cc
 
 -- a name that is nowhere in the list isn't in it
-pub not_in : (x : List ℕ) (ys : List (List ℕ)) → position x ys ≡ None → is_in x ys ≡ true → ⊥
-not_in x ys e h = let g : (n : ℕ) × (position x ys ≡ Some n) = has_position x ys h in nowhere g.0 (sym e ∙ g.1)
+pub not_in : (x : List ℕ) (ys : List (List ℕ)) → index_of x ys ≡ None → is_in x ys ≡ true → ⊥
+not_in x ys e h = let g : (n : ℕ) × (index_of x ys ≡ Some n) = has_position x ys h in nowhere g.0 (sym e ∙ g.1)
 
 -- Words and arrays
 
@@ -110,14 +110,14 @@ sema_in (s ∷ ss) x h =
 
 -- Expressions and statements
 
-variable_known : (p : Source) (xs : List (List ℕ)) (x : List ℕ) → (is_in x xs || is_word p.words x) ≡ true → IsNumbered p x (position x xs)
-variable_known p xs x h = by (position x xs) refl
+variable_known : (p : Source) (xs : List (List ℕ)) (x : List ℕ) → (is_in x xs || is_word p.words x) ≡ true → IsNumbered p x (index_of x xs)
+variable_known p xs x h = by (index_of x xs) refl
   where
-    by : (o : Option ℕ) → position x xs ≡ o → IsNumbered p x o
+    by : (o : Option ℕ) → index_of x xs ≡ o → IsNumbered p x o
     by None e = ⊎_elim (λ (here : is_in x xs ≡ true). absurd (not_in x xs e here)) (λ (word : is_word p.words x ≡ true). word_cells 0 p.words x word) (or_else (is_in x xs) (is_word p.words x) h)
     by (Some k) e = tt
 
-local_known : (p : Source) (xs : List (List ℕ)) (x : List ℕ) → is_in x xs ≡ true → IsNumbered p x (position x xs)
+local_known : (p : Source) (xs : List (List ℕ)) (x : List ℕ) → is_in x xs ≡ true → IsNumbered p x (index_of x xs)
 local_known p xs x h = variable_known p xs x (ap (λ b. b || is_word p.words x) h)
 
 pub knows_expression : (p : Source) (xs : List (List ℕ)) (e : Expression) → KeepsRules p → knows p xs e ≡ true → IsKnown p xs e
@@ -137,7 +137,7 @@ call_known p xs f es l h =
     let g : (is_function p.funcs f ≡ true) × (knows_all p xs es ≡ true) = both _ _ h in
     (has_position f (map (λ (k : Function). k.name) p.funcs) (function_in p.funcs f g.0), knows_arguments p xs es l g.1)
 
-right_known : (p : Source) (xs : List (List ℕ)) (x : List ℕ) (r : Right Expression) → KeepsRules p → knows_right p xs x r ≡ true → IsNumbered p x (position x xs) × IsKnownRight p xs r
+right_known : (p : Source) (xs : List (List ℕ)) (x : List ℕ) (r : Right Expression) → KeepsRules p → knows_right p xs x r ≡ true → IsNumbered p x (index_of x xs) × IsKnownRight p xs r
 right_known p xs x (Right.value e) l h = let g : ((is_in x xs || is_word p.words x) ≡ true) × (knows p xs e ≡ true) = both _ _ h in (variable_known p xs x g.0, knows_expression p xs e l g.1)
 right_known p xs x (Right.call f es) l h = let g : (is_in x xs ≡ true) × (knows_call p xs f es ≡ true) = both _ _ h in (local_known p xs x g.0, call_known p xs f es l g.1)
 right_known p xs x (Right.spawn f es) l h = let g : (is_in x xs ≡ true) × (knows_call p xs f es ≡ true) = both _ _ h in (local_known p xs x g.0, call_known p xs f es l g.1)

@@ -1,7 +1,7 @@
 -- A statement without a block: what its code gives, and what it gives in the tree.
 use Rattle.std.proofs.Common.{ℕ, suc, ◌≡◌, ◌≤◌, List, [], ◌∷◌, ◌++◌, Bool, ℤ, Option, Some, None, refl, sym, ap, subst, ◌∙◌, slice_get, length, reverse, take, append_assoc}
 use Rattle.loom_tree.specs.Tree.{Expression, Source}
-use Rattle.loom_lang.specs.Numbers.{position, Cells, cells_named, function_number}
+use Rattle.loom_lang.specs.Numbers.{index_of, Cells, cells_named, function_number}
 use Rattle.loom_lang.specs.Trace as trace
 use Rattle.loom_lang.specs.Trace.{Item, Lists, Thread, Locals, Calls, made, begins, done, out, broken, emit, any, either, trapped, value_in, updated, expression, arguments, indexed, writing_word, stored, effect, right, joined, numbered}
 use Rattle.loom_flow.specs.declared.code.Operand.{Operand}
@@ -12,7 +12,7 @@ use Rattle.loom_flow.specs.declared.code.Step.TheVariants as s
 use Rattle.loom_flow.specs.declared.code.Ask.TheVariants.{Write}
 use Rattle.loom_flow.specs.declared.code.Control.TheVariants.{Begin, Done, Call}
 use Rattle.loom_flow.specs.declared.code.Instr.{Instr}
-use Rattle.loom_flow.specs.Flat.{Flat, resume}
+use Rattle.loom_flow.specs.Flow.{Flow, resume}
 use Rattle.loom_flow.specs.State.{State, put_at, given, jumped, named, names}
 use Rattle.loom_flow.specs.FlatCode.{or_zero, first_cell, word_named, operand_of, steps_to, operand_steps, argument_steps, store_step, value_steps, instr, instrs}
 use Rattle.loom_flow.proofs.Relations.{Meets, meets_itself, meets_same, meets_on, meets_emit}
@@ -28,11 +28,11 @@ use Rattle.loom_flow.proofs.Statements.{arguments_straight, meets_begin, one_ope
 -- Calls
 
 -- behind the result of a call
-abbrev pub resumed : Flat → State → Instr → ℤ → State
+abbrev pub resumed : Flow → State → Instr → ℤ → State
 resumed c z i v = record { at = resume (slice_get c.sites i.place); values = v ∷ z.values; func = z.func; locals = z.locals; below = z.below }
 
 -- Calls of the code and calls of the tree meet, in frames with so many below them.
-abbrev pub CallsMeet : Bool → Flat → Thread → (ℕ → State → Lists) → ℕ → ℕ → Calls → Type 1
+abbrev pub CallsMeet : Bool → Flow → Thread → (ℕ → State → Lists) → ℕ → ℕ → Calls → Type 1
 CallsMeet b c t m n depth calls = (z : State) (i : Instr) (f : ℕ) (vs : List ℤ) (more : ℤ → Lists) → length z.below ≡ depth
     → ((j : ℕ) → j ≤ n → (v : ℤ) → Meets b (m j (resumed c z i v)) (more v)) → Meets b (called c t (m n) z i f vs) (calls i.line f vs more)
 
@@ -41,7 +41,7 @@ abbrev pub IsFunction : Source → List ℕ → Type 0
 IsFunction p f = (n : ℕ) × (function_number p f ≡ Some n)
 
 -- a call's steps, and others behind it
-pub meets_call : (b : Bool) (c : Flat) (t : Thread) (m : ℕ → State → Lists) (n l k at : ℕ) (xs : List (List ℕ)) (z : State) (calls : Calls) (f : List ℕ) (es : List Expression) (rest : List Step) (more : ℤ → Lists)
+pub meets_call : (b : Bool) (c : Flow) (t : Thread) (m : ℕ → State → Lists) (n l k at : ℕ) (xs : List (List ℕ)) (z : State) (calls : Calls) (f : List ℕ) (es : List Expression) (rest : List Step) (more : ℤ → Lists)
     → ((j : ℕ) → Fetches b c t (m j)) → CallsMeet b c t m n (length z.below) calls → names (slice_get c.program.funcs z.func) ≡ xs
     → length xs ≤ length z.locals → IsFunction t.program f → AllKnown t.program xs es → AllStraight rest
     → Lies c.code at (instrs l k (s.Control Begin ∷ (argument_steps t.program xs es ++ s.Control (Call (or_zero (function_number t.program f)) (length es)) ∷ rest)))
@@ -86,8 +86,8 @@ meets_writing : (b : Bool) (l : ℕ) (d : Option Cells) (v : ℤ) (m n : Lists) 
 meets_writing b l None v m n f = meets_itself b broken
 meets_writing b l (Some d) v m n f = meets_emit b _ m n f
 
-store_is : (b : Bool) (c : Flat) (t : Thread) (m : State → Lists) (l k n : ℕ) (x : List ℕ) (xs : List (List ℕ)) (z : State) (v : ℤ) (more : Locals → Lists) (a : Option ℕ)
-    → position x xs ≡ a → IsNumbered t.program x a
+store_is : (b : Bool) (c : Flow) (t : Thread) (m : State → Lists) (l k n : ℕ) (x : List ℕ) (xs : List (List ℕ)) (z : State) (v : ℤ) (more : Locals → Lists) (a : Option ℕ)
+    → index_of x xs ≡ a → IsNumbered t.program x a
     → ((vs : List ℤ) → length vs ≡ length z.locals → Meets b (m (jumped (record z { locals = vs }) (suc (suc n)))) (more (named xs vs)))
     → Meets b (straight c t l k (store_step t.program x a ∷ s.Control Done ∷ []) m (jumped (record z { values = v ∷ z.values }) n))
     (stored t l (named xs z.locals) (local_value z.locals a) x v (λ env. emit (done l) (more env)))
@@ -103,19 +103,19 @@ store_is b c t m l k n x xs z v more (Some j) e known ends =
     (meets_same b _ _ (ap {B = Lists} (λ env. emit (done l) (more env)) (sym (updated_named xs z.locals x v ∙ ap (λ o. named xs (put_by o v z.locals)) e))))
 
 -- with the value found by its name
-pub meets_store : (b : Bool) (c : Flat) (t : Thread) (m : State → Lists) (l k n : ℕ) (x : List ℕ) (xs : List (List ℕ)) (z : State) (v : ℤ) (more : Locals → Lists)
-    → length xs ≤ length z.locals → IsNumbered t.program x (position x xs)
+pub meets_store : (b : Bool) (c : Flow) (t : Thread) (m : State → Lists) (l k n : ℕ) (x : List ℕ) (xs : List (List ℕ)) (z : State) (v : ℤ) (more : Locals → Lists)
+    → length xs ≤ length z.locals → IsNumbered t.program x (index_of x xs)
     → ((vs : List ℤ) → length vs ≡ length z.locals → Meets b (m (jumped (record z { locals = vs }) (suc (suc n)))) (more (named xs vs)))
-    → Meets b (straight c t l k (store_step t.program x (position x xs) ∷ s.Control Done ∷ []) m (jumped (record z { values = v ∷ z.values }) n))
+    → Meets b (straight c t l k (store_step t.program x (index_of x xs) ∷ s.Control Done ∷ []) m (jumped (record z { values = v ∷ z.values }) n))
     (stored t l (named xs z.locals) (value_in (named xs z.locals) x) x v (λ env. emit (done l) (more env)))
 meets_store b c t m l k n x xs z v more h known ends =
-    meets_on b _ (stored t l (named xs z.locals) (local_value z.locals (position x xs)) x v (λ env. emit (done l) (more env))) _
-    (store_is b c t m l k n x xs z v more (position x xs) refl known ends)
+    meets_on b _ (stored t l (named xs z.locals) (local_value z.locals (index_of x xs)) x v (λ env. emit (done l) (more env))) _
+    (store_is b c t m l k n x xs z v more (index_of x xs) refl known ends)
     (meets_same b _ _ (ap {B = Lists} (λ o. stored t l (named xs z.locals) o x v (λ env. emit (done l) (more env))) (sym (value_named xs z.locals x h))))
 
 -- Values
 
-write_is : (c : Flat) (t : Thread) (l k : ℕ) (x : List ℕ) (d : Cells) (a : Operand) (next : State → Lists) (z : State) (n : ℕ) (v : ℤ) → cells_named t.program x ≡ Some d
+write_is : (c : Flow) (t : Thread) (l k : ℕ) (x : List ℕ) (d : Cells) (a : Operand) (next : State → Lists) (z : State) (n : ℕ) (v : ℤ) → cells_named t.program x ≡ Some d
     → straight c t l k (s.Ask (Write (word_named t.program x) a) ∷ []) next (jumped (left a v z) n) ≡ writing_word l (cells_named t.program x) (settled a z.locals v) (next (jumped z (suc n)))
 write_is c t l k x d a next z n v e =
     ap {B = Lists} (λ cells. straight c t l k (s.Ask (Write (first_cell cells) a) ∷ []) next (jumped (left a v z) n)) e
@@ -128,8 +128,8 @@ write_is c t l k x d a next z n v e =
     by (operand.Number i) = refl
 
 -- where a local, or a word, is set to an expression's value
-value_is : (b : Bool) (c : Flat) (t : Thread) (m : State → Lists) (l k at : ℕ) (x : List ℕ) (xs : List (List ℕ)) (z : State) (e : Expression) (more : Locals → Lists) (a : Option ℕ)
-    → position x xs ≡ a → length xs ≤ length z.locals → IsNumbered t.program x a → IsKnown t.program xs e
+value_is : (b : Bool) (c : Flow) (t : Thread) (m : State → Lists) (l k at : ℕ) (x : List ℕ) (xs : List (List ℕ)) (z : State) (e : Expression) (more : Locals → Lists) (a : Option ℕ)
+    → index_of x xs ≡ a → length xs ≤ length z.locals → IsNumbered t.program x a → IsKnown t.program xs e
     → ((vs : List ℤ) → length vs ≡ length z.locals → Meets b (m (jumped (record z { locals = vs }) (skip at (value_steps t.program xs x e a ++ s.Control Done ∷ [])))) (more (named xs vs)))
     → Meets b (straight c t l k (value_steps t.program xs x e a ++ s.Control Done ∷ []) m (jumped z at))
     (expression t l (named xs z.locals) e (λ v. stored t l (named xs z.locals) (local_value z.locals a) x v (λ env. emit (done l) (more env))))
@@ -158,12 +158,12 @@ value_is b c t m l k at x xs z e more (Some j) f h known g ends =
     (subst (λ i. Meets b (m (jumped (given z (target.Local j) v) i)) (more (named xs (put_at j v z.locals)))) (skip_append at before (s.Control Done ∷ [])) (ends (put_at j v z.locals) (put_length j v z.locals)))
     (meets_same b _ _ (ap {B = Lists} more (sym (updated_named xs z.locals x v ∙ ap (λ o. named xs (put_by o v z.locals)) f)))))))
 
-pub meets_value : (b : Bool) (c : Flat) (t : Thread) (m : State → Lists) (l k at : ℕ) (x : List ℕ) (xs : List (List ℕ)) (z : State) (e : Expression) (more : Locals → Lists)
-    → length xs ≤ length z.locals → IsNumbered t.program x (position x xs) → IsKnown t.program xs e
-    → ((vs : List ℤ) → length vs ≡ length z.locals → Meets b (m (jumped (record z { locals = vs }) (skip at (value_steps t.program xs x e (position x xs) ++ s.Control Done ∷ [])))) (more (named xs vs)))
-    → Meets b (straight c t l k (value_steps t.program xs x e (position x xs) ++ s.Control Done ∷ []) m (jumped z at))
+pub meets_value : (b : Bool) (c : Flow) (t : Thread) (m : State → Lists) (l k at : ℕ) (x : List ℕ) (xs : List (List ℕ)) (z : State) (e : Expression) (more : Locals → Lists)
+    → length xs ≤ length z.locals → IsNumbered t.program x (index_of x xs) → IsKnown t.program xs e
+    → ((vs : List ℤ) → length vs ≡ length z.locals → Meets b (m (jumped (record z { locals = vs }) (skip at (value_steps t.program xs x e (index_of x xs) ++ s.Control Done ∷ [])))) (more (named xs vs)))
+    → Meets b (straight c t l k (value_steps t.program xs x e (index_of x xs) ++ s.Control Done ∷ []) m (jumped z at))
     (expression t l (named xs z.locals) e (λ v. stored t l (named xs z.locals) (value_in (named xs z.locals) x) x v (λ env. emit (done l) (more env))))
 meets_value b c t m l k at x xs z e more h known g ends =
-    meets_on b _ (expression t l (named xs z.locals) e (λ v. stored t l (named xs z.locals) (local_value z.locals (position x xs)) x v (λ env. emit (done l) (more env)))) _
-    (value_is b c t m l k at x xs z e more (position x xs) refl h known g ends)
+    meets_on b _ (expression t l (named xs z.locals) e (λ v. stored t l (named xs z.locals) (local_value z.locals (index_of x xs)) x v (λ env. emit (done l) (more env)))) _
+    (value_is b c t m l k at x xs z e more (index_of x xs) refl h known g ends)
     (meets_same b _ _ (ap {B = Lists} (λ o. expression t l (named xs z.locals) e (λ v. stored t l (named xs z.locals) o x v (λ env. emit (done l) (more env)))) (sym (value_named xs z.locals x h))))

@@ -2,7 +2,7 @@
 use Rattle.std.proofs.Common.{◌≤◌, ℕ, suc, ◌≡◌, List, [], ◌∷◌, ◌++◌, Bool, true, ℤ, Option, Some, None, refl, sym, ap, subst, ◌∙◌, slice_get, length}
 use mathlib.Core.Path.{fun_ext}
 use Rattle.loom_tree.specs.Tree.{Expression, num, var, cell, neg, inverse, bin, Source}
-use Rattle.loom_lang.specs.Numbers.{position}
+use Rattle.loom_lang.specs.Numbers.{index_of}
 use Rattle.loom_lang.specs.Trace.{Lists, Thread, Locals, begins, done, emit, expression}
 use Rattle.loom_flow.specs.declared.code.Operand.{Operand}
 use Rattle.loom_flow.specs.declared.code.Operand.TheVariants as operand
@@ -11,7 +11,7 @@ use Rattle.loom_flow.specs.declared.code.Target.TheVariants as target
 use Rattle.loom_flow.specs.declared.code.Step.{Step}
 use Rattle.loom_flow.specs.declared.code.Step.TheVariants as s
 use Rattle.loom_flow.specs.declared.code.Control.TheVariants.{Begin, Done}
-use Rattle.loom_flow.specs.Flat.{Flat}
+use Rattle.loom_flow.specs.Flow.{Flow}
 use Rattle.loom_flow.specs.State.{State, jumped, named, names, locals_now}
 use Rattle.loom_flow.specs.FlatCode.{operand_of, unless_there, variable_step, steps_to, operand_steps, argument_steps, instrs}
 use Rattle.loom_flow.proofs.Relations.{Meets, meets_same, meets_on, meets_emit}
@@ -34,7 +34,7 @@ unless_straight (operand.Number n) steps h = tt
 
 pub steps_straight : (p : Source) (xs : List (List ℕ)) (d : Target) (e : Expression) → AllStraight (steps_to p xs d e)
 steps_straight p xs d (num n) = (refl, tt)
-steps_straight p xs d (var x) = (variable_straight p d x (position x xs), tt)
+steps_straight p xs d (var x) = (variable_straight p d x (index_of x xs), tt)
 steps_straight p xs d (cell x i) = all_straight_append (operand_steps p xs i) _ (unless_straight (operand_of xs i) _ (steps_straight p xs target.Push i)) (refl, tt)
 steps_straight p xs d (neg a) = all_straight_append (operand_steps p xs a) _ (unless_straight (operand_of xs a) _ (steps_straight p xs target.Push a)) (refl, tt)
 steps_straight p xs d (inverse a) = all_straight_append (operand_steps p xs a) _ (unless_straight (operand_of xs a) _ (steps_straight p xs target.Push a)) (refl, tt)
@@ -51,7 +51,7 @@ arguments_straight p xs (e ∷ es) = all_straight_append (steps_to p xs target.P
 
 -- From the beginning of a statement on
 
-pub meets_begin : (b : Bool) (c : Flat) (t : Thread) (m : State → Lists) (l k at : ℕ) (xs : List (List ℕ)) (z : State) (rest : List Step) (q : Lists)
+pub meets_begin : (b : Bool) (c : Flow) (t : Thread) (m : State → Lists) (l k at : ℕ) (xs : List (List ℕ)) (z : State) (rest : List Step) (q : Lists)
     → Fetches b c t m → names (slice_get c.program.funcs z.func) ≡ xs → AllStraight rest → Lies c.code at (instrs l k (s.Control Begin ∷ rest))
     → Meets b (straight c t l k rest m (jumped z (suc at))) q → Meets b (m (jumped z at)) (emit (begins l (named xs z.locals)) q)
 meets_begin b c t m l k at xs z rest q f e a h g =
@@ -63,7 +63,7 @@ meets_begin b c t m l k at xs z rest q f e a h g =
 
 -- One operand, a step that takes it, and the completion
 
-pub one_operand : (b : Bool) (c : Flat) (t : Thread) (m : State → Lists) (l k at : ℕ) (xs : List (List ℕ)) (z : State) (e : Expression)
+pub one_operand : (b : Bool) (c : Flow) (t : Thread) (m : State → Lists) (l k at : ℕ) (xs : List (List ℕ)) (z : State) (e : Expression)
     (x : Operand → Step) (y : ℤ → Lists → Lists) (q : Lists)
     → ((a : Operand) (next : State → Lists) (n : ℕ) (v : ℤ) → straight c t l k (x a ∷ []) next (jumped (left a v z) n) ≡ y (settled a z.locals v) (next (jumped z (suc n))))
     → ((v : ℤ) (p r : Lists) → Meets b p r → Meets b (y v p) (y v r))

@@ -14,12 +14,12 @@ use Rattle.loom_flow.specs.declared.code.Control.TheVariants.{Begin, Done, Edge,
 use Rattle.loom_flow.specs.declared.code.Instr.{Instr}
 use Rattle.loom_flow.specs.declared.code.Entrance.{Entrance}
 use Rattle.loom_tree.specs.declared.expression.Op.{Op}
-use Rattle.loom_flow.specs.Flat.{Flat}
+use Rattle.loom_flow.specs.Flow.{Flow}
 use Rattle.loom_flow.specs.State.{State, Frame, operand, without, arguments, without_arguments, given, forward, jumped}
 use Rattle.loom_flow.specs.Position.{Position, before, leaves, over}
 use Rattle.loom_flow.specs.Question.{Question, read, write, lock, unlock, down, up, spawn, join, print}
 use Rattle.loom_flow.specs.Progress.{Progress, goes, asks, traps, ends, nothing, on, in_array, asks_act, asks_value, calls, returns, of_step, of_instr}
-use Rattle.loom_flow.specs.FlatTrace.{asked, followed}
+use Rattle.loom_flow.specs.FlatTrace.{question_lists, progress_lists}
 use Rattle.loom_flow.proofs.Relations.{Meets, meets_itself, meets_emit, meets_any, meets_choice, meets_either, choice_open}
 
 -- Each position that it leads to is `P`.
@@ -62,24 +62,24 @@ pub meets_joined : (b : Bool) (t : Thread) (line : ℕ) (v : ℤ) (m n : Lists) 
 meets_joined b t line (pos c) m n f = meets_either b _ _ _ _ (meets_itself b _) (meets_emit b _ _ _ f)
 meets_joined b t line (negsuc c) m n f = meets_itself b _
 
-meets_asked : (b : Bool) (t : Thread) (line : ℕ) (q : Question) (m n : ℤ → Lists) → ((v : ℤ) → Meets b (m v) (n v)) → Meets b (asked t line q m) (asked t line q n)
-meets_asked b t line (read w) m n f = meets_reading b line w m n f
-meets_asked b t line (write w v) m n f = meets_emit b _ _ _ (f (pos 0))
-meets_asked b t line (lock x) m n f = meets_emit b _ _ _ (f (pos 0))
-meets_asked b t line (unlock x) m n f = meets_either b _ _ _ _ (meets_itself b _) (meets_emit b _ _ _ (f (pos 0)))
-meets_asked b t line (down x) m n f = meets_emit b _ _ _ (f (pos 0))
-meets_asked b t line (up x) m n f = meets_either b _ _ _ _ (meets_itself b _) (meets_emit b _ _ _ (f (pos 0)))
-meets_asked b t line (spawn g vs) m n f = meets_either b _ _ _ _ (meets_itself b _) (meets_any b _ _ (λ k. meets_emit b _ _ _ (f (pos k))))
-meets_asked b t line (join v) m n f = meets_joined b t line v (m (pos 0)) (n (pos 0)) (f (pos 0))
-meets_asked b t line (print v) m n f = meets_emit b _ _ _ (f (pos 0))
+meets_question : (b : Bool) (t : Thread) (line : ℕ) (q : Question) (m n : ℤ → Lists) → ((v : ℤ) → Meets b (m v) (n v)) → Meets b (question_lists t line q m) (question_lists t line q n)
+meets_question b t line (read w) m n f = meets_reading b line w m n f
+meets_question b t line (write w v) m n f = meets_emit b _ _ _ (f (pos 0))
+meets_question b t line (lock x) m n f = meets_emit b _ _ _ (f (pos 0))
+meets_question b t line (unlock x) m n f = meets_either b _ _ _ _ (meets_itself b _) (meets_emit b _ _ _ (f (pos 0)))
+meets_question b t line (down x) m n f = meets_emit b _ _ _ (f (pos 0))
+meets_question b t line (up x) m n f = meets_either b _ _ _ _ (meets_itself b _) (meets_emit b _ _ _ (f (pos 0)))
+meets_question b t line (spawn g vs) m n f = meets_either b _ _ _ _ (meets_itself b _) (meets_any b _ _ (λ k. meets_emit b _ _ _ (f (pos k))))
+meets_question b t line (join v) m n f = meets_joined b t line v (m (pos 0)) (n (pos 0)) (f (pos 0))
+meets_question b t line (print v) m n f = meets_emit b _ _ _ (f (pos 0))
 
-pub meets_followed : (b : Bool) (t : Thread) (m n : Position → Lists) (x : Progress) → Leads (λ z. Meets b (m z) (n z)) x → Meets b (followed t m x) (followed t n x)
-meets_followed b t m n (goes None z) f = f
-meets_followed b t m n (goes (Some i) z) f = meets_emit b i (m z) (n z) f
-meets_followed b t m n (asks line q behind) f = meets_asked b t line q (λ v. m (behind v)) (λ v. n (behind v)) f
-meets_followed b t m n (traps line c) f = meets_itself b (trapped t line c)
-meets_followed b t m n ends f = meets_itself b t.stopped
-meets_followed b t m n nothing f = meets_itself b broken
+pub meets_progress : (b : Bool) (t : Thread) (m n : Position → Lists) (x : Progress) → Leads (λ z. Meets b (m z) (n z)) x → Meets b (progress_lists t m x) (progress_lists t n x)
+meets_progress b t m n (goes None z) f = f
+meets_progress b t m n (goes (Some i) z) f = meets_emit b i (m z) (n z) f
+meets_progress b t m n (asks line q behind) f = meets_question b t line q (λ v. m (behind v)) (λ v. n (behind v)) f
+meets_progress b t m n (traps line c) f = meets_itself b (trapped t line c)
+meets_progress b t m n ends f = meets_itself b t.stopped
+meets_progress b t m n nothing f = meets_itself b broken
 
 -- Lists may break off before a step.
 
@@ -92,24 +92,24 @@ joined_open : (t : Thread) (line : ℕ) (v : ℤ) (m : Lists) → trace.joined t
 joined_open t line (pos c) m = inl (inl (refl, refl))
 joined_open t line (negsuc c) m = inl (refl, refl)
 
-asked_open : (t : Thread) (line : ℕ) (q : Question) (m : ℤ → Lists) → asked t line q m [] Open
-asked_open t line (read w) m = (pos 0, inl (refl, refl))
-asked_open t line (write w v) m = inl (refl, refl)
-asked_open t line (lock x) m = inl (refl, refl)
-asked_open t line (unlock x) m = inl (inl (refl, refl))
-asked_open t line (down x) m = inl (refl, refl)
-asked_open t line (up x) m = inl (inl (refl, refl))
-asked_open t line (spawn f vs) m = inl (inl (refl, refl))
-asked_open t line (join v) m = joined_open t line v (m (pos 0))
-asked_open t line (print v) m = inl (refl, refl)
+question_open : (t : Thread) (line : ℕ) (q : Question) (m : ℤ → Lists) → question_lists t line q m [] Open
+question_open t line (read w) m = (pos 0, inl (refl, refl))
+question_open t line (write w v) m = inl (refl, refl)
+question_open t line (lock x) m = inl (refl, refl)
+question_open t line (unlock x) m = inl (inl (refl, refl))
+question_open t line (down x) m = inl (refl, refl)
+question_open t line (up x) m = inl (inl (refl, refl))
+question_open t line (spawn f vs) m = inl (inl (refl, refl))
+question_open t line (join v) m = joined_open t line v (m (pos 0))
+question_open t line (print v) m = inl (refl, refl)
 
-pub followed_open : (t : Thread) (m : Position → Lists) (x : Progress) → t.stopped [] Open → ((z : Position) → m z [] Open) → followed t m x [] Open
-followed_open t m (goes None z) stops f = f z
-followed_open t m (goes (Some i) z) stops f = inl (refl, refl)
-followed_open t m (asks line q behind) stops f = asked_open t line q (λ v. m (behind v))
-followed_open t m (traps line c) stops f = inl (refl, refl)
-followed_open t m ends stops f = stops
-followed_open t m nothing stops f = (refl, refl)
+pub progress_open : (t : Thread) (m : Position → Lists) (x : Progress) → t.stopped [] Open → ((z : Position) → m z [] Open) → progress_lists t m x [] Open
+progress_open t m (goes None z) stops f = f z
+progress_open t m (goes (Some i) z) stops f = inl (refl, refl)
+progress_open t m (asks line q behind) stops f = question_open t line q (λ v. m (behind v))
+progress_open t m (traps line c) stops f = inl (refl, refl)
+progress_open t m ends stops f = stops
+progress_open t m nothing stops f = (refl, refl)
 
 -- The instructions, by what comes of the states behind them
 
@@ -119,60 +119,60 @@ at_frame t m (before z) = m z
 at_frame t m (leaves z v) = broken
 at_frame t m over = t.stopped
 
-abbrev pub returned : Flat → Thread → (State → Lists) → List ℤ → ℤ → List Frame → Lists
+abbrev pub returned : Flow → Thread → (State → Lists) → List ℤ → ℤ → List Frame → Lists
 returned c t m vs v below = at_frame t m (returns c vs v below)
 
 -- A frame that is to end ends in one more step.
-abbrev pub by_states : Flat → Thread → (State → Lists) → Position → Lists
+abbrev pub by_states : Flow → Thread → (State → Lists) → Position → Lists
 by_states c t m (before z) = m z
 by_states c t m (leaves z v) = emit (out z.func) (returned c t m z.values v z.below)
 by_states c t m over = t.stopped
 
-abbrev pub performed : Flat → Thread → (State → Lists) → State → Instr → Step → Lists
-performed c t m z i x = followed t (by_states c t m) (of_step c z i x)
+abbrev pub performed : Flow → Thread → (State → Lists) → State → Instr → Step → Lists
+performed c t m z i x = progress_lists t (by_states c t m) (of_step c z i x)
 
-abbrev pub fetched : Flat → Thread → (State → Lists) → State → Option Instr → Lists
-fetched c t m z i = followed t (by_states c t m) (of_instr c z i)
+abbrev pub fetched : Flow → Thread → (State → Lists) → State → Option Instr → Lists
+fetched c t m z i = progress_lists t (by_states c t m) (of_instr c z i)
 
-abbrev pub entered : Flat → Thread → (State → Lists) → State → Instr → ℕ → List ℤ → Option Entrance → Lists
-entered c t m z i f vs e = followed t (by_states c t m) (calls c z i.place f vs e)
+abbrev pub entered : Flow → Thread → (State → Lists) → State → Instr → ℕ → List ℤ → Option Entrance → Lists
+entered c t m z i f vs e = progress_lists t (by_states c t m) (calls c z i.place f vs e)
 
-abbrev pub called : Flat → Thread → (State → Lists) → State → Instr → ℕ → List ℤ → Lists
+abbrev pub called : Flow → Thread → (State → Lists) → State → Instr → ℕ → List ℤ → Lists
 called c t m z i f vs =
     choice (nat_lt (suc (length z.below)) frame_limit) (entered c t m z i f vs (slice_get c.entrances f)) (trapped t i.line trace.frames)
 
-followed_if : (t : Thread) (m : Position → Lists) (b : Bool) (x y : Progress) → followed t m (if b then x else y) ≡ choice b (followed t m x) (followed t m y)
-followed_if t m true x y = refl
-followed_if t m false x y = refl
+progress_if : (t : Thread) (m : Position → Lists) (b : Bool) (x y : Progress) → progress_lists t m (if b then x else y) ≡ choice b (progress_lists t m x) (progress_lists t m y)
+progress_if t m true x y = refl
+progress_if t m false x y = refl
 
-followed_in_array : (t : Thread) (m : Position → Lists) (line : ℕ) (a : Array) (v : ℤ) (more : ℕ → Progress)
-    → followed t m (in_array line a v more) ≡ trace.within t line a.first (Some a.count) v (λ w. followed t m (more w))
-followed_in_array t m line a (pos i) more = followed_if t m (nat_lt i a.count) (more (a.first + i)) (traps line trace.index)
-followed_in_array t m line a (negsuc i) more = refl
+progress_in_array : (t : Thread) (m : Position → Lists) (line : ℕ) (a : Array) (v : ℤ) (more : ℕ → Progress)
+    → progress_lists t m (in_array line a v more) ≡ trace.within t line a.first (Some a.count) v (λ w. progress_lists t m (more w))
+progress_in_array t m line a (pos i) more = progress_if t m (nat_lt i a.count) (more (a.first + i)) (traps line trace.index)
+progress_in_array t m line a (negsuc i) more = refl
 
-pub apply_gives : (c : Flat) (t : Thread) (m : State → Lists) (z : State) (i : Instr) (o : Op) (a b : Operand) (d : Target)
+pub apply_gives : (c : Flow) (t : Thread) (m : State → Lists) (z : State) (i : Instr) (o : Op) (a b : Operand) (d : Target)
     → performed c t m z i (s.Compute (Apply o a b d)) ≡ trace.operated t i.line o (operand (without z b) a) (operand z b) (λ v. m (forward (given (without (without z b) a) d v)))
 apply_gives c t m z i o a b d =
-    followed_if t (by_states c t m) (divides o && is_zero (operand z b)) (traps i.line trace.division)
+    progress_if t (by_states c t m) (divides o && is_zero (operand z b)) (traps i.line trace.division)
     (on (given (without (without z b) a) d (applied o (operand (without z b) a) (operand z b))))
 
-pub read_cell_gives : (c : Flat) (t : Thread) (m : State → Lists) (z : State) (i : Instr) (a : Array) (n : Operand) (d : Target)
+pub read_cell_gives : (c : Flow) (t : Thread) (m : State → Lists) (z : State) (i : Instr) (a : Array) (n : Operand) (d : Target)
     → performed c t m z i (s.Ask (ReadCell a n d)) ≡ trace.within t i.line a.first (Some a.count) (operand z n) (λ w. trace.reading i.line w (λ v. m (forward (given (without z n) d v))))
-read_cell_gives c t m z i a n d = followed_in_array t (by_states c t m) i.line a (operand z n) (λ w. asks_value i.line (read w) (λ v. given (without z n) d v))
+read_cell_gives c t m z i a n d = progress_in_array t (by_states c t m) i.line a (operand z n) (λ w. asks_value i.line (read w) (λ v. given (without z n) d v))
 
-pub write_cell_gives : (c : Flat) (t : Thread) (m : State → Lists) (z : State) (i : Instr) (a : Array) (n b : Operand)
+pub write_cell_gives : (c : Flow) (t : Thread) (m : State → Lists) (z : State) (i : Instr) (a : Array) (n b : Operand)
     → performed c t m z i (s.Ask (WriteCell a n b))
     ≡ trace.within t i.line a.first (Some a.count) (operand (without z b) n) (λ w. emit (made i.line (trace.write w (operand z b))) (m (forward (without (without z b) n))))
-write_cell_gives c t m z i a n b = followed_in_array t (by_states c t m) i.line a (operand (without z b) n) (λ w. asks_act i.line (write w (operand z b)) (without (without z b) n))
+write_cell_gives c t m z i a n b = progress_in_array t (by_states c t m) i.line a (operand (without z b) n) (λ w. asks_act i.line (write w (operand z b)) (without (without z b) n))
 
-pub jump_gives : (c : Flat) (t : Thread) (m : State → Lists) (z : State) (i : Instr) (a : Operand) (at : ℕ)
+pub jump_gives : (c : Flow) (t : Thread) (m : State → Lists) (z : State) (i : Instr) (a : Operand) (at : ℕ)
     → performed c t m z i (s.Control (JumpIfZero a at)) ≡ choice (is_zero (operand z a)) (m (jumped (without z a) at)) (m (forward (without z a)))
-jump_gives c t m z i a at = followed_if t (by_states c t m) (is_zero (operand z a)) (goes None (before (jumped (without z a) at))) (on (without z a))
+jump_gives c t m z i a at = progress_if t (by_states c t m) (is_zero (operand z a)) (goes None (before (jumped (without z a) at))) (on (without z a))
 
-pub call_gives : (c : Flat) (t : Thread) (m : State → Lists) (z : State) (i : Instr) (f n : ℕ)
+pub call_gives : (c : Flow) (t : Thread) (m : State → Lists) (z : State) (i : Instr) (f n : ℕ)
     → performed c t m z i (s.Control (Call f n)) ≡ called c t m (without_arguments z n) i f (arguments z n)
 call_gives c t m z i f n =
-    followed_if t (by_states c t m) (nat_lt (suc (length z.below)) frame_limit) (calls c (without_arguments z n) i.place f (arguments z n) (slice_get c.entrances f)) (traps i.line trace.frames)
+    progress_if t (by_states c t m) (nat_lt (suc (length z.below)) frame_limit) (calls c (without_arguments z n) i.place f (arguments z n) (slice_get c.entrances f)) (traps i.line trace.frames)
 
 -- Straight on
 
@@ -195,7 +195,7 @@ IsAhead z (before y) = y.at ≡ suc z.at
 IsAhead z (leaves y v) = ⊥
 IsAhead z over = ⊥
 
-leads_ahead : (c : Flat) (z : State) (i : Instr) (x : Step) → is_straight x ≡ true → Leads (IsAhead z) (of_step c z i x)
+leads_ahead : (c : Flow) (z : State) (i : Instr) (x : Step) → is_straight x ≡ true → Leads (IsAhead z) (of_step c z i x)
 leads_ahead c z i (s.Compute (Move a d)) e = refl
 leads_ahead c z i (s.Compute (Negate a d)) e = refl
 leads_ahead c z i (s.Compute (Invert a d)) e = refl
@@ -231,10 +231,10 @@ leads_on P Q f (traps line c) h = tt
 leads_on P Q f ends h = tt
 leads_on P Q f nothing h = tt
 
-pub meets_performed : (b : Bool) (c : Flat) (t : Thread) (m n : State → Lists) (z : State) (i : Instr) (x : Step) → is_straight x ≡ true
+pub meets_performed : (b : Bool) (c : Flow) (t : Thread) (m n : State → Lists) (z : State) (i : Instr) (x : Step) → is_straight x ≡ true
     → ((y : State) → y.at ≡ suc z.at → Meets b (m y) (n y)) → Meets b (performed c t m z i x) (performed c t n z i x)
 meets_performed b c t m n z i x e f =
-    meets_followed b t (by_states c t m) (by_states c t n) (of_step c z i x) (leads_on (IsAhead z) (λ p. Meets b (by_states c t m p) (by_states c t n p)) ahead (of_step c z i x) (leads_ahead c z i x e))
+    meets_progress b t (by_states c t m) (by_states c t n) (of_step c z i x) (leads_on (IsAhead z) (λ p. Meets b (by_states c t m p) (by_states c t n p)) ahead (of_step c z i x) (leads_ahead c z i x e))
   where
     ahead : (p : Position) → IsAhead z p → Meets b (by_states c t m p) (by_states c t n p)
     ahead (before y) h = f y h

@@ -5,7 +5,7 @@ use Rattle.loom_lang.specs.Rules.{KeepsRules}
 use Rattle.loom_lang.specs.Trace as trace
 use Rattle.loom_lang.specs.Trace.{Item, Outcome, Lists, Thread, made, enter, broken, emit, any, calls_to, frame_limit, ended, finished, IsTrace}
 use Rattle.loom_flow.specs.declared.code.Entrance.{Entrance}
-use Rattle.loom_flow.specs.Flat.{Flat}
+use Rattle.loom_flow.specs.Flow.{Flow}
 use Rattle.loom_flow.specs.State.{State, at_start, locals_now}
 use Rattle.loom_flow.specs.FlatTrace.{started, IsFlatTrace}
 use Rattle.loom_flow.specs.FlatTrace as flat
@@ -17,11 +17,11 @@ use Rattle.loom_flow.proofs.BodyTraces.{runs_runner, ever_runner}
 use Rattle.loom_flow.proofs.Frames.{IsFunctionPlaced, ArePlaced, first_frame, ever_behind}
 use Rattle.loom_flow.proofs.Placement.{are_placed}
 
-abbrev thread_of : Flat → Function → Thread
+abbrev thread_of : Flow → Function → Thread
 thread_of c g = record { program = c.program; stopped = ended g.line }
 
 -- by so many steps, within as many turns
-to_tree : (c : Flat) → ArePlaced c → (f : ℕ) (vs : List ℤ) (n : ℕ) (o : Option Function) → slice_get c.program.funcs f ≡ o → (q : Option Entrance) → IsFunctionPlaced c o q → slice_get c.entrances f ≡ q
+to_tree : (c : Flow) → ArePlaced c → (f : ℕ) (vs : List ℤ) (n : ℕ) (o : Option Function) → slice_get c.program.funcs f ≡ o → (q : Option Entrance) → IsFunctionPlaced c o q → slice_get c.entrances f ≡ q
     → Within (flat.thread c o f vs n) (trace.thread c.program o f vs n)
 to_tree c placed f vs n None found q h e = λ es r g. g
 to_tree c placed f vs n (Some g) found q h e =
@@ -30,7 +30,7 @@ to_tree c placed f vs n (Some g) found q h e =
     (meets_same true _ _ (ap {B = Lists} (started c (thread_of c g) f vs n) (e ∙ h.1)))
     (first_frame true c (thread_of c g) (runs_from c (thread_of c g)) (runs_runner c (thread_of c g) (emit_open (made g.line trace.end) finished)) refl placed n n (omega arith) f g.line vs g h.0 found h.2))
 
-to_code : (c : Flat) → ArePlaced c → (f : ℕ) (vs : List ℤ) (n : ℕ) (o : Option Function) → slice_get c.program.funcs f ≡ o → (q : Option Entrance) → IsFunctionPlaced c o q → slice_get c.entrances f ≡ q
+to_code : (c : Flow) → ArePlaced c → (f : ℕ) (vs : List ℤ) (n : ℕ) (o : Option Function) → slice_get c.program.funcs f ≡ o → (q : Option Entrance) → IsFunctionPlaced c o q → slice_get c.entrances f ≡ q
     → Within (trace.thread c.program o f vs n) (any (λ (k : ℕ). flat.thread c o f vs k))
 to_code c placed f vs n None found q h e = λ es r g. (0, g)
 to_code c placed f vs n (Some g) found q h e =
@@ -47,7 +47,7 @@ to_code c placed f vs n (Some g) found q h e =
 
 pub lowered_traces : (p : Source) → KeepsRules p → HasTraces (lowered p) p
 lowered_traces p l f vs items r =
-    let c : Flat = lowered p in
+    let c : Flow = lowered p in
     let placed : ArePlaced c = are_placed p l in (
       λ (h : IsFlatTrace c f vs items r). record {
         most_turns = h.most_steps;

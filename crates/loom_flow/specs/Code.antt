@@ -10,15 +10,15 @@ use Rattle.loom_flow.specs.declared.code.Entrance.{Entrance}
 use Rattle.loom_flow.specs.contracts.code.Instr as i
 use Rattle.loom_flow.specs.contracts.code.Site as s
 use Rattle.loom_flow.specs.contracts.code.Entrance as e
-use Rattle.loom_flow.specs.Flat.{Flat}
+use Rattle.loom_flow.specs.Flow.{Flow}
 use Rattle.loom_flow.specs.FlatCode.{lowered}
 
 -- It is the flat code of its program, which keeps the rules.
-pub record IsLowered (c : Flat) : Type 0 where
+pub record IsLowered (c : Flow) : Type 0 where
   pub lawful : KeepsRules c.program
   pub is : c ≡ lowered c.program
 
-abbrev pub flat_code : Coded Flat
+abbrev pub flat_code : Coded Flow
 flat_code =
     code_by (Source × (List Instr × (List Site × (List Entrance × List ℕ))))
     (coded× source_code (coded× (coded_list i.the_row.coded) (coded× (coded_list s.the_row.coded) (coded× (coded_list e.the_row.coded) (coded_list coded_ℕ)))))

@@ -12,43 +12,43 @@ use Rattle.loom_flow.specs.declared.code.Compute.TheVariants.{Move, Negate, Inve
 use Rattle.loom_flow.specs.declared.code.Ask.TheVariants.{Read, ReadCell, Write, WriteCell, Join, Print, Spawn}
 use Rattle.loom_flow.specs.declared.code.Control.TheVariants.{JumpIfZero, Call, Return}
 use Rattle.loom_flow.specs.declared.code.Instr.{Instr}
-use Rattle.loom_flow.specs.Flat.{Flat}
+use Rattle.loom_flow.specs.Flow.{Flow}
 
 -- how many values an operand takes off, and how many a target puts on
-abbrev pub taken : Operand → ℕ
-taken o.Top = 1
-taken _ = 0
+abbrev pub pops : Operand → ℕ
+pops o.Top = 1
+pops _ = 0
 
-abbrev pub put : Target → ℕ
-put t.Push = 1
-put (t.Local x) = 0
+abbrev pub pushes : Target → ℕ
+pushes t.Push = 1
+pushes (t.Local x) = 0
 
 abbrev pub takes_off : Step → ℕ
-takes_off (s.Compute (Move a d)) = taken a
-takes_off (s.Ask (ReadCell a n d)) = taken n
-takes_off (s.Compute (Negate a d)) = taken a
-takes_off (s.Compute (Invert a d)) = taken a
-takes_off (s.Compute (Apply o a b d)) = taken a + taken b
-takes_off (s.Ask (Write w a)) = taken a
-takes_off (s.Ask (WriteCell a n b)) = taken n + taken b
-takes_off (s.Ask (Join a)) = taken a
-takes_off (s.Ask (Print a)) = taken a
+takes_off (s.Compute (Move a d)) = pops a
+takes_off (s.Ask (ReadCell a n d)) = pops n
+takes_off (s.Compute (Negate a d)) = pops a
+takes_off (s.Compute (Invert a d)) = pops a
+takes_off (s.Compute (Apply o a b d)) = pops a + pops b
+takes_off (s.Ask (Write w a)) = pops a
+takes_off (s.Ask (WriteCell a n b)) = pops n + pops b
+takes_off (s.Ask (Join a)) = pops a
+takes_off (s.Ask (Print a)) = pops a
 takes_off (s.Ask (Spawn f n d)) = n
 takes_off (s.Control (Call f n)) = n
 takes_off (s.Compute Discard) = 1
-takes_off (s.Control (Return a)) = taken a
-takes_off (s.Control (JumpIfZero a to)) = taken a
+takes_off (s.Control (Return a)) = pops a
+takes_off (s.Control (JumpIfZero a to)) = pops a
 takes_off _ = 0
 
 -- a call puts on its result
 abbrev pub puts_on : Step → ℕ
-puts_on (s.Compute (Move a d)) = put d
-puts_on (s.Ask (Read w d)) = put d
-puts_on (s.Ask (ReadCell a n d)) = put d
-puts_on (s.Compute (Negate a d)) = put d
-puts_on (s.Compute (Invert a d)) = put d
-puts_on (s.Compute (Apply o a b d)) = put d
-puts_on (s.Ask (Spawn f n d)) = put d
+puts_on (s.Compute (Move a d)) = pushes d
+puts_on (s.Ask (Read w d)) = pushes d
+puts_on (s.Ask (ReadCell a n d)) = pushes d
+puts_on (s.Compute (Negate a d)) = pushes d
+puts_on (s.Compute (Invert a d)) = pushes d
+puts_on (s.Compute (Apply o a b d)) = pushes d
+puts_on (s.Ask (Spawn f n d)) = pushes d
 puts_on (s.Control (Call f n)) = 1
 puts_on _ = 0
 
@@ -58,7 +58,7 @@ depth_after d [] = Some d
 depth_after d (x ∷ xs) = if nat_le (takes_off x) d then depth_after (d - takes_off x + puts_on x) xs else None
 
 -- how many there are before the instruction of this number, where the code is gone through from its first instruction to its last
-abbrev pub depth_before : Flat → ℕ → Option ℕ
+abbrev pub depth_before : Flow → ℕ → Option ℕ
 depth_before c at = depth_after 0 (map (λ (i : Instr). i.step) (take at c.code))
 
 -- Expressions

@@ -3,7 +3,7 @@ use Rattle.std.specs.Prelude.{bit_or, ◌^◌, ℕ, suc, ◌+◌, List, [], ◌�
 use Rattle.loom_tree.specs.Tree.{Expression, num, var, cell, neg, inverse, bin, Right, Simple, let_, set, set_cell, return, Body, end, simple, if_, while_, Function, Source}
 use Rattle.loom_tree.specs.Tree as tree
 use Rattle.loom_lang.specs.Rules.{locals_of}
-use Rattle.loom_lang.specs.Numbers.{position, Cells, cells_named, mutex_number, sema_number, function_number}
+use Rattle.loom_lang.specs.Numbers.{index_of, Cells, cells_named, mutex_number, sema_number, function_number}
 use Rattle.loom_lang.specs.Places.{body_places}
 use Rattle.loom_flow.specs.declared.code.Operand.{Operand}
 use Rattle.loom_flow.specs.declared.code.Operand.TheVariants as o
@@ -18,7 +18,7 @@ use Rattle.loom_flow.specs.declared.code.Control.TheVariants.{Begin, Done, Edge,
 use Rattle.loom_flow.specs.declared.code.Instr.{Instr}
 use Rattle.loom_flow.specs.declared.code.Site.{Site}
 use Rattle.loom_flow.specs.declared.code.Entrance.{Entrance}
-use Rattle.loom_flow.specs.Flat.{Flat}
+use Rattle.loom_flow.specs.Flow.{Flow}
 
 -- Numbers of names; in a program each name has one.
 
@@ -49,7 +49,7 @@ local_operand (Some x) = o.Local x
 -- Numbers and locals stand in the instruction that takes them.
 abbrev pub operand_of : List (List ℕ) → Expression → Operand
 operand_of xs (num n) = o.Number n
-operand_of xs (var x) = local_operand (position x xs)
+operand_of xs (var x) = local_operand (index_of x xs)
 operand_of xs _ = o.Top
 
 -- and nothing is done for them before
@@ -64,7 +64,7 @@ variable_step p d x (Some k) = s.Compute (Move (o.Local k) d)
 -- the steps that leave an expression's value
 abbrev pub steps_to : Source → List (List ℕ) → Target → Expression → List Step
 steps_to p xs d (num n) = s.Compute (Move (o.Number n) d) ∷ []
-steps_to p xs d (var x) = variable_step p d x (position x xs) ∷ []
+steps_to p xs d (var x) = variable_step p d x (index_of x xs) ∷ []
 steps_to p xs d (cell x i) = unless_there (operand_of xs i) (steps_to p xs t.Push i) ++ s.Ask (ReadCell (array_named p x) (operand_of xs i) d) ∷ []
 steps_to p xs d (neg a) = unless_there (operand_of xs a) (steps_to p xs t.Push a) ++ s.Compute (Negate (operand_of xs a) d) ∷ []
 steps_to p xs d (inverse a) = unless_there (operand_of xs a) (steps_to p xs t.Push a) ++ s.Compute (Invert (operand_of xs a) d) ∷ []
@@ -99,9 +99,9 @@ value_steps p xs x e None = operand_steps p xs e ++ s.Ask (Write (word_named p x
 value_steps p xs x e (Some k) = steps_to p xs (t.Local k) e
 
 abbrev pub set_steps : Source → List (List ℕ) → List ℕ → Right Expression → List Step
-set_steps p xs x (Right.value e) = value_steps p xs x e (position x xs)
-set_steps p xs x (Right.call f es) = call_steps p xs f es ++ store_step p x (position x xs) ∷ []
-set_steps p xs x (Right.spawn f es) = spawn_steps p xs f es ++ store_step p x (position x xs) ∷ []
+set_steps p xs x (Right.value e) = value_steps p xs x e (index_of x xs)
+set_steps p xs x (Right.call f es) = call_steps p xs f es ++ store_step p x (index_of x xs) ∷ []
+set_steps p xs x (Right.spawn f es) = spawn_steps p xs f es ++ store_step p x (index_of x xs) ∷ []
 
 -- from the statement's beginning to its completion
 abbrev pub simple_steps : Source → List (List ℕ) → Simple Expression → List Step
@@ -234,7 +234,7 @@ set_of bits [] = bits
 set_of bits (n ∷ ns) = set_of (bit_or bits (2 ^ n)) ns
 
 -- Place 0 is where unborn and ended threads stand.
-abbrev pub lowered : Source → Flat
+abbrev pub lowered : Source → Flow
 lowered p = record {
   program = p;
   code = functions_code p 0 1 p.funcs;

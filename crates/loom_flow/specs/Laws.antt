@@ -11,21 +11,21 @@ use Rattle.loom_flow.specs.declared.code.Control.TheVariants.{Edge, Jump, JumpIf
 use Rattle.loom_flow.specs.declared.code.Instr.{Instr}
 use Rattle.loom_flow.specs.declared.code.Site.{Site}
 use Rattle.loom_flow.specs.declared.code.Entrance.{Entrance}
-use Rattle.loom_flow.specs.Flat.{Flat, resume}
+use Rattle.loom_flow.specs.Flow.{Flow, resume}
 use Rattle.loom_flow.specs.FlatTrace.{IsFlatTrace}
 use Rattle.loom_flow.specs.FlatCode.{or_zero, calls_body, lowered}
-use Rattle.loom_flow.specs.Depth.{taken, takes_off, puts_on, depth_before, IsSmall}
+use Rattle.loom_flow.specs.Depth.{pops, takes_off, puts_on, depth_before, IsSmall}
 
 -- The flat code has the traces of the tree, for every function and all arguments.
-abbrev pub HasTraces : Flat → Source → Type 0
+abbrev pub HasTraces : Flow → Source → Type 0
 HasTraces c p = (f : ℕ) (vs : List ℤ) (items : List Item) (r : Outcome) → IsFlatTrace c f vs items r ↔ IsTrace p f vs items r
 
 -- It has as many places as the tree, with the same lines.
-abbrev pub HasPlaces : Flat → Source → Type 0
+abbrev pub HasPlaces : Flow → Source → Type 0
 HasPlaces c p = map (λ (s : Site). s.line) c.sites ≡ map (line_of_place p) (places p)
 
--- Bit `g` of the set of function `f` is set exactly where a call of `g` stands in the body of `f`.
-abbrev pub HasCalls : Flat → Source → Type 0
+-- Each function has a word of bits, one for each function: that of `g` is 1 in the word of `f` where `f` calls `g` itself, else it is 0.
+abbrev pub HasCalls : Flow → Source → Type 0
 HasCalls c p = (f : ℕ) (h : Function) (g : ℕ) → slice_get p.funcs f ≡ Some h → IsBitSet (or_zero (slice_get c.calls f)) g ↔ Contains (calls_body p h.body) g
 
 -- Functions
@@ -36,7 +36,7 @@ start_or n (Some e) = e.start
 
 -- Instruction `at` is one of function `n`: it stands from the function's start on, and before the start of the next one or the end of the
 -- code.
-pub record IsInFunction (c : Flat) (n at : ℕ) : Type 0 where
+pub record IsInFunction (c : Flow) (n at : ℕ) : Type 0 where
   pub entrance : Entrance
   pub there : slice_get c.entrances n ≡ Some entrance
   pub from : entrance.start ≤ at
@@ -51,7 +51,7 @@ place_of n line (s.Control Out) = out n
 place_of n line _ = inside line
 
 -- Each instruction has its place and the line of that, and each entrance has its place.
-pub record HasInstructionPlaces (c : Flat) (p : Source) : Type 0 where
+pub record HasInstructionPlaces (c : Flow) (p : Source) : Type 0 where
   -- each instruction is one of a function
   pub functions : (at : ℕ) → at < length c.code → (n : ℕ) × IsInFunction c n at
   pub instructions : (n at : ℕ) (i : Instr) → IsInFunction c n at → slice_get c.code at ≡ Some i
@@ -61,12 +61,12 @@ pub record HasInstructionPlaces (c : Flat) (p : Source) : Type 0 where
 -- Where an instruction leads
 
 -- The function has an entrance, and an instruction stands there.
-abbrev pub HasStart : Flat → ℕ → Type 0
+abbrev pub HasStart : Flow → ℕ → Type 0
 HasStart c f = (e : Entrance) × (slice_get c.entrances f ≡ Some e) × (e.start < length c.code)
 
 -- Instruction `at` leads into `Q` alone: to the next instruction, and by a jump to one behind it, by a back edge to any. A call or a spawn
 -- begins at the start of a function, and behind a call the frame goes on at the next instruction.
-abbrev pub LeadsInto : (ℕ → Type 0) → Flat → ℕ → Instr → Step → Type 0
+abbrev pub LeadsInto : (ℕ → Type 0) → Flow → ℕ → Instr → Step → Type 0
 LeadsInto Q c at i (s.Control (Jump to)) = Q (suc at) × (at < to) × Q to
 LeadsInto Q c at i (s.Control (JumpIfZero a to)) = Q (suc at) × (at < to) × Q to
 LeadsInto Q c at i (s.Control (Edge to)) = Q (suc at) × Q to
@@ -77,11 +77,11 @@ LeadsInto Q c at i (s.Control Out) = Unit {0}
 LeadsInto Q c at i _ = Q (suc at)
 
 -- No instruction leads out of the code, and in a frame only back edges lead back.
-abbrev pub JumpsForward : Flat → Type 0
+abbrev pub JumpsForward : Flow → Type 0
 JumpsForward c = (at : ℕ) (i : Instr) → slice_get c.code at ≡ Some i → LeadsInto (λ to. to < length c.code) c at i i.step
 
 -- None leads out of its function.
-pub record KeepsFunctions (c : Flat) : Type 0 where
+pub record KeepsFunctions (c : Flow) : Type 0 where
   pub inside : (n at : ℕ) → IsInFunction c n at → at < length c.code
   pub starts : (n : ℕ) (e : Entrance) → slice_get c.entrances n ≡ Some e → IsInFunction c n e.start
   pub instructions : (n at : ℕ) (i : Instr) → IsInFunction c n at → slice_get c.code at ≡ Some i → LeadsInto (IsInFunction c n) c at i i.step
@@ -90,17 +90,17 @@ pub record KeepsFunctions (c : Flat) : Type 0 where
 
 -- With `d` values before it, an instruction takes off no more than these, and wherever it leads as many wait as are foreseen there. What
 -- jumps, calls or returns takes off all of them: a frame begins with no values, and goes on behind a call with the result alone.
-abbrev pub KeepsDepth : Flat → ℕ → ℕ → Step → Type 0
+abbrev pub KeepsDepth : Flow → ℕ → ℕ → Step → Type 0
 KeepsDepth c at d (s.Control (Jump to)) = (d ≡ 0) × (depth_before c to ≡ Some 0)
-KeepsDepth c at d (s.Control (JumpIfZero a to)) = (d ≡ taken a) × (depth_before c (suc at) ≡ Some 0) × (depth_before c to ≡ Some 0)
+KeepsDepth c at d (s.Control (JumpIfZero a to)) = (d ≡ pops a) × (depth_before c (suc at) ≡ Some 0) × (depth_before c to ≡ Some 0)
 KeepsDepth c at d (s.Control (Edge to)) = (d ≡ 0) × (depth_before c to ≡ Some 0)
 KeepsDepth c at d (s.Control (Call f n)) = (d ≡ n) × (depth_before c (suc at) ≡ Some 1)
-KeepsDepth c at d (s.Control (Return a)) = d ≡ taken a
+KeepsDepth c at d (s.Control (Return a)) = d ≡ pops a
 KeepsDepth c at d (s.Control Out) = d ≡ 0
 KeepsDepth c at d x = (takes_off x ≤ d) × (depth_before c (suc at) ≡ Some (d - takes_off x + puts_on x))
 
 -- No instruction finds too few values, on whatever way it is reached, or more than `most`.
-pub record HasOperands (c : Flat) (most : ℕ) : Type 0 where
+pub record HasOperands (c : Flow) (most : ℕ) : Type 0 where
   pub starts : (n : ℕ) (e : Entrance) → slice_get c.entrances n ≡ Some e → depth_before c e.start ≡ Some 0
   pub instructions : (at : ℕ) (i : Instr) → slice_get c.code at ≡ Some i → (d : ℕ) × (depth_before c at ≡ Some d) × (d ≤ most) × KeepsDepth c at d i.step
 

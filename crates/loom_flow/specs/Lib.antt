@@ -1,7 +1,7 @@
 pub mod Arguments
 pub mod Code
 pub mod Depth
-pub mod Flat
+pub mod Flow
 pub mod FlatCode
 pub mod FlatTrace
 pub mod Laws

@@ -14,7 +14,7 @@ use Rattle.loom_flow.specs.declared.code.Step.{Step}
 use Rattle.loom_flow.specs.declared.code.Step.TheVariants as s
 use Rattle.loom_flow.specs.declared.code.Instr.{Instr}
 use Rattle.loom_flow.specs.declared.code.Entrance.{Entrance}
-use Rattle.loom_flow.specs.Flat.{Flat, resume}
+use Rattle.loom_flow.specs.Flow.{Flow, resume}
 use Rattle.loom_flow.specs.State.{Frame, State, operand, without, given, forward, jumped, arguments, without_arguments, at_start, locals_now}
 use Rattle.loom_flow.specs.Position.{Position, before, leaves, over}
 use Rattle.loom_flow.specs.Question.{Question, read, write, lock, unlock, down, up, spawn, join, print}
@@ -78,21 +78,21 @@ of_ask z line (Spawn f n d) = asks_value line (spawn f (arguments z n)) (λ v. g
 -- Frames
 
 -- at the start of a new frame
-abbrev pub enters : Flat → ℕ → State → Progress
+abbrev pub enters : Flow → ℕ → State → Progress
 enters c f z = goes (Some (enter f (locals_now c z))) (before z)
 
 -- a new frame above this one, which waits at this place
-abbrev pub calls : Flat → State → ℕ → ℕ → List ℤ → Option Entrance → Progress
+abbrev pub calls : Flow → State → ℕ → ℕ → List ℤ → Option Entrance → Progress
 calls c z place f vs None = nothing
 calls c z place f vs (Some e) = enters c f (at_start f e vs z.values ((record { func = z.func; locals = z.locals; site = place }) ∷ z.below))
 
 -- in the frame below the one that has ended, with its result on top of the values
-abbrev pub returns : Flat → List ℤ → ℤ → List Frame → Position
+abbrev pub returns : Flow → List ℤ → ℤ → List Frame → Position
 returns c vs v [] = over
 returns c vs v (f ∷ fs) = before (record { at = resume (slice_get c.sites f.site); values = v ∷ vs; func = f.func; locals = f.locals; below = fs })
 
 -- a frame too many traps
-abbrev pub of_control : Flat → State → ℕ → ℕ → Control → Progress
+abbrev pub of_control : Flow → State → ℕ → ℕ → Control → Progress
 of_control c z line place Begin = goes (Some (begins line (locals_now c z))) (before (forward z))
 of_control c z line place Done = goes (Some (done line)) (before (forward z))
 of_control c z line place (Edge at) = goes (Some (edge line)) (before (jumped z at))
@@ -106,16 +106,16 @@ of_control c z line place Out = goes None (leaves z (pos 0))
 
 -- Threads
 
-abbrev pub of_step : Flat → State → Instr → Step → Progress
+abbrev pub of_step : Flow → State → Instr → Step → Progress
 of_step c z i (s.Compute x) = of_compute z i.line x
 of_step c z i (s.Ask x) = of_ask z i.line x
 of_step c z i (s.Control x) = of_control c z i.line i.place x
 
-abbrev pub of_instr : Flat → State → Option Instr → Progress
+abbrev pub of_instr : Flow → State → Option Instr → Progress
 of_instr c z None = nothing
 of_instr c z (Some i) = of_step c z i i.step
 
-abbrev pub progress : Flat → Position → Progress
+abbrev pub progress : Flow → Position → Progress
 progress c (before z) = of_instr c z (slice_get c.code z.at)
 progress c (leaves z v) = goes (Some (out z.func)) (returns c z.values v z.below)
 progress c over = ends

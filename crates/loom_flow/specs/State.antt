@@ -9,7 +9,7 @@ use Rattle.loom_flow.specs.declared.code.Operand.TheVariants as o
 use Rattle.loom_flow.specs.declared.code.Target.{Target}
 use Rattle.loom_flow.specs.declared.code.Target.TheVariants as t
 use Rattle.loom_flow.specs.declared.code.Entrance.{Entrance}
-use Rattle.loom_flow.specs.Flat.{Flat}
+use Rattle.loom_flow.specs.Flow.{Flow}
 
 -- a frame that waits for the result of a call: its function, its locals, and the place of the statement that calls
 pub record Frame : Type 0 where
@@ -106,7 +106,7 @@ abbrev pub names : Option Function → List (List ℕ)
 names None = []
 names (Some f) = locals_of f
 
-abbrev pub locals_now : Flat → State → Locals
+abbrev pub locals_now : Flow → State → Locals
 locals_now c z = named (names (slice_get c.program.funcs z.func)) z.locals
 
 -- at the start of a function, with these arguments, over these values and frames

@@ -2,12 +2,12 @@
 ghost use Rattle.std.specs.Prelude.{ℕ, ◌≡◌, ◌≤◌, ◌<◌, Some, length, map, take};
 ghost use Rattle.loom_flow.specs.declared.code.Instr as instr;
 ghost use Rattle.loom_flow.specs.declared.code.Step.TheVariants as s;
-ghost use Rattle.loom_flow.specs.Depth.{taken, put, takes_off, puts_on, depth_after};
+ghost use Rattle.loom_flow.specs.Depth.{pops, pushes, takes_off, puts_on, depth_after};
 
 use crate::code::{Ask, Compute, Control, Instr, Operand, Step, Target};
 
-fn taken(a: Operand) -> usize
-    ensures is { result ≡ taken a }
+fn pops(a: Operand) -> usize
+    ensures is { result ≡ pops a }
     ensures few { result ≤ 1 }
 {
     match a {
@@ -17,8 +17,8 @@ fn taken(a: Operand) -> usize
     }
 }
 
-fn put(d: Target) -> usize
-    ensures is { result ≡ put d }
+fn pushes(d: Target) -> usize
+    ensures is { result ≡ pushes d }
     ensures few { result ≤ 1 }
 {
     match d {
@@ -31,10 +31,10 @@ fn compute_takes_off(step: Compute) -> usize
     ensures { result ≡ takes_off (s.Compute step) }
 {
     match step {
-        Compute::Move(a, _) => taken(a),
-        Compute::Negate(a, _) => taken(a),
-        Compute::Invert(a, _) => taken(a),
-        Compute::Apply(_, a, b, _) => taken(a) + taken(b),
+        Compute::Move(a, _) => pops(a),
+        Compute::Negate(a, _) => pops(a),
+        Compute::Invert(a, _) => pops(a),
+        Compute::Apply(_, a, b, _) => pops(a) + pops(b),
         Compute::Discard => 1,
     }
 }
@@ -44,15 +44,15 @@ fn ask_takes_off(step: Ask) -> usize
 {
     match step {
         Ask::Read(_, _) => 0,
-        Ask::ReadCell(_, n, _) => taken(n),
-        Ask::Write(_, a) => taken(a),
-        Ask::WriteCell(_, n, b) => taken(n) + taken(b),
+        Ask::ReadCell(_, n, _) => pops(n),
+        Ask::Write(_, a) => pops(a),
+        Ask::WriteCell(_, n, b) => pops(n) + pops(b),
         Ask::Lock(_) => 0,
         Ask::Unlock(_) => 0,
         Ask::Down(_) => 0,
         Ask::Up(_) => 0,
-        Ask::Join(a) => taken(a),
-        Ask::Print(a) => taken(a),
+        Ask::Join(a) => pops(a),
+        Ask::Print(a) => pops(a),
         Ask::Spawn(_, n, _) => n as usize,
     }
 }
@@ -65,9 +65,9 @@ fn control_takes_off(step: Control) -> usize
         Control::Done => 0,
         Control::Edge(_) => 0,
         Control::Jump(_) => 0,
-        Control::JumpIfZero(a, _) => taken(a),
+        Control::JumpIfZero(a, _) => pops(a),
         Control::Call(_, n) => n as usize,
-        Control::Return(a) => taken(a),
+        Control::Return(a) => pops(a),
         Control::Out => 0,
     }
 }
@@ -88,10 +88,10 @@ fn compute_puts_on(step: Compute) -> usize
     ensures few { result ≤ 1 }
 {
     match step {
-        Compute::Move(_, d) => put(d),
-        Compute::Negate(_, d) => put(d),
-        Compute::Invert(_, d) => put(d),
-        Compute::Apply(_, _, _, d) => put(d),
+        Compute::Move(_, d) => pushes(d),
+        Compute::Negate(_, d) => pushes(d),
+        Compute::Invert(_, d) => pushes(d),
+        Compute::Apply(_, _, _, d) => pushes(d),
         Compute::Discard => 0,
     }
 }
@@ -101,8 +101,8 @@ fn ask_puts_on(step: Ask) -> usize
     ensures few { result ≤ 1 }
 {
     match step {
-        Ask::Read(_, d) => put(d),
-        Ask::ReadCell(_, _, d) => put(d),
+        Ask::Read(_, d) => pushes(d),
+        Ask::ReadCell(_, _, d) => pushes(d),
         Ask::Write(_, _) => 0,
         Ask::WriteCell(_, _, _) => 0,
         Ask::Lock(_) => 0,
@@ -111,7 +111,7 @@ fn ask_puts_on(step: Ask) -> usize
         Ask::Up(_) => 0,
         Ask::Join(_) => 0,
         Ask::Print(_) => 0,
-        Ask::Spawn(_, _, d) => put(d),
+        Ask::Spawn(_, _, d) => pushes(d),
     }
 }
 

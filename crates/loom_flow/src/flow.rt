@@ -26,10 +26,10 @@ pub struct Flow {
 
 impl Model for Flow {
     ghost use Rattle.std.specs.Arc.{arc_value};
-    ghost use Rattle.loom_flow.specs.Flat.{Flat};
+    ghost use Rattle.loom_flow.specs.Flow.{Flow};
     ghost use Rattle.loom_flow.specs.Code.{flat_code, IsLowered};
 
-    ghost Value = { Flat };
+    ghost Value = { Flow };
 
     ghost coded = { flat_code };
 
@@ -124,7 +124,7 @@ impl Flow {
         self.sites[place as usize].line
     }
 
-    /// The functions that the body of a function calls: bit `n` is set exactly where a call of the function of number `n` stands in it. A
+    /// The functions that a function calls itself, as bits: bit `n` is 1 where its body has a call of the function of number `n`, else 0. A
     /// `spawn` is no call.
     #[tactic(auto, using(crate::proofs::FlowLaws::as_many_calls, crate::proofs::FlowLaws::calls_kept))]
     pub fn calls_of(&self, func: u8) -> u64

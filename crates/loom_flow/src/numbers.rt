@@ -4,7 +4,7 @@ ghost use Rattle.std.specs.Cmp.Lexicographic.{pointwise};
 ghost use Rattle.loom_tree.specs.declared.item.Sema as sema;
 ghost use Rattle.loom_tree.specs.Tree.{Function, functions_of};
 ghost use Rattle.loom_lang.specs.Limits.{function_limit, local_limit, name_limit, cell_limit};
-ghost use Rattle.loom_lang.specs.Numbers.{position, cells_from, mutex_number, sema_number, function_number};
+ghost use Rattle.loom_lang.specs.Numbers.{index_of, cells_from, mutex_number, sema_number, function_number};
 ghost use Rattle.loom_lang.specs.Rules.{cells_of, cell_count};
 ghost use Rattle.loom_flow.specs.FlatCode.{array_of, array_named, word_named, or_zero};
 
@@ -21,9 +21,9 @@ fn is_same(x: &Name, y: &Name) -> bool
 }
 
 #[tactic(auto, using(crate::proofs::Lookups::from_zero))]
-fn position(names: &[Name], x: &Name) -> Option<u8>
+fn index_of(names: &[Name], x: &Name) -> Option<u8>
     requires { length names.now ≤ name_limit }
-    ensures { result ≡ position x.now names.now }
+    ensures { result ≡ index_of x.now names.now }
 {
     'scan: for (i, y) in names.iter().enumerate() {
         if is_same(y, x) {
@@ -34,9 +34,9 @@ fn position(names: &[Name], x: &Name) -> Option<u8>
 }
 
 #[tactic(auto, using(crate::proofs::Lookups::from_zero))]
-fn sema_position(semas: &[Sema], x: &Name) -> Option<u8>
+fn sema_index(semas: &[Sema], x: &Name) -> Option<u8>
     requires { length semas.now ≤ name_limit }
-    ensures { result ≡ position x.now (map (λ (s : sema.Sema). s.name) semas.now) }
+    ensures { result ≡ index_of x.now (map (λ (s : sema.Sema). s.name) semas.now) }
 {
     'scan: for (i, s) in semas.iter().enumerate() {
         if is_same(&s.name, x) {
@@ -47,9 +47,9 @@ fn sema_position(semas: &[Sema], x: &Name) -> Option<u8>
 }
 
 #[tactic(auto, using(crate::proofs::Lookups::from_zero))]
-fn func_position(funcs: &[Func], x: &Name) -> Option<u8>
+fn func_index(funcs: &[Func], x: &Name) -> Option<u8>
     requires { length funcs.now ≤ function_limit }
-    ensures number { result ≡ position x.now (map (λ (f : Function). f.name) (functions_of funcs.now)) }
+    ensures number { result ≡ index_of x.now (map (λ (f : Function). f.name) (functions_of funcs.now)) }
     ensures within { IfSome result (λ n. n < function_limit) }
 {
     'scan: for (i, f) in funcs.iter().enumerate() {
@@ -111,9 +111,9 @@ pub struct Scope {
 impl Scope {
     /// The number of a local; `None` where the name is none.
     pub fn local(&self, x: &Name) -> Option<u8>
-        ensures { result ≡ position x.now self.now.locals }
+        ensures { result ≡ index_of x.now self.now.locals }
     {
-        position(&self.locals.0, x)
+        index_of(&self.locals.0, x)
     }
 
     /// The cells of an array.
@@ -136,7 +136,7 @@ impl Scope {
     pub fn mutex(&self, x: &Name) -> u8
         ensures { result ≡ or_zero (mutex_number self.now.program x.now) }
     {
-        position(&self.program.mutexes().0, x).unwrap_or(0)
+        index_of(&self.program.mutexes().0, x).unwrap_or(0)
     }
 
     /// The number of a semaphore.
@@ -144,7 +144,7 @@ impl Scope {
     pub fn sema(&self, x: &Name) -> u8
         ensures { result ≡ or_zero (sema_number self.now.program x.now) }
     {
-        sema_position(&self.program.semas().0, x).unwrap_or(0)
+        sema_index(&self.program.semas().0, x).unwrap_or(0)
     }
 
     /// The number of a function.
@@ -152,7 +152,7 @@ impl Scope {
         ensures number { result ≡ or_zero (function_number self.now.program x.now) }
         ensures below { result < function_limit }
     {
-        match func_position(&self.program.funcs().0, x) {
+        match func_index(&self.program.funcs().0, x) {
             Some(n) => n,
             None => 0,
         }

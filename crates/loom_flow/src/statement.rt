@@ -2,7 +2,7 @@
 ghost use Rattle.std.specs.Prelude.{ℕ, ◌≡◌, ◌<◌, ◌+◌, ◌∷◌, ◌++◌, [], Some, true, OnOk, IfOk, length};
 ghost use Rattle.loom_tree.specs.Tree.{Simple, expression_of, expressions_of, right_of, returned_of};
 ghost use Rattle.loom_tree.specs.Tree as tree;
-ghost use Rattle.loom_lang.specs.Numbers.{position};
+ghost use Rattle.loom_lang.specs.Numbers.{index_of};
 ghost use Rattle.loom_lang.specs.Rules.{takes};
 ghost use Rattle.loom_flow.specs.Arguments.{takes_right};
 ghost use Rattle.loom_flow.specs.declared.code.Step.TheVariants as s;
@@ -101,7 +101,7 @@ fn spawn(
 
 /// What is on top goes into a name.
 fn store(code: &mut Vec<Instr>, scope: &Scope, spot: Spot, x: &Name) -> Result<(), NoMemory>
-    ensures { OnOk result (code.new.items ≡ code.old.items ++ instr spot.line spot.place (store_step scope.now.program x.now (position x.now scope.now.locals)) ∷ []) }
+    ensures { OnOk result (code.new.items ≡ code.old.items ++ instr spot.line spot.place (store_step scope.now.program x.now (index_of x.now scope.now.locals)) ∷ []) }
 {
     match scope.local(x) {
         Some(local) => push(
@@ -126,7 +126,7 @@ fn value(
     x: &Name,
     e: &Expr,
 ) -> Result<(), NoMemory>
-    ensures { OnOk result (code.new.items ≡ code.old.items ++ instrs spot.line spot.place (value_steps scope.now.program scope.now.locals x.now (expression_of e.now) (position x.now scope.now.locals))) }
+    ensures { OnOk result (code.new.items ≡ code.old.items ++ instrs spot.line spot.place (value_steps scope.now.program scope.now.locals x.now (expression_of e.now) (index_of x.now scope.now.locals))) }
 {
     match scope.local(x) {
         Some(local) => expression(code, scope, spot, Target::Local(local), e),

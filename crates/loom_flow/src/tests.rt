@@ -3,7 +3,7 @@
 use crate::code::{Compute, Control, Entrance, Instr, Operand, Site, Step, Target};
 use crate::flow::Flow;
 use crate::lower::lower;
-use loom_lang::limits::SOURCE_LIMIT;
+use loom_lang::limits::FILE_LIMIT;
 use loom_lang::parse::{LangError, parse_program};
 use loom_tree::expression::Op;
 use std::alloc::Global;
@@ -21,7 +21,7 @@ const PRODUCT: &str = "shared x;\nfn main() {\nprint (x + 1) * (x + 2);\n}\n";
 
 fn flow_of(alloc: Global, text: &str) -> Result<Flow, LangError> {
     let bytes = text.as_bytes();
-    if bytes.len() > SOURCE_LIMIT {
+    if bytes.len() > FILE_LIMIT {
         return Err(LangError::Refused);
     }
     Ok(lower(alloc, &parse_program(alloc, bytes)?)?)

@@ -12,7 +12,7 @@ use Rattle.loom_gate.specs.declared.view.View.{View}
 use Rattle.loom_gate.specs.declared.view.View.TheVariants.{Pass}
 use Rattle.loom_gate.specs.View.{place_of, tried, checked, with_row, thread_of, pass_of}
 use Rattle.loom_gate.specs.Record.{has_version}
-use Rattle.loom_gate.specs.Machine.{StageFits, RowsFit, Amid}
+use Rattle.loom_gate.specs.GateMachine.{StageFits, RowsFit, Amid}
 use Rattle.loom_gate.specs.Tells.{passed}
 use Rattle.loom_gate.proofs.Rows.{all_map, version_none}
 

@@ -9,7 +9,7 @@ use Rattle.loom_gate.specs.declared.log.PassRow.{PassRow}
 use Rattle.loom_gate.specs.declared.log.SwitchRow.{SwitchRow}
 use Rattle.loom_gate.specs.declared.view.PassView.{PassView}
 use Rattle.loom_gate.specs.View.{place_of, pass_of, entered}
-use Rattle.loom_gate.specs.Machine.{Machine, StageFits, RowsFit, SwitchFits}
+use Rattle.loom_gate.specs.GateMachine.{GateMachine, StageFits, RowsFit, SwitchFits}
 use Rattle.loom_gate.specs.Laws.{InsideHasVersion, FoundIsAt, RaisedKeepsOut, SwitchMeetsNobody, IsAt, GateStep, AreSteps, StaysOut, ToldIsStep, IsBeforeEntering, WaitsWhereFound}
 use Rattle.loom_gate.specs.Laws.PassStep.{try, check, back, read, poll, leave}
 use Rattle.loom_gate.specs.Laws.GateStep.{pass, flag, look, switch}
@@ -44,7 +44,7 @@ raised_keeps_out up version t place p q on at (poll v i word e d) = absurd (clea
 raised_keeps_out up version t place p q on at (leave v x e d) = absurd (clear_not_found p.stage v place (inl e) at)
 
 -- it is at the place behind any step that begins where the place is up
-still : (n t place : ℕ) (m a : Machine) → IsAt place (m.passes t) → has_place m.key.up place ≡ true → GateStep n m a → IsAt place (a.passes t)
+still : (n t place : ℕ) (m a : GateMachine) → IsAt place (m.passes t) → has_place m.key.up place ≡ true → GateStep n m a → IsAt place (a.passes t)
 still n t place m a at on (pass s step others key) = dite (ℕ_discrete t s)
     (λ e. subst (λ (x : ℕ). IsAt place (a.passes x)) (sym e) (raised_keeps_out m.key.up m.key.version s place (m.passes s) (a.passes s) on (subst (λ (x : ℕ). IsAt place (m.passes x)) e at) step))
     (λ other. subst (λ (p : PassView). IsAt place p) (sym (others t other)) at)
@@ -56,12 +56,12 @@ all_cons : {A : Type 0} (P : A → Type 0) (x : A) (xs : List A) → P x → All
 all_cons P x xs p h zero d l = p
 all_cons P x xs p h (suc k) d l = h k d (omega arith)
 
-stays : (n t place : ℕ) (m : Machine) (later : List Machine) → IsAt place (m.passes t) → has_place m.key.up place ≡ true → AreSteps n m later → All (λ (a : Machine). has_place a.key.up place ≡ true) later
-    → All (λ (a : Machine). IsAt place (a.passes t)) later
+stays : (n t place : ℕ) (m : GateMachine) (later : List GateMachine) → IsAt place (m.passes t) → has_place m.key.up place ≡ true → AreSteps n m later → All (λ (a : GateMachine). has_place a.key.up place ≡ true) later
+    → All (λ (a : GateMachine). IsAt place (a.passes t)) later
 stays n t place m [] at on steps ups = λ k d l. absurd (omega arith)
 stays n t place m (a ∷ more) at on steps ups =
     let here = still n t place m a at on steps.0 in
-    all_cons (λ (x : Machine). IsAt place (x.passes t)) a more here (stays n t place a more here (ups 0 a (omega arith)) steps.1 (λ k d l. ups (suc k) d (omega arith)))
+    all_cons (λ (x : GateMachine). IsAt place (x.passes t)) a more here (stays n t place a more here (ups 0 a (omega arith)) steps.1 (λ k d l. ups (suc k) d (omega arith)))
 
 pub stays_out : StaysOut
 stays_out n t place m later l is at on steps ups = stays n t place m later (found_there n m t place is at on l) on steps ups

@@ -9,7 +9,7 @@ use Rattle.loom_gate.specs.declared.view.PassView.{PassView}
 use Rattle.atomic_table.specs.Seated.{TableId}
 use Rattle.loom_gate.specs.View.{start, place_of}
 use Rattle.loom_gate.specs.Record.{is_from, place_from, IsBefore, AreInOrder}
-use Rattle.loom_gate.specs.Machine.{IsThread, Machine, Lawful, SwitchFits}
+use Rattle.loom_gate.specs.GateMachine.{IsThread, GateMachine, Lawful, SwitchFits}
 use Rattle.loom_gate.specs.Seats.{view_of_pass, IsStanding, ArePassesFrom, rows_of, ends_of}
 use Rattle.loom_gate.proofs.Rows.{all_map, all_append, order_append}
 
@@ -52,7 +52,7 @@ own_rows s t v end (p ∷ ps) d low high h = dite (ℕ_discrete s t)
     ∙ (own_rows (s + 1) t v end ps d (omega arith) (omega arith) h.1
     ∙ ap (λ (i : ℕ). place_from t v end (get_or (p ∷ ps) i d).rows.items) (sym next))))
 
-module _ (id : TableId) (n places : ℕ) (m : Machine) (l : Lawful n m) where
+module _ (id : TableId) (n places : ℕ) (m : GateMachine) (l : Lawful n m) where
   rows_from : (s : ℕ) (ps : List pass.Pass) → ArePassesFrom id n places s ps → ((i : ℕ) → i < length ps → m.passes (s + i) ≡ get_or (map view_of_pass ps) i start) → RowsFrom s ps
   unfolding RowsFrom
   rows_from s [] are is = tt

@@ -14,7 +14,7 @@ use Rattle.loom_gate.specs.declared.view.KeyView.{KeyView}
 use Rattle.loom_gate.specs.declared.view.View.{View}
 use Rattle.loom_gate.specs.declared.view.View.TheVariants.{Pass, Key, Nobody}
 use Rattle.loom_gate.specs.View.{mark, stand_word, flag_words, look_of, place_of, start, more, joined, tried, checked, polled, with_row, entered, left, flagged, looked, switch_rows, switched, pass_of, key_of}
-use Rattle.loom_gate.specs.Machine.{IsThread, Machine, Lawful, AllStood}
+use Rattle.loom_gate.specs.GateMachine.{IsThread, GateMachine, Lawful, AllStood}
 use Rattle.loom_gate.specs.Rule.{GateHolds}
 use Rattle.loom_gate.specs.Tells as tells
 use Rattle.loom_gate.specs.Tells.{passed, keyed}
@@ -242,7 +242,7 @@ module _ {S : Type 0} (n places : ℕ) where
 
   -- the table at the end: a lawful machine with what the key and the passes that were joined knew
   pub closes : (id : ℕ) (v : View) (l : KeyView) (ws : List ℕ) (xs : List S) → v ≡ Key l → Final (Seen Rule id v) ws xs
-      → (m : Machine) × Lawful n m × (m.key ≡ l) × ((t : ℕ) → t < length l.finals → m.passes (t + 1) ≡ get_or l.finals t start)
+      → (m : GateMachine) × Lawful n m × (m.key ≡ l) × ((t : ℕ) → t < length l.finals → m.passes (t + 1) ≡ get_or l.finals t start)
   closes id v l ws xs e done =
       let k = done.1.0 in
       let mine = k.seats id (Key l) (done.1.1 ∙ ap some e) in

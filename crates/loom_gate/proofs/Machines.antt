@@ -12,7 +12,7 @@ use Rattle.loom_gate.specs.declared.view.Look.{Look}
 use Rattle.loom_gate.specs.declared.view.Look.TheVariants.{Unknown, SawInside, SawPlace}
 use Rattle.loom_gate.specs.View.{mark, stand_word, look_of, place_of, place_seen, with_row, switch_rows}
 use Rattle.loom_gate.specs.Record.{place_from, IsBefore}
-use Rattle.loom_gate.specs.Machine.{IsThread, Machine, StageFits, LookFits, LatestFits, RowsFit, SwitchFits, Lawful, WasRaised, AllStood}
+use Rattle.loom_gate.specs.GateMachine.{IsThread, GateMachine, StageFits, LookFits, LatestFits, RowsFit, SwitchFits, Lawful, WasRaised, AllStood}
 use Rattle.loom_gate.proofs.Rows.{all_snoc, all_append, all_map, length_snoc, from_snoc, from_none, from_some, is_here, version_last, order_snoc}
 
 abbrev pub upd : (ℕ → PassView) → ℕ → PassView → ℕ → PassView
@@ -78,7 +78,7 @@ abbrev pub Tells : ℕ → ℕ → PassView → PassView → Type 0
 Tells t version p q = (w : ℕ) → w ≤ version → place_from t w (place_of q.stage) q.rows ≡ place_from t w (place_of p.stage) p.rows
 
 -- one pass says q, where it said p
-pub pass_lawful : (n : ℕ) (m : Machine) (t : ℕ) (q : PassView) → Lawful n m → StageFits m.key.places m.key.version q.tries q.fresh q.stage → LookFits m.key.up (get_or m.key.looks t Unknown) q → LatestFits n m.key.ever q.latest
+pub pass_lawful : (n : ℕ) (m : GateMachine) (t : ℕ) (q : PassView) → Lawful n m → StageFits m.key.places m.key.version q.tries q.fresh q.stage → LookFits m.key.up (get_or m.key.looks t Unknown) q → LatestFits n m.key.ever q.latest
     → RowsFit t m.key.version q → Tells t m.key.version (m.passes t) q
     → Lawful n record { passes = upd m.passes t q; key = m.key }
 pass_lawful n m t q l a b c r same = record {
@@ -105,7 +105,7 @@ pass_lawful n m t q l a b c r same = record {
 }
 
 -- kind 1
-pub tries_lawful : (n : ℕ) (m : Machine) (t place : ℕ) → IsThread n t → (m.passes t).stage ≡ Stands place → Lawful n m
+pub tries_lawful : (n : ℕ) (m : GateMachine) (t place : ℕ) → IsThread n t → (m.passes t).stage ≡ Stands place → Lawful n m
     → Lawful n record { passes = upd m.passes t (record (m.passes t) { stage = Tries place; tries = (m.passes t).tries + 1 }); key = m.key }
 tries_lawful n m t place is at l =
     let p : PassView = m.passes t in
@@ -120,7 +120,7 @@ tries_lawful n m t place is at l =
     (λ w low. ap (λ (s : Stage). place_from t w (place_of s) p.rows) (sym at))
 
 -- kind 2, flagged
-pub flagged_lawful : (n : ℕ) (m : Machine) (t place : ℕ) → IsThread n t → (m.passes t).stage ≡ Tries place → (i word : ℕ) → ((q : ℕ) → (n + 1) + q / 64 ≡ i → has_bit word q ≡ true → WasRaised m.key.ever q) → Lawful n m
+pub flagged_lawful : (n : ℕ) (m : GateMachine) (t place : ℕ) → IsThread n t → (m.passes t).stage ≡ Tries place → (i word : ℕ) → ((q : ℕ) → (n + 1) + q / 64 ≡ i → has_bit word q ≡ true → WasRaised m.key.ever q) → Lawful n m
     → Lawful n record { passes = upd m.passes t (record (m.passes t) { stage = Tries place; checks = (m.passes t).checks + 1; latest = Some (i, word) }); key = m.key }
 flagged_lawful n m t place is at i word on l =
     let p : PassView = m.passes t in
@@ -133,7 +133,7 @@ flagged_lawful n m t place is at i word on l =
     (λ w low. ap (λ (s : Stage). place_from t w (place_of s) p.rows) (sym at))
 
 -- kind 2, clear
-pub clear_lawful : (n : ℕ) (m : Machine) (t place : ℕ) → IsThread n t → (m.passes t).stage ≡ Tries place → (has_place m.key.up place ≡ true → ⊥) → (i word : ℕ) → ((q : ℕ) → (n + 1) + q / 64 ≡ i → has_bit word q ≡ true → WasRaised m.key.ever q) → Lawful n m
+pub clear_lawful : (n : ℕ) (m : GateMachine) (t place : ℕ) → IsThread n t → (m.passes t).stage ≡ Tries place → (has_place m.key.up place ≡ true → ⊥) → (i word : ℕ) → ((q : ℕ) → (n + 1) + q / 64 ≡ i → has_bit word q ≡ true → WasRaised m.key.ever q) → Lawful n m
     → Lawful n record { passes = upd m.passes t (record (m.passes t) { stage = Clear place; checks = (m.passes t).checks + 1; latest = Some (i, word) }); key = m.key }
 clear_lawful n m t place is at off i word on l =
     let p : PassView = m.passes t in
@@ -148,7 +148,7 @@ clear_lawful n m t place is at off i word on l =
     (λ w low. ap (λ (s : Stage). place_from t w (place_of s) p.rows) (sym at))
 
 -- kind 2, inside
-pub polls_lawful : (n : ℕ) (m : Machine) (t : ℕ) → IsThread n t → (i word : ℕ) → ((q : ℕ) → (n + 1) + q / 64 ≡ i → has_bit word q ≡ true → WasRaised m.key.ever q) → Lawful n m
+pub polls_lawful : (n : ℕ) (m : GateMachine) (t : ℕ) → IsThread n t → (i word : ℕ) → ((q : ℕ) → (n + 1) + q / 64 ≡ i → has_bit word q ≡ true → WasRaised m.key.ever q) → Lawful n m
     → Lawful n record { passes = upd m.passes t (record (m.passes t) { checks = (m.passes t).checks + 1; latest = Some (i, word) }); key = m.key }
 polls_lawful n m t is i word on l =
     let p : PassView = m.passes t in
@@ -198,7 +198,7 @@ rows_tell t v place p r w x low =
     ∙ ap (λ (b : Bool). place_from t w (if b then place else x) p.rows) (is_here t w row refl low)))
 
 -- kind 3
-pub reads_lawful : (n : ℕ) (m : Machine) (t place : ℕ) → IsThread n t → (m.passes t).stage ≡ Clear place → Lawful n m
+pub reads_lawful : (n : ℕ) (m : GateMachine) (t place : ℕ) → IsThread n t → (m.passes t).stage ≡ Clear place → Lawful n m
     → Lawful n record { passes = upd m.passes t (record (m.passes t) { stage = Inside m.key.version; fresh = m.key.version + 1; rows = with_row (m.passes t).fresh t m.key.version place (m.passes t).rows }); key = m.key }
 reads_lawful n m t place is at l =
     let p : PassView = m.passes t in
@@ -211,7 +211,7 @@ reads_lawful n m t place is at l =
     (λ w low. rows_tell t m.key.version place p (l.rows t is) w 0 low ∙ ap (λ (s : Stage). place_from t w (place_of s) p.rows) (sym at))
 
 -- kind 4: from the place that was tried, or from inside
-pub leaves_lawful : (n : ℕ) (m : Machine) (t place : ℕ) → IsThread n t → place < m.key.places → ((m.passes t).stage ≡ Tries place) ⊎ ((v : ℕ) × ((m.passes t).stage ≡ Inside v)) → Lawful n m
+pub leaves_lawful : (n : ℕ) (m : GateMachine) (t place : ℕ) → IsThread n t → place < m.key.places → ((m.passes t).stage ≡ Tries place) ⊎ ((v : ℕ) × ((m.passes t).stage ≡ Inside v)) → Lawful n m
     → Lawful n record { passes = upd m.passes t (record (m.passes t) { stage = Stands place }); key = m.key }
 leaves_lawful n m t place is low from l =
     let p : PassView = m.passes t in
@@ -244,7 +244,7 @@ latest_more n xs ys more None h = tt
 latest_more n xs ys more (Some l) h = λ place i e. more place (h place i e)
 
 -- kinds 5 and 8: a word of flags is stored, and the looks are forgotten
-pub flags_lawful : (n : ℕ) (m : Machine) (up : List ℕ) (ever : List (ℕ × ℕ)) → ((p : ℕ) → has_place up p ≡ true → WasRaised ever p) → ((p : ℕ) → WasRaised m.key.ever p → WasRaised ever p) → Lawful n m
+pub flags_lawful : (n : ℕ) (m : GateMachine) (up : List ℕ) (ever : List (ℕ × ℕ)) → ((p : ℕ) → has_place up p ≡ true → WasRaised ever p) → ((p : ℕ) → WasRaised m.key.ever p → WasRaised ever p) → Lawful n m
     → Lawful n record { passes = m.passes; key = record m.key { up = up; ever = ever; looks = replicate (length m.key.looks) Unknown } }
 flags_lawful n m up ever on more l = record {
   stages = l.stages;
@@ -268,7 +268,7 @@ look_fits up places version small p (Clear q) e h = h.1
 look_fits up places version small p (Inside q) e h = h.1
 
 -- kind 6
-pub looks_lawful : (n : ℕ) (m : Machine) (t : ℕ) → IsThread n t → Lawful n m
+pub looks_lawful : (n : ℕ) (m : GateMachine) (t : ℕ) → IsThread n t → Lawful n m
     → Lawful n record { passes = m.passes; key = record m.key { looks = set m.key.looks t (look_of (stand_word (m.passes t).stage)); count = m.key.count + 1 } }
 looks_lawful n m t is l =
     let new : Look = look_of (stand_word (m.passes t).stage) in
@@ -297,18 +297,18 @@ outside places version tries fresh (Clear p) place e h = h
 outside places version tries fresh (Inside v) place e h = absurd (clear_not_found (Inside v) v place (inl refl) e)
 
 -- a pass found at a raised place stands there, or tries from there
-pub found_there : (n : ℕ) (m : Machine) (t place : ℕ) → IsThread n t → get_or m.key.looks t Unknown ≡ SawPlace place → has_place m.key.up place ≡ true → Lawful n m → ((m.passes t).stage ≡ Stands place) ⊎ ((m.passes t).stage ≡ Tries place)
+pub found_there : (n : ℕ) (m : GateMachine) (t place : ℕ) → IsThread n t → get_or m.key.looks t Unknown ≡ SawPlace place → has_place m.key.up place ≡ true → Lawful n m → ((m.passes t).stage ≡ Stands place) ⊎ ((m.passes t).stage ≡ Tries place)
 found_there n m t place is at on l = let f : LookFits m.key.up (SawPlace place) (m.passes t) = subst (λ (x : Look). LookFits m.key.up x (m.passes t)) at (l.looks t is) in f on
 
 -- where that holds of each, nobody is inside
-pub nobody_inside : (n : ℕ) (m : Machine) → AllStood n m.key → Lawful n m → (t : ℕ) → IsThread n t → (place : ℕ) × (((m.passes t).stage ≡ Stands place) ⊎ ((m.passes t).stage ≡ Tries place))
+pub nobody_inside : (n : ℕ) (m : GateMachine) → AllStood n m.key → Lawful n m → (t : ℕ) → IsThread n t → (place : ℕ) × (((m.passes t).stage ≡ Stands place) ⊎ ((m.passes t).stage ≡ Tries place))
 nobody_inside n m all l t is = let a = all t is in (a.0, found_there n m t a.0 is a.1 a.2 l)
 
 later_rows : (t version : ℕ) (p : PassView) → RowsFit t version p → RowsFit t (version + 1) p
 later_rows t version p r = let f = r.fresh in record { count = r.count; fresh = omega arith; below = r.below; newest = r.newest; order = r.order }
 
 -- the rows of a switch tell where each pass stands, or from where it tries
-new_rows : (n : ℕ) (m : Machine) (k : ℕ) → k ≤ n → AllStood n m.key → Lawful n m → (m' : Machine) → m'.passes ≡ m.passes → m'.key.version ≡ m.key.version + 1
+new_rows : (n : ℕ) (m : GateMachine) (k : ℕ) → k ≤ n → AllStood n m.key → Lawful n m → (m' : GateMachine) → m'.passes ≡ m.passes → m'.key.version ≡ m.key.version + 1
     → All (SwitchFits n m') (switch_rows (m.key.version + 1) m.key.looks k)
 new_rows n m zero low all l m' ps v = λ k d h. absurd (omega arith)
 new_rows n m (suc t) low all l m' ps v =
@@ -331,11 +331,11 @@ new_rows n m (suc t) low all l m' ps v =
     )
 
 -- kind 7
-pub switches_lawful : (n : ℕ) (m : Machine) → AllStood n m.key → m.key.version < 128 → Lawful n m
+pub switches_lawful : (n : ℕ) (m : GateMachine) → AllStood n m.key → m.key.version < 128 → Lawful n m
     → Lawful n record { passes = m.passes; key = record m.key { version = m.key.version + 1; switches = m.key.switches ++ switch_rows (m.key.version + 1) m.key.looks m.key.threads } }
 switches_lawful n m all low l =
     let threads = l.threads in
-    let m' : Machine = record { passes = m.passes; key = record m.key { version = m.key.version + 1; switches = m.key.switches ++ switch_rows (m.key.version + 1) m.key.looks m.key.threads } } in
+    let m' : GateMachine = record { passes = m.passes; key = record m.key { version = m.key.version + 1; switches = m.key.switches ++ switch_rows (m.key.version + 1) m.key.looks m.key.threads } } in
     record {
       stages = λ t is. let a = nobody_inside n m all l t is in outside m.key.places m.key.version (m.passes t).tries (m.passes t).fresh (m.passes t).stage a.0 a.1 (l.stages t is);
       looks = l.looks;

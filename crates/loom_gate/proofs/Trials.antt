@@ -9,7 +9,7 @@ use Rattle.loom_gate.specs.declared.pass.Pass as pass
 use Rattle.loom_gate.specs.declared.view.Look.{Look}
 use Rattle.loom_gate.specs.declared.view.Look.TheVariants.{Unknown, SawPlace}
 use Rattle.loom_gate.specs.declared.view.KeyView.{KeyView}
-use Rattle.loom_gate.specs.Machine.{AllStood}
+use Rattle.loom_gate.specs.GateMachine.{AllStood}
 use Rattle.loom_gate.specs.Seats.{IsPassAt, ArePassesFrom, IsStanding}
 use Rattle.loom_gate.proofs.Rows.{length_snoc}
 

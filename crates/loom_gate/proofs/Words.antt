@@ -15,7 +15,7 @@ use Rattle.loom_gate.specs.declared.view.KeyView.{KeyView}
 use Rattle.loom_gate.specs.declared.view.View.{View}
 use Rattle.loom_gate.specs.declared.view.View.TheVariants.{Pass, Key, Nobody}
 use Rattle.loom_gate.specs.View.{mark, stand_word, flag_words, start, first_key, more, joined}
-use Rattle.loom_gate.specs.Machine.{Machine, Lawful, LookFits, WasRaised}
+use Rattle.loom_gate.specs.GateMachine.{GateMachine, Lawful, LookFits, WasRaised}
 use Rattle.loom_gate.specs.Rule.{SeatFits, GateHolds}
 use Rattle.loom_gate.proofs.Machines.{upd, upd_same, upd_other}
 
@@ -24,13 +24,13 @@ all_set {A} F vs i w mine others j u e = ⊎_elim (λ (x : (j ≡ i) × (w ≡ u
     (λ (x : (j ≢ i) × (get_elem? vs j ≡ some u)). others j u x.0 x.1) (at_set vs i j w u e)
 
 -- the other seats, where a pass says something new
-seat_by_pass : (n : ℕ) (m : Machine) (owner : ℕ → ℕ) (holder t : ℕ) (q : PassView) (j : ℕ) (u : View) → j ≢ owner t → SeatFits n m owner holder j u → SeatFits n record { passes = upd m.passes t q; key = m.key } owner holder j u
+seat_by_pass : (n : ℕ) (m : GateMachine) (owner : ℕ → ℕ) (holder t : ℕ) (q : PassView) (j : ℕ) (u : View) → j ≢ owner t → SeatFits n m owner holder j u → SeatFits n record { passes = upd m.passes t q; key = m.key } owner holder j u
 seat_by_pass n m owner holder t q j (Pass s p) other h = (h.0, h.1, h.2 ∙ sym (upd_other m.passes t s q (λ e. other (sym h.1 ∙ ap owner e))), h.3, h.4)
 seat_by_pass n m owner holder t q j (Key k) other h = h
 seat_by_pass n m owner holder t q j Nobody other h = tt
 
 -- the others, where the key does
-seat_by_key : (n : ℕ) (m : Machine) (owner : ℕ → ℕ) (holder : ℕ) (k : KeyView) (j : ℕ) (u : View) → m.key.born ≤ k.born → k.finals ≡ m.key.finals → j ≢ holder → SeatFits n m owner holder j u → SeatFits n record { passes = m.passes; key = k } owner holder j u
+seat_by_key : (n : ℕ) (m : GateMachine) (owner : ℕ → ℕ) (holder : ℕ) (k : KeyView) (j : ℕ) (u : View) → m.key.born ≤ k.born → k.finals ≡ m.key.finals → j ≢ holder → SeatFits n m owner holder j u → SeatFits n record { passes = m.passes; key = k } owner holder j u
 seat_by_key n m owner holder k j (Pass s p) more same other h = let a = h.3 in let b = h.4 in (h.0, h.1, h.2, omega arith, subst (λ (xs : List PassView). length xs < s) (sym same) b)
 seat_by_key n m owner holder k j (Key l) more same other h = absurd (other (sym h.0))
 seat_by_key n m owner holder k j Nobody more same other h = tt
@@ -66,7 +66,7 @@ is_not t (Pass s p) = s ≢ t
 is_not t (Key k) = Unit {0}
 is_not t Nobody = Unit {0}
 
-owned : (n : ℕ) (m : Machine) (owner : ℕ → ℕ) (t to holder j : ℕ) (u : View) → is_not t u → SeatFits n m owner holder j u → SeatFits n m (λ x. if x == t then to else owner x) holder j u
+owned : (n : ℕ) (m : GateMachine) (owner : ℕ → ℕ) (t to holder j : ℕ) (u : View) → is_not t u → SeatFits n m owner holder j u → SeatFits n m (λ x. if x == t then to else owner x) holder j u
 unfolding is_not
 owned n m owner t to holder j (Pass s p) other h = (h.0, ap (λ (b : Bool). if b then to else owner s) (ne_eqb s t other) ∙ h.1, h.2, h.3, h.4)
 owned n m owner t to holder j (Key k) other h = h
@@ -76,7 +76,7 @@ no_key : (t : ℕ) (k : KeyView) → is_not t (Key k)
 unfolding is_not
 no_key t k = tt
 
-early : (n : ℕ) (m : Machine) (owner : ℕ → ℕ) (holder b j : ℕ) (u : View) → m.key.born ≤ b → SeatFits n m owner holder j u → is_not (b + 1) u
+early : (n : ℕ) (m : GateMachine) (owner : ℕ → ℕ) (holder b j : ℕ) (u : View) → m.key.born ≤ b → SeatFits n m owner holder j u → is_not (b + 1) u
 unfolding is_not
 early n m owner holder b j (Pass s p) low h = let a = h.3 in λ e. omega arith
 early n m owner holder b j (Key k) low h = tt
@@ -90,7 +90,7 @@ above : (s t : ℕ) → t < s + 1 → (s ≡ t) ⊎ (t < s)
 above s t low = dite (ℕ_discrete s t) (λ e. inl e) (λ ne. inr (omega arith))
 
 -- the others, where the pass of the next thread is joined
-seat_by_join : (n : ℕ) (m : Machine) (owner : ℕ → ℕ) (holder t : ℕ) (p : PassView) (j : ℕ) (u : View) → length m.key.finals + 1 ≡ t → j ≢ owner t → j ≢ holder → SeatFits n m owner holder j u → SeatFits n record { passes = m.passes; key = joined m.key p } owner holder j u
+seat_by_join : (n : ℕ) (m : GateMachine) (owner : ℕ → ℕ) (holder t : ℕ) (p : PassView) (j : ℕ) (u : View) → length m.key.finals + 1 ≡ t → j ≢ owner t → j ≢ holder → SeatFits n m owner holder j u → SeatFits n record { passes = m.passes; key = joined m.key p } owner holder j u
 seat_by_join n m owner holder t p j (Pass s q) next other key h =
     let b = h.4 in
     let ne : s ≢ t = λ e. other (sym h.1 ∙ ap owner e) in
@@ -195,7 +195,7 @@ module _ (n places : ℕ) where
       let mine = k.seats id (Key l) at in
       let old : KeyView = k.machine.key in
       let same : l.born ≡ old.born = ap (λ (y : KeyView). y.born) mine.1 in
-      let new : Machine = record { passes = k.machine.passes; key = more old } in
+      let new : GateMachine = record { passes = k.machine.passes; key = more old } in
       let us : List View = set vs id (Key (more l)) in
       let owner : ℕ → ℕ = λ t. if t == l.born + 1 then length us else k.owner t in
       let law = k.lawful in
@@ -232,7 +232,7 @@ module _ (n places : ℕ) where
       let pass = k.seats other (Pass t p) there in
       let old : KeyView = k.machine.key in
       let same : length l.finals ≡ length old.finals = ap (λ (y : KeyView). length y.finals) mine.1 in
-      let new : Machine = record { passes = k.machine.passes; key = joined old p } in
+      let new : GateMachine = record { passes = k.machine.passes; key = joined old p } in
       let law = k.lawful in
       let many : length old.finals + 1 ≡ t = omega arith in
       let here : SeatFits n new k.owner k.holder id (Key (joined l p)) = (mine.0, ap (λ (y : KeyView). joined y p) mine.1) in
@@ -262,7 +262,7 @@ module _ (n places : ℕ) where
   pub begins : (ws : List ℕ) → (0 < places) × (places ≤ mark) → ws ≡ replicate ((n + 1) + flag_words places) 0 → GateHolds n places ws (Key (first_key n places) ∷ [])
   begins ws size e =
       let some = size.0 in
-      let m : Machine = record { passes = λ _. start; key = first_key n places } in
+      let m : GateMachine = record { passes = λ _. start; key = first_key n places } in
       let zero_at : (i : ℕ) → get_or ws i 0 ≡ 0 = λ i. ap (λ (xs : List ℕ). get_or xs i 0) e ∙ zeros ((n + 1) + flag_words places) i in
       let len : length ws ≡ (n + 1) + flag_words places = ap (λ (xs : List ℕ). length xs) e ∙ length-replicate ((n + 1) + flag_words places) 0 in
       record {

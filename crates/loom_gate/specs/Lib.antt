@@ -1,6 +1,6 @@
 pub mod View
 pub mod Record
-pub mod Machine
+pub mod GateMachine
 pub mod Rule
 pub mod Tells
 pub mod Seats

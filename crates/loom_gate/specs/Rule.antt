@@ -6,9 +6,9 @@ use lib.ListN.{get_elem?}
 use Rattle.loom_gate.specs.declared.view.View.{View}
 use Rattle.loom_gate.specs.declared.view.View.TheVariants.{Pass, Key, Nobody}
 use Rattle.loom_gate.specs.View.{start, stand_word, flag_words}
-use Rattle.loom_gate.specs.Machine.{IsThread, Machine, Lawful}
+use Rattle.loom_gate.specs.GateMachine.{IsThread, GateMachine, Lawful}
 
-module _ (n : ℕ) (m : Machine) (owner : ℕ → ℕ) (holder : ℕ) where
+module _ (n : ℕ) (m : GateMachine) (owner : ℕ → ℕ) (holder : ℕ) where
   -- the view of seat i is what the machine says
   abbrev pub SeatFits : ℕ → View → Type 0
   SeatFits i (Pass t p) = IsThread n t × (owner t ≡ i) × (p ≡ m.passes t) × (t ≤ m.key.born) × (length m.key.finals < t)
@@ -17,7 +17,7 @@ module _ (n : ℕ) (m : Machine) (owner : ℕ → ℕ) (holder : ℕ) where
 
 -- word 0 is the version, words 1 to n are the threads', and the words of flags follow
 pub record GateHolds (n places : ℕ) (words : List ℕ) (views : List View) : Type 0 where
-  pub machine : Machine
+  pub machine : GateMachine
   -- the seat of each thread's pass, and that of the key
   pub owner : ℕ → ℕ
   pub holder : ℕ

@@ -15,7 +15,7 @@ use Rattle.loom_gate.specs.declared.view.Look.TheVariants.{Unknown, SawInside, S
 use Rattle.loom_gate.specs.declared.view.KeyView.{KeyView}
 use Rattle.loom_gate.specs.declared.view.View.TheVariants.{Pass, Key}
 use Rattle.loom_gate.specs.View.{pass_of, key_of, flag_words}
-use Rattle.loom_gate.specs.Machine.{IsThread}
+use Rattle.loom_gate.specs.GateMachine.{IsThread}
 
 -- how many threads and places a gate has
 abbrev pub threads_of : gate.Gate → ℕ

@@ -7,7 +7,7 @@ use Rattle.loom_gate.specs.declared.view.KeyView.{KeyView}
 use Rattle.loom_gate.specs.declared.view.View.{View}
 use Rattle.loom_gate.specs.declared.view.View.TheVariants.{Pass, Key}
 use Rattle.loom_gate.specs.View.{mark, place_of, thread_of, pass_of, key_of, tried, checked, polled, entered, left, flagged, looked, switched}
-use Rattle.loom_gate.specs.Machine.{Amid, AmidKey, NobodyInside}
+use Rattle.loom_gate.specs.GateMachine.{Amid, AmidKey, NobodyInside}
 
 module _ {S : Type 0} where
   abbrev pub passed : Me S View → (PassView → PassView) → Me S View

@@ -3,7 +3,7 @@ ghost use Rattle.std.specs.Prelude.{◌≡◌, ℕ, ◌+◌, ◌<◌, ◌≤◌,
 ghost use Rattle.loom_trace.specs.Places.{has_place};
 ghost use Rattle.loom_gate.specs.declared.view.Look.TheVariants.{Unknown};
 ghost use Rattle.loom_gate.specs.View.{flag_words, switch_rows};
-ghost use Rattle.loom_gate.specs.Machine.{IsThread, AllStood, AmidKey, NobodyInside};
+ghost use Rattle.loom_gate.specs.GateMachine.{IsThread, AllStood, AmidKey, NobodyInside};
 ghost use Rattle.loom_gate.specs.Seats.{threads_of, places_of, view_of_key, version_of, switches_left, has_flags_up, rows_of_key, IsKeyOf};
 ghost use Rattle.loom_gate.specs.Calls.{IsPlaceBelow, look_told};
 

@@ -24,7 +24,7 @@ pub struct SwitchRows(pub Vec<SwitchRow>);
 #[derive(Debug, Drop)]
 pub struct PassRows(pub Vec<PassRow>);
 
-/// The place where each pass stands at the end, that of thread `t` at index `t - 1`.
+/// Where the passes stood when the gate was settled: of thread `t` the place at index `t - 1`.
 #[derive(Debug, Drop)]
 pub struct Ends(pub Vec<u16>);
 

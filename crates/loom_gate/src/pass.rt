@@ -1,7 +1,7 @@
 //! The pass of one thread.
 ghost use Rattle.std.specs.Prelude.{◌≡◌, ◌+◌, ◌<◌, ◌≤◌, ◌/◌, length, vec_capacity};
 ghost use Rattle.loom_gate.specs.View.{with_row};
-ghost use Rattle.loom_gate.specs.Machine.{Amid};
+ghost use Rattle.loom_gate.specs.GateMachine.{Amid};
 ghost use Rattle.loom_gate.specs.Seats.{threads_of, places_of, flag_index, view_of_pass, thread_of_pass, place_of_pass, rows_of_pass, IsPassOf, IsStanding, IsInside, IsInsideAt, FoundBit};
 ghost use Rattle.loom_gate.specs.Calls.{HasEntered, rows_after};
 

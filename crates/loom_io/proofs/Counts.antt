@@ -2,7 +2,7 @@
 use Rattle.std.proofs.Common.{ℕ, ◌+◌, ◌≤◌, ◌≡◌, List, ◌++◌, Option, Some, None, Result, Ok, Err, IfOk, IfErr, OnOk, OnErr, IsNone, take, length, min, refl, ap, arith}
 use Rattle.std.proofs.lemmas.List.{length-take}
 use Rattle.std.specs.Option.{option_map}
-use Rattle.loom_io.specs.Fault.{Rose}
+use Rattle.loom_io.specs.FaultCount.{Rose}
 use Rattle.loom_io.specs.Shelf.{Untold, Missing, state_of, IsRead, faults_after_read}
 use Rattle.loom_io.specs.Buffer.{Buffer}
 use Rattle.loom_io.specs.Sink.{Took, faults_after_put}

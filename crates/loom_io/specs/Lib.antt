@@ -1,4 +1,4 @@
-pub mod Fault
+pub mod FaultCount
 pub mod Files
 pub mod Shelf
 pub mod Buffer

@@ -1,6 +1,6 @@
 -- What a shelf tells of its files, and what it gives of them.
 use Rattle.std.specs.Prelude.{ℕ, ◌+◌, ◌≡◌, List, take, Option, Some, None, Result, Ok, Err}
-use Rattle.loom_io.specs.Fault.{next}
+use Rattle.loom_io.specs.FaultCount.{next}
 use Rattle.loom_io.specs.declared.shelf.ShelfError.{ShelfError}
 use Rattle.loom_io.specs.declared.shelf.ShelfError.TheVariants as error
 

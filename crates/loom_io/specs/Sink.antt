@@ -1,7 +1,7 @@
 -- What a sink takes.
 use Rattle.std.specs.Prelude.{ℕ, ◌≤◌, List, length, take, Option, Result, Ok, Err, MatchResult}
 use Rattle.std.specs.Io.KnownBytes.{Appends, Keeps}
-use Rattle.loom_io.specs.Fault.{next}
+use Rattle.loom_io.specs.FaultCount.{next}
 
 -- at `Ok(n)` the first n bytes of the piece were taken, and at an error none
 abbrev pub Took : {E : Type 0} → Option (List ℕ) → Option (List ℕ) → Result ℕ E → List ℕ → Type 0

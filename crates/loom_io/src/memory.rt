@@ -1,7 +1,7 @@
 //! Shelves and sinks in memory, with faults at the calls that are to fail.
 ghost use Rattle.std.specs.Prelude.{◌≡◌, ◌≤◌, ◌<◌, ◌+◌, ◌++◌, ◌⊎◌, ◌↔◌, ℕ, List, [], Some, None, IfOk, OnErr, IsTrue, IsErr, IsNone, Contains, length, take, min};
 ghost use Rattle.std.specs.Option.{option_map, option_copied};
-ghost use Rattle.loom_io.specs.Fault.{next};
+ghost use Rattle.loom_io.specs.FaultCount.{next};
 ghost use Rattle.loom_io.specs.Files.{bytes_of};
 ghost use Rattle.loom_io.specs.Shelf.{state_of, faults_after_read};
 ghost use Rattle.loom_io.specs.Sink.{faults_after_put};

@@ -1,6 +1,6 @@
 //! Where files come from.
 ghost use Rattle.std.specs.Prelude.{◌≡◌, ◌≤◌, ◌+◌, ℕ, List, length, IfOk, IfErr};
-ghost use Rattle.loom_io.specs.Fault.{Rose};
+ghost use Rattle.loom_io.specs.FaultCount.{Rose};
 ghost use Rattle.loom_io.specs.Shelf.{FileState, Missing, IsRead};
 
 use loom_tree::name::{Name, NoMemory};
@@ -37,10 +37,10 @@ pub trait Shelf {
     /// What the shelf tells of the file of a name: nothing, that there is none, or its bytes.
     ghost told: { Self → List ℕ → FileState };
 
-    /// The bytes of the file of that name: the whole file, or its first `limit + 1` bytes where it
-    /// has more than `limit`, which is at most 67,108,864. `Failed` comes at a missing file, and
-    /// only where the count of the name's faults rose in this call. `NoMemory` may come at any call
-    /// but at a name that the shelf tells to be missing.
+    /// The bytes of the file of that name. Where there are more than `limit`, which is at most
+    /// 67,108,864, one more than these is read, so that the caller sees it. `Failed` comes at a
+    /// missing file, and only where the count of the name's faults rose in this call. `NoMemory`
+    /// may come at any call but at a name that the shelf tells to be missing.
     fn read(&mut self, alloc: Global, name: &str, limit: usize) -> Result<Name, ShelfError>
         requires { limit ≤ LARGEST_LIMIT }
         ensures kept { (n : List ℕ) → told self.new n ≡ told self.old n }

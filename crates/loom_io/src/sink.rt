@@ -1,6 +1,6 @@
 //! Where text goes.
 ghost use Rattle.std.specs.Prelude.{ℕ, ◌≡◌, ◌<◌, ◌≤◌, List, Option, length, IfOk, OnOk, OnErr};
-ghost use Rattle.loom_io.specs.Fault.{Rose};
+ghost use Rattle.loom_io.specs.FaultCount.{Rose};
 ghost use Rattle.loom_io.specs.Sink.{Took};
 
 /// The sink had a fault, and took no byte.

@@ -25,7 +25,7 @@ operator o.Mul = codes "*"
 operator o.Div = codes "/"
 operator o.Rem = codes "%"
 
--- An operand that is a binary expression stands in parentheses, and no other does.
+-- Parentheses stand round the operands that have two operands of their own, and round nothing else.
 abbrev pub operand : Expression → List ℕ → List ℕ
 operand (bin o a b) text = codes "(" ++ text ++ codes ")"
 operand _ text = text
@@ -75,12 +75,12 @@ abbrev pub indented : ℕ → List ℕ → List ℕ
 indented zero text = text
 indented (suc n) text = codes "  " ++ indented n text
 
--- `else` is written only where its list isn't empty.
+-- An empty `else` is left out.
 abbrev pub else_lines : ℕ → Body → List (List ℕ) → List (List ℕ)
 else_lines n end lines = []
 else_lines n _ lines = indented n (codes "} else {") ∷ lines
 
--- Each statement and each closing brace has a line of its own.
+-- A line holds one statement, or the brace that closes a block.
 abbrev pub body_text_lines : ℕ → Body → List (List ℕ)
 body_text_lines n end = []
 body_text_lines n (simple l s rest) = indented n (simple_text s) ∷ body_text_lines n rest
@@ -112,7 +112,7 @@ function_lines f = (codes "fn " ++ f.name ++ codes "(" ++ listed f.params ++ cod
 abbrev pub functions_lines : List Function → List (List ℕ)
 functions_lines fs = flat_map function_lines fs
 
--- The words and arrays come first, then the mutexes, the semaphores and the functions, each in their order.
+-- Items go by kind: `shared`, `mutex`, `sema`, `fn`. Those of one kind keep their order.
 abbrev pub canonical_lines : Source → List (List ℕ)
 canonical_lines p = map word_line p.words ++ (map mutex_line p.mutexes ++ (map sema_line p.semas ++ functions_lines p.funcs))
 

@@ -2,8 +2,8 @@
 use Rattle.std.specs.Prelude.{ℕ}
 
 -- bytes of its text
-abbrev pub source_limit : ℕ
-source_limit = 65536
+abbrev pub file_limit : ℕ
+file_limit = 65536
 
 abbrev pub function_limit : ℕ
 function_limit = 64

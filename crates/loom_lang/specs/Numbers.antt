@@ -7,16 +7,16 @@ use Rattle.loom_tree.specs.Tree.{Function, Source}
 use Rattle.loom_lang.specs.Rules.{cells_of}
 
 -- where a name first stands in a list
-abbrev pub position : List ℕ → List (List ℕ) → Option ℕ
-position x [] = None
-position x (y ∷ ys) = if pointwise ◌==◌ y x then Some 0 else option_map suc (position x ys)
+abbrev pub index_of : List ℕ → List (List ℕ) → Option ℕ
+index_of x [] = None
+index_of x (y ∷ ys) = if pointwise ◌==◌ y x then Some 0 else option_map suc (index_of x ys)
 
 -- The cells of a word or an array: the number of the first, and how many, where it is an array. A plain word has one.
 pub record Cells : Type 0 where
   pub first : ℕ
   pub count : Option ℕ
 
--- The cells are numbered from 0 in the order of the `shared` items.
+-- A word's or an array's cells have the numbers behind those of the `shared` items that stand before it.
 abbrev pub cells_from : ℕ → List Word → List ℕ → Option Cells
 cells_from n [] x = None
 cells_from n (w ∷ ws) x = if pointwise ◌==◌ w.name x then Some (record { first = n; count = w.cells }) else cells_from (n + cells_of w) ws x
@@ -25,10 +25,10 @@ abbrev pub cells_named : Source → List ℕ → Option Cells
 cells_named p x = cells_from 0 p.words x
 
 abbrev pub mutex_number : Source → List ℕ → Option ℕ
-mutex_number p x = position x p.mutexes
+mutex_number p x = index_of x p.mutexes
 
 abbrev pub sema_number : Source → List ℕ → Option ℕ
-sema_number p x = position x (map (λ (s : Sema). s.name) p.semas)
+sema_number p x = index_of x (map (λ (s : Sema). s.name) p.semas)
 
 abbrev pub function_number : Source → List ℕ → Option ℕ
-function_number p x = position x (map (λ (f : Function). f.name) p.funcs)
+function_number p x = index_of x (map (λ (f : Function). f.name) p.funcs)

@@ -62,7 +62,7 @@ abbrev pub repeated : List (List ℕ) → List Local → List ℕ
 repeated before [] = []
 repeated before (d ∷ ds) = line_if (is_in d.name before) d.line ++ repeated (d.name ∷ before) ds
 
--- `NameTwice`, at the second declaration in the order of the text: an item, where an item before it or a local of a function before it
+-- `NameTwice`, at the later of two declarations: an item, where an item before it or a local of a function before it
 -- has its name; a local, where an item up to its own function or an earlier local of that function has its name
 abbrev pub twice_lines : List (List ℕ) → List (List ℕ) → List FileItem → List ℕ
 twice_lines names locals [] = []

@@ -205,7 +205,7 @@ effect t calls line env tree.skip ret more = more env
 abbrev pub chosen : ℤ → Lists → Lists → Lists
 chosen v first second = choice (is_zero v) second first
 
--- A loop is described by its number of turns: at most this many, and broken off behind them.
+-- A loop that makes at most so many turns, and is broken off behind them.
 abbrev pub turns : ℕ → (Locals → (Locals → Lists) → (Locals → Lists) → Lists) → (Locals → Lists) → Locals → Lists
 turns zero turn more env = broken
 turns (suc n) turn more env = turn env (λ env'. turns n turn more env') more
@@ -243,7 +243,7 @@ framed t deeper n f vs more None = broken
 framed t deeper n f vs more (Some g) =
     emit (enter f (frame_locals g vs)) (body t deeper n (frame_locals g vs) g.body (λ v. emit (out f) (more v)) (λ env. emit (out f) (more (pos 0))))
 
--- A call is described by its depth: so many frames fit, and the next one traps.
+-- Calls, where so many frames more fit: the next one traps.
 abbrev pub calls_to : Thread → ℕ → ℕ → Calls
 calls_to t n zero line f vs more = trapped t line frames
 calls_to t n (suc d) line f vs more = framed t (calls_to t n d) n f vs more (slice_get t.program.funcs f)

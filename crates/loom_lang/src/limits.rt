@@ -19,4 +19,4 @@ pub const CELL_LIMIT: u32 = 1024;
 pub const STATEMENT_LIMIT: usize = 4096;
 
 /// The most bytes of the text of a program.
-pub const SOURCE_LIMIT: usize = 65536;
+pub const FILE_LIMIT: usize = 65536;

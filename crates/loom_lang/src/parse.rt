@@ -3,7 +3,7 @@ ghost use Rattle.std.specs.Prelude.{ℕ, ◌≡◌, ◌≤◌, List, length, sli
 ghost use Rattle.loom_tree.specs.Tree.{Source};
 ghost use Rattle.loom_syntax.specs.View.{line_tokens};
 ghost use Rattle.loom_lang.specs.declared.refusal.Reason.{Reason};
-ghost use Rattle.loom_lang.specs.Limits.{source_limit};
+ghost use Rattle.loom_lang.specs.Limits.{file_limit};
 ghost use Rattle.loom_lang.specs.Program.{IsProgram};
 ghost use Rattle.loom_lang.specs.Refusal.{IsRefusedProgram, line_at};
 ghost use Rattle.loom_lang.specs.ReadError.{IsReading};
@@ -71,7 +71,7 @@ fn line_at(tokens: &[Token], n: usize, last_line: u32) -> u32
 
 /// The items of the program that the bytes of a file are, or their refusal.
 pub fn read(alloc: Global, bytes: &[u8]) -> Result<FileItems, ReadError>
-    requires { length bytes.now ≤ source_limit }
+    requires { length bytes.now ≤ file_limit }
     ensures { IsReading bytes.now result }
 {
     let tokens = tokenize(alloc, bytes)?;
@@ -91,7 +91,7 @@ pub fn read(alloc: Global, bytes: &[u8]) -> Result<FileItems, ReadError>
 
 /// The program that the bytes of a file are. `Refused` comes exactly where they are none, and memory didn't run out.
 pub fn parse_program(alloc: Global, bytes: &[u8]) -> Result<Program, LangError>
-    requires { length bytes.now ≤ source_limit }
+    requires { length bytes.now ≤ file_limit }
     ensures program { IfOk result (λ p. IsProgram bytes.now p) }
     ensures refused { result ≡ Err LangError.Refused → (p : Source) → IsProgram bytes.now p → ⊥ }
     ensures told { result ≡ Err LangError.Refused → (line : ℕ) × (why : Reason) × IsRefusedProgram bytes.now line why }

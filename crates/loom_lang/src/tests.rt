@@ -1,6 +1,6 @@
 //! Programs that are accepted, and texts that are refused, each at its line and for its reason.
 
-use crate::limits::SOURCE_LIMIT;
+use crate::limits::FILE_LIMIT;
 use crate::parse::{LangError, ReadError, parse_program, read};
 use crate::refusal::{LangRefusal, Reason, Which};
 use std::alloc::{AllocError, Global};
@@ -8,7 +8,7 @@ use std::test::Fail;
 
 /// The refusal of a text, or `None` where it is a program. No text here is too long.
 fn refusal_of(alloc: Global, bytes: &[u8]) -> Result<Option<LangRefusal>, ReadError> {
-    if bytes.len() > SOURCE_LIMIT {
+    if bytes.len() > FILE_LIMIT {
         return Err(ReadError::NoMemory);
     }
     match read(alloc, bytes) {
@@ -20,7 +20,7 @@ fn refusal_of(alloc: Global, bytes: &[u8]) -> Result<Option<LangRefusal>, ReadEr
 
 /// The error of a text, or `None` where it is a program. No text here is too long.
 fn error_of(alloc: Global, bytes: &[u8]) -> Option<LangError> {
-    if bytes.len() > SOURCE_LIMIT {
+    if bytes.len() > FILE_LIMIT {
         return Some(LangError::NoMemory);
     }
     match parse_program(alloc, bytes) {

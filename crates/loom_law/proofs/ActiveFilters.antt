@@ -11,9 +11,9 @@ use Rattle.loom_lang.specs.Places as place
 use Rattle.loom_lang.specs.Trace.{Locals, begin, end, trap, read, write, lock, unlock, down, up, spawn, join, print, Item, made, begins, done, edge, enter, out}
 use Rattle.loom_law.specs.Walk.{tick_after}
 use Rattle.loom_law.specs.Filter.{Site, statement, function, Ruling, Plan, matching, has, waits, posts, clauses}
-use Rattle.loom_law.specs.Control.{entries_of, listed, control}
-use Rattle.loom_law.specs.Walk.{Version, Plans, Operation, wait, enters, at, past, post, leave, back, tick, cross, blocked, Step, goes, makes, Inside, OpenFrame, Spot, elsewhere, beginning, entered, complete, left, trapped, Queue, Walk, unborn, holds, begins_in, owed_waits, owed_enters, owed_by, owed_at, is_among, all_inside, completed, in_frame, owed_posts, owed_leaves, events_of, owed_past, owed_behind, all_leaves, with_back, with_tick, begun_with, function_line, without_first, taking, behind_entry, after_item, filter_of, is_kept, still_owed, new_filters, owed_fresh, owed_behind_cross, crossing, after_operation, walked, Owes, AreWoven}
-use Rattle.loom_law.specs.Part.{led, IsPart}
+use Rattle.loom_law.specs.Control.{entries_of, listed_places, control}
+use Rattle.loom_law.specs.Walk.{Version, Plans, Operation, wait, enters, at, past, post, leave, back, tick, cross, blocked, PartStep, goes, makes, Inside, OpenFrame, Spot, elsewhere, beginning, entered, complete, left, trapped, Queue, Walk, unborn, holds, begins_in, owed_waits, owed_enters, owed_by, owed_at, is_among, all_inside, completed, in_frame, owed_posts, owed_leaves, events_of, owed_past, owed_behind, all_leaves, with_back, with_tick, begun_with, function_line, without_first, taking, behind_entry, after_item, filter_of, stays, still_owed, new_filters, owed_fresh, owed_behind_cross, crossing, after_operation, walk_from, Owes, AreWoven}
+use Rattle.loom_law.specs.ThreadPart.{walk_of, IsPart}
 use Rattle.loom_law.specs.Lawful.{plans, own, Setting, is_installed}
 use Rattle.loom_law.specs.Laws.{HasOwedActive}
 use Rattle.loom_law.proofs.Holdings.{or_left, or_right, pick, same_number}
@@ -23,7 +23,7 @@ use Rattle.loom_law.proofs.Newest.{newest}
 -- each of these is of one of those filters, or of none
 abbrev AllIn : List ℕ → Queue → Type 0
 AllIn ks [] = Unit {0}
-AllIn ks (x ∷ os) = (is_kept ks (filter_of x.1) ≡ true) × AllIn ks os
+AllIn ks (x ∷ os) = (stays ks (filter_of x.1) ≡ true) × AllIn ks os
 
 abbrev pub Among : List ℕ → List ℕ → Type 0
 Among js ks = (k : ℕ) → has js k ≡ true → has ks k ≡ true
@@ -101,8 +101,8 @@ both_in : (ks : List ℕ) (os more : Queue) → AllIn ks os → AllIn ks more �
 both_in ks [] more h g = g
 both_in ks (o ∷ os) more h g = (h.0, both_in ks os more h.1 g)
 
-one_kept : (ks : List ℕ) (l : ℕ) (o : Operation) (os : Queue) → AllIn ks os → AllIn ks (if is_kept ks (filter_of o) then (l, o) ∷ os else os)
-one_kept ks l o os h = pick (AllIn ks) (is_kept ks (filter_of o)) _ _ (λ b. (b, h)) (λ b. h)
+one_kept : (ks : List ℕ) (l : ℕ) (o : Operation) (os : Queue) → AllIn ks os → AllIn ks (if stays ks (filter_of o) then (l, o) ∷ os else os)
+one_kept ks l o os h = pick (AllIn ks) (stays ks (filter_of o)) _ _ (λ b. (b, h)) (λ b. h)
 
 kept_in : (ks : List ℕ) (os : Queue) → AllIn ks (still_owed ks os)
 kept_in ks [] = tt
@@ -187,7 +187,7 @@ op_named p plans z (tick x) h = less_in z.active z.owed h
 op_named p plans z (cross x v n) h = crossing_named p plans z z.coming h
 op_named p plans z (blocked what) h = h
 
-walk_named : (p : Source) (plans : Plans) (z : Walk) (ss : List Step) (ahead : List Item) → AreWoven p plans z ss ahead → IsNamed z → IsNamed (walked p plans z ss)
+walk_named : (p : Source) (plans : Plans) (z : Walk) (ss : List PartStep) (ahead : List Item) → AreWoven p plans z ss ahead → IsNamed z → IsNamed (walk_from p plans z ss)
 walk_named p plans z [] ahead w h = h
 walk_named p plans z (goes i ∷ ss) ahead w h = walk_named p plans (after_item p plans z i) ss ahead w.1 (item_named p plans z i (owed_none p z i _ w.0))
 walk_named p plans z (makes l o ∷ ss) ahead w h = walk_named p plans (after_operation p plans z o) ss ahead w.1 (op_named p plans z o h)
@@ -196,7 +196,7 @@ owes_in : (ks : List ℕ) (os : Queue) (l : ℕ) (o : Operation) (k : ℕ) → A
 owes_in ks [] l o k h is f = absurd is
 owes_in ks (x ∷ os) l o k h is f =
     let same : x.1 ≡ o = ap (λ (q : ℕ × Operation). q.1) is in
-    let P : Option ℕ → Type 0 = λ q. is_kept ks q ≡ true in
+    let P : Option ℕ → Type 0 = λ q. stays ks q ≡ true in
     subst P (ap filter_of same ∙ f) h.0
 
 pub owed_active : HasOwedActive
@@ -204,10 +204,10 @@ owed_active p plans x h l o k owes f =
     owes_in _ _ l o k (walk_named p plans (unborn x.versions) h.steps h.ahead h.woven tt) owes f
 
 pub owed_installed : (s : Setting) (front rest : List Entry) → IsStrict s (front ++ rest) → (i : ℕ) → i < thread_limit → (x : ThreadState)
-    (h : IsPart s.program (plans s) (own s front (suc i) x)) (y : Entry) (ys : List Entry) → entries_of (suc i) front ≡ y ∷ ys → listed (suc i) front ≡ []
-    → (l : ℕ) (o : Operation) (k : ℕ) → Owes (led s.program (plans s) (own s front (suc i) x) h.steps).owed l o → filter_of o ≡ Some k
+    (h : IsPart s.program (plans s) (own s front (suc i) x)) (y : Entry) (ys : List Entry) → entries_of (suc i) front ≡ y ∷ ys → listed_places (suc i) front ≡ []
+    → (l : ℕ) (o : Operation) (k : ℕ) → Owes (walk_of s.program (plans s) (own s front (suc i) x) h.steps).owed l o → filter_of o ≡ Some k
     → is_installed (control s.commands front) k ≡ true
 owed_installed s front rest h i small x part y ys some none l o k owes f =
-    let active : has (Walk.active (led s.program (plans s) (own s front (suc i) x) part.steps)) k ≡ true =
+    let active : has (Walk.active (walk_of s.program (plans s) (own s front (suc i) x) part.steps)) k ≡ true =
     owed_active s.program (plans s) (own s front (suc i) x) part l o k owes f in
     subst (λ ks. has ks k ≡ true) (newest s front rest h i small x part y ys some none) active

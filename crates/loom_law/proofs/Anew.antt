@@ -5,14 +5,14 @@ use Rattle.std.proofs.lemmas.List.Sums.{length-filter}
 use Rattle.loom_trace.specs.declared.entry.Entry.{Entry}
 use Rattle.loom_trace.specs.declared.entry.Entry.TheVariants as e
 use Rattle.loom_law.specs.Filter.{has}
-use Rattle.loom_law.specs.Control.{Command, Control, first_control, after_entry, controlled, control, is_post, is_past}
+use Rattle.loom_law.specs.Control.{Command, Control, first_control, after_entry, control_after, control, is_post, is_past}
 use Rattle.loom_law.specs.Lawful.{Setting, Front, front_at, is_held_by, is_installed}
 use Rattle.loom_law.specs.Laws.{Balances, BeginsAnew}
 use Rattle.loom_law.proofs.Strict.{IsStrict, balances}
 use Rattle.loom_law.proofs.Earlier.{by_test, if_false, same_number}
 use Rattle.loom_law.proofs.LastLeaves.{or_rest}
 use Rattle.loom_law.proofs.Balance.{Says, AreSaid, IsSpent, spent_answered, spent_asked, spent_passed, IsSound, first_sound, sound_behind, sound_along}
-use Rattle.loom_law.proofs.Obedience.{controlled_last, append_one, are_said}
+use Rattle.loom_law.proofs.Obedience.{control_after_last, append_one, are_said}
 
 -- a post or a completion of this filter
 abbrev uses : ℕ → Entry → Bool
@@ -35,7 +35,7 @@ installed_from : (s : Setting) (es : List Entry) (h : IsStrict s es) (front todo
 installed_from s es h front [] rest is = tt
 installed_from s es h front (x ∷ todo) rest is = (
   uses_installed (front_at s h.events front) x (balances s es h front x (todo ++ rest) is),
-  subst (λ c. AreInstalled s.commands c todo) (controlled_last s.commands first_control front x)
+  subst (λ c. AreInstalled s.commands c todo) (control_after_last s.commands first_control front x)
       (installed_from s es h (front ++ x ∷ []) todo rest (is ∙ sym (append_one front x (todo ++ rest)))),
 )
 
@@ -51,15 +51,15 @@ spent_behind cs c (e.Cut j) k h s = spent_answered c k c.next refl s
 spent_behind cs c (e.Unreached j) k h s = spent_passed c j k h s
 spent_behind cs c _ k h s = s
 
-spent_along : (cs : List Command) (c : Control) (xs : List Entry) (k : ℕ) → AreSaid cs c xs → IsSpent c k → IsSpent (controlled cs c xs) k
+spent_along : (cs : List Command) (c : Control) (xs : List Entry) (k : ℕ) → AreSaid cs c xs → IsSpent c k → IsSpent (control_after cs c xs) k
 spent_along cs c [] k h s = s
 spent_along cs c (x ∷ xs) k h s = spent_along cs (after_entry cs c x) xs k h.1 (spent_behind cs c x k h.0 s)
 
 used_spent : (cs : List Command) (c : Control) (xs : List Entry) (k : ℕ) → AreSaid cs c xs → AreInstalled cs c xs → IsSound c → list_any (uses k) xs ≡ true
-    → IsSpent (controlled cs c xs) k
+    → IsSpent (control_after cs c xs) k
 used_spent cs c [] k said there sound h = cc
 used_spent cs c (x ∷ xs) k said there sound h =
-    by_test (uses k x) (IsSpent (controlled cs (after_entry cs c x) xs) k)
+    by_test (uses k x) (IsSpent (control_after cs (after_entry cs c x) xs) k)
     (λ b. spent_along cs (after_entry cs c x) xs k said.1 (spent_behind cs c x k said.0 (sound.spent k (there.0 k b))))
     (λ b. used_spent cs (after_entry cs c x) xs k said.1 there.1 (sound_behind cs c x said.0 sound) (or_rest (uses k x) (list_any (uses k) xs) b h))
 

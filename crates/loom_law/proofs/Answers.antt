@@ -16,9 +16,9 @@ use Rattle.loom_event.specs.Answer.{trapped}
 use Rattle.loom_event.specs.Event.{entry_by, targets}
 use Rattle.loom_event.specs.Entries.{thread_of, is_thread}
 use Rattle.loom_event.specs.Replay.{ThreadState, start, thread_at, replay, IsAllowed}
-use Rattle.loom_law.specs.Walk.{Version, Plans, wait, enters, at, past, post, leave, back, tick, cross, blocked, Queue, Step, goes, makes, items, told, Walk, unborn, behind_entry, crossing, after, walked, request_place, place_of_item, place_of_next, Acts, AsksFor, MayCross, MayBlock, MayStand, AreWoven}
-use Rattle.loom_law.specs.Part.{Own, IsPart, KeepsAway, AsksToAct, GoesOn}
-use Rattle.loom_law.specs.Control.{Control, control, taken, entries_of}
+use Rattle.loom_law.specs.Walk.{Version, Plans, wait, enters, at, past, post, leave, back, tick, cross, blocked, Queue, PartStep, goes, makes, items, told, Walk, unborn, behind_entry, crossing, after, walk_from, request_place, place_of_item, place_of_next, Acts, AsksFor, MayCross, MayBlock, MayStand, AreWoven}
+use Rattle.loom_law.specs.ThreadPart.{Own, IsPart, KeepsAway, AsksToAct, GoesOn}
+use Rattle.loom_law.specs.Control.{Control, control, versions_of, entries_of}
 use Rattle.loom_law.specs.Lawful.{Setting, Front, front_of, plans, own, IsFlagged, is_cross, IsLawful, MayFollow, Permits}
 use Rattle.loom_law.specs.Laws.{with_newest}
 use Rattle.loom_law.specs.TurnLaws.{IsAnswered, event_of_deed, HasAnswers, HasAnswerTurns}
@@ -57,12 +57,12 @@ asks_same z vs us is l (w.Enter k c) h = h
 asks_same z vs us is l (w.Wait k n) h = h
 
 -- the same steps, with `us` still to take behind them
-abbrev HasMore : Source → Plans → Walk → List Version → List Version → List Step → List Item → Type 0
+abbrev HasMore : Source → Plans → Walk → List Version → List Version → List PartStep → List Item → Type 0
 HasMore p plans z vs us ss ahead =
     AreWoven p plans (to_take z (vs ++ us)) ss ahead
-    × (walked p plans (to_take z (vs ++ us)) ss ≡ to_take (walked p plans (to_take z vs) ss) (Walk.coming (walked p plans (to_take z vs) ss) ++ us))
+    × (walk_from p plans (to_take z (vs ++ us)) ss ≡ to_take (walk_from p plans (to_take z vs) ss) (Walk.coming (walk_from p plans (to_take z vs) ss) ++ us))
 
-more : (p : Source) (plans : Plans) (z : Walk) (vs us : List Version) (ss : List Step) (ahead : List Item) → AreWoven p plans (to_take z vs) ss ahead → HasMore p plans z vs us ss ahead
+more : (p : Source) (plans : Plans) (z : Walk) (vs us : List Version) (ss : List PartStep) (ahead : List Item) → AreWoven p plans (to_take z vs) ss ahead → HasMore p plans z vs us ss ahead
 more p plans z vs us [] ahead h = (tt, refl)
 more p plans z [] us (goes (made l begin) ∷ ss) ahead h = absurd h.0.1
 more p plans z (v ∷ vs) us (goes (made l begin) ∷ ss) ahead h =
@@ -140,10 +140,10 @@ more p plans z vs us (makes l (blocked what) ∷ ss) ahead h =
 -- Another act that answers the same
 
 -- the steps don't say that the thread is blocked at a `join` in whose place this is a trap
-abbrev pub IsFree : List Step → Act → Type 0
-IsFree ss a = (before : List Step) (l c : ℕ) (behind : List Step) → ss ≡ before ++ makes l (blocked (w.Join c)) ∷ behind → a ≡ trap (not_spawned (pos c)) → ⊥
+abbrev pub IsFree : List PartStep → Act → Type 0
+IsFree ss a = (before : List PartStep) (l c : ℕ) (behind : List PartStep) → ss ≡ before ++ makes l (blocked (w.Join c)) ∷ behind → a ≡ trap (not_spawned (pos c)) → ⊥
 
-free_behind : (s : Step) (ss : List Step) (a : Act) → IsFree (s ∷ ss) a → IsFree ss a
+free_behind : (s : PartStep) (ss : List PartStep) (a : Act) → IsFree (s ∷ ss) a → IsFree ss a
 free_behind s ss a h before l c behind is trapped = h (s ∷ before) l c behind (ap (◌∷◌ s) is) trapped
 
 join_same : (c : ℕ) (a : Act) → AnswerTheSame (join c) a → (a ≡ trap (not_spawned (pos c)) → ⊥) → join c ≡ a
@@ -268,7 +268,7 @@ asked_ahead z (i ∷ is) m l b a (w.Join c) like free h = head_acts z.owed i (is
 asked_ahead z (i ∷ is) m l b a (w.Enter k c) like free h = h
 asked_ahead z (i ∷ is) m l b a (w.Wait k n) like free h = h
 
-stand_ahead : (p : Source) (z : Walk) (s : Step) (is : List Item) (m : ℕ) (b a : Act) → AnswerTheSame b a
+stand_ahead : (p : Source) (z : Walk) (s : PartStep) (is : List Item) (m : ℕ) (b a : Act) → AnswerTheSame b a
     → ((l c : ℕ) → s ≡ makes l (blocked (w.Join c)) → a ≡ trap (not_spawned (pos c)) → ⊥) → MayStand p z s (is ++ made m b ∷ []) → MayStand p z s (is ++ made m a ∷ [])
 stand_ahead p z (goes (made l begin)) is m b d like free h = h
 stand_ahead p z (goes (made l end)) is m b d like free h = h
@@ -309,7 +309,7 @@ stand_ahead p z (makes l (blocked what)) is m b a like free h =
     let c : MayBlock z (is ++ made m b ∷ []) l what = h in
     record { asks = asked_ahead z is m l b a what like (λ d e trapped. free l d (ap (λ u. makes l (blocked u)) e) trapped) c.asks; not_yet = c.not_yet }
 
-other_act : (p : Source) (plans : Plans) (z : Walk) (ss : List Step) (m : ℕ) (b a : Act) → AnswerTheSame b a → IsFree ss a → AreWoven p plans z ss (made m b ∷ [])
+other_act : (p : Source) (plans : Plans) (z : Walk) (ss : List PartStep) (m : ℕ) (b a : Act) → AnswerTheSame b a → IsFree ss a → AreWoven p plans z ss (made m b ∷ [])
     → AreWoven p plans z ss (made m a ∷ [])
 other_act p plans z [] m b a like free h = tt
 other_act p plans z (s ∷ ss) m b a like free h = (
@@ -328,29 +328,29 @@ next_act (out f) l a h = cc
 
 -- The part with one more step
 
-pub walked_append : (p : Source) (plans : Plans) (z : Walk) (us vs : List Step) → walked p plans z (us ++ vs) ≡ walked p plans (walked p plans z us) vs
-walked_append p plans z [] vs = refl
-walked_append p plans z (u ∷ us) vs = walked_append p plans (after p plans z u) us vs
+pub walk_append : (p : Source) (plans : Plans) (z : Walk) (us vs : List PartStep) → walk_from p plans z (us ++ vs) ≡ walk_from p plans (walk_from p plans z us) vs
+walk_append p plans z [] vs = refl
+walk_append p plans z (u ∷ us) vs = walk_append p plans (after p plans z u) us vs
 
-pub woven_last : (p : Source) (plans : Plans) (z : Walk) (ss : List Step) (s : Step) (ahead : List Item) → AreWoven p plans z ss (items (s ∷ []) ++ ahead)
-    → MayStand p (walked p plans z ss) s ahead → AreWoven p plans z (ss ++ s ∷ []) ahead
+pub woven_last : (p : Source) (plans : Plans) (z : Walk) (ss : List PartStep) (s : PartStep) (ahead : List Item) → AreWoven p plans z ss (items (s ∷ []) ++ ahead)
+    → MayStand p (walk_from p plans z ss) s ahead → AreWoven p plans z (ss ++ s ∷ []) ahead
 woven_last p plans z [] s ahead h m = (m, tt)
 woven_last p plans z (u ∷ ss) s ahead h m =
     (subst (MayStand p z u) (sym (items_ahead ss (s ∷ []) ahead)) h.0, woven_last p plans (after p plans z u) ss s ahead h.1 m)
 
 -- the thread's part with the act behind these steps; but for the versions to come the walk there is the same
-record ActPart (p : Source) (plans : Plans) (t f : ℕ) (args : List ℤ) (vs ws : List Version) (es : List Entry) (l : ℕ) (a : Act) (steps : List Step) : Type 0 where
+record ActPart (p : Source) (plans : Plans) (t f : ℕ) (args : List ℤ) (vs ws : List Version) (es : List Entry) (l : ℕ) (a : Act) (steps : List PartStep) : Type 0 where
   part : IsPart p plans (an_own t f args ws (es ++ entry_by t l a ∷ []))
   last : part.steps ≡ steps ++ goes (made l a) ∷ []
   coming : List Version
-  walk : walked p plans (unborn ws) steps ≡ to_take (walked p plans (unborn vs) steps) coming
+  walk : walk_from p plans (unborn ws) steps ≡ to_take (walk_from p plans (unborn vs) steps) coming
 
-part_with : (p : Source) (plans : Plans) (t f : ℕ) (args : List ℤ) (vs ws : List Version) (es : List Entry) (l : ℕ) (a : Act) (steps : List Step)
+part_with : (p : Source) (plans : Plans) (t f : ℕ) (args : List ℤ) (vs ws : List Version) (es : List Entry) (l : ℕ) (a : Act) (steps : List PartStep)
     → IsTrace p f args (items steps ++ made l a ∷ []) Open → AreWoven p plans (unborn ws) steps (made l a ∷ []) → told t steps ≡ es
-    → MayStand p (walked p plans (unborn ws) steps) (goes (made l a)) [] → Walk.coming (after p plans (walked p plans (unborn ws) steps) (goes (made l a))) ≡ []
-    → (coming : List Version) → walked p plans (unborn ws) steps ≡ to_take (walked p plans (unborn vs) steps) coming → ActPart p plans t f args vs ws es l a steps
+    → MayStand p (walk_from p plans (unborn ws) steps) (goes (made l a)) [] → Walk.coming (after p plans (walk_from p plans (unborn ws) steps) (goes (made l a))) ≡ []
+    → (coming : List Version) → walk_from p plans (unborn ws) steps ≡ to_take (walk_from p plans (unborn vs) steps) coming → ActPart p plans t f args vs ws es l a steps
 part_with p plans t f args vs ws es l a steps trace woven tells stands taken coming walk =
-    let last : List Step = goes (made l a) ∷ [] in
+    let last : List PartStep = goes (made l a) ∷ [] in
     record {
       part = record {
         steps = steps ++ last;
@@ -359,49 +359,49 @@ part_with p plans t f args vs ws es l a steps trace woven tells stands taken com
         trace = subst (λ is. IsTrace p f args is Open) (sym (items_ahead steps last [])) trace;
         woven = woven_last p plans (unborn ws) steps (goes (made l a)) [] woven stands;
         tells = told_append t steps last ∙ ap (λ us. us ++ entry_by t l a ∷ []) tells;
-        taken = ap (λ z. Walk.coming z) (walked_append p plans (unborn ws) steps last) ∙ taken;
+        taken = ap (λ z. Walk.coming z) (walk_append p plans (unborn ws) steps last) ∙ taken;
       };
       last = refl;
       coming = coming;
       walk = walk;
     }
 
-act_part : (p : Source) (plans : Plans) (t f : ℕ) (args : List ℤ) (vs : List Version) (v : Version) (es : List Entry) (l : ℕ) (a : Act) (steps : List Step)
+act_part : (p : Source) (plans : Plans) (t f : ℕ) (args : List ℤ) (vs : List Version) (v : Version) (es : List Entry) (l : ℕ) (a : Act) (steps : List PartStep)
     → IsTrace p f args (items steps ++ made l a ∷ []) Open → AreWoven p plans (unborn vs) steps (made l a ∷ []) → told t steps ≡ es
-    → Walk.owed (walked p plans (unborn vs) steps) ≡ [] → Walk.coming (walked p plans (unborn vs) steps) ≡ []
+    → Walk.owed (walk_from p plans (unborn vs) steps) ≡ [] → Walk.coming (walk_from p plans (unborn vs) steps) ≡ []
     → ActPart p plans t f args vs (with_newest (entry_by t l a) v vs) es l a steps
 act_part p plans t f args vs v es l begin steps trace woven tells rests taken =
-    let z : Walk = walked p plans (unborn vs) steps in
+    let z : Walk = walk_from p plans (unborn vs) steps in
     let ws : List Version = vs ++ v ∷ [] in
     let m : HasMore p plans (unborn []) vs (v ∷ []) steps (made l begin ∷ []) = more p plans (unborn []) vs (v ∷ []) steps (made l begin ∷ []) woven in
     let next : Walk.coming z ++ v ∷ [] ≡ v ∷ [] = ap (λ us. us ++ v ∷ []) taken in
-    let walk : walked p plans (unborn ws) steps ≡ to_take z (v ∷ []) = m.1 ∙ ap (to_take z) next in
+    let walk : walk_from p plans (unborn ws) steps ≡ to_take z (v ∷ []) = m.1 ∙ ap (to_take z) next in
     let stands : MayStand p (to_take z (v ∷ [])) (goes (made l begin)) [] = (rests, tt) in
     let none : Walk.coming (after p plans (to_take z (v ∷ [])) (goes (made l begin))) ≡ [] = refl in
     part_with p plans t f args vs ws es l begin steps trace m.0 tells (subst (λ y. MayStand p y (goes (made l begin)) []) (sym walk) stands)
     (ap (λ y. Walk.coming (after p plans y (goes (made l begin)))) walk ∙ none) (v ∷ []) walk
 act_part p plans t f args vs u es l end steps trace woven tells rests taken =
-    part_with p plans t f args vs vs es l end steps trace woven tells rests taken (Walk.coming (walked p plans (unborn vs) steps)) refl
+    part_with p plans t f args vs vs es l end steps trace woven tells rests taken (Walk.coming (walk_from p plans (unborn vs) steps)) refl
 act_part p plans t f args vs u es l (trap c) steps trace woven tells rests taken =
-    part_with p plans t f args vs vs es l (trap c) steps trace woven tells rests taken (Walk.coming (walked p plans (unborn vs) steps)) refl
+    part_with p plans t f args vs vs es l (trap c) steps trace woven tells rests taken (Walk.coming (walk_from p plans (unborn vs) steps)) refl
 act_part p plans t f args vs u es l (read x v) steps trace woven tells rests taken =
-    part_with p plans t f args vs vs es l (read x v) steps trace woven tells rests taken (Walk.coming (walked p plans (unborn vs) steps)) refl
+    part_with p plans t f args vs vs es l (read x v) steps trace woven tells rests taken (Walk.coming (walk_from p plans (unborn vs) steps)) refl
 act_part p plans t f args vs u es l (write x v) steps trace woven tells rests taken =
-    part_with p plans t f args vs vs es l (write x v) steps trace woven tells rests taken (Walk.coming (walked p plans (unborn vs) steps)) refl
+    part_with p plans t f args vs vs es l (write x v) steps trace woven tells rests taken (Walk.coming (walk_from p plans (unborn vs) steps)) refl
 act_part p plans t f args vs u es l (lock x) steps trace woven tells rests taken =
-    part_with p plans t f args vs vs es l (lock x) steps trace woven tells rests taken (Walk.coming (walked p plans (unborn vs) steps)) refl
+    part_with p plans t f args vs vs es l (lock x) steps trace woven tells rests taken (Walk.coming (walk_from p plans (unborn vs) steps)) refl
 act_part p plans t f args vs u es l (unlock x) steps trace woven tells rests taken =
-    part_with p plans t f args vs vs es l (unlock x) steps trace woven tells rests taken (Walk.coming (walked p plans (unborn vs) steps)) refl
+    part_with p plans t f args vs vs es l (unlock x) steps trace woven tells rests taken (Walk.coming (walk_from p plans (unborn vs) steps)) refl
 act_part p plans t f args vs u es l (down x) steps trace woven tells rests taken =
-    part_with p plans t f args vs vs es l (down x) steps trace woven tells rests taken (Walk.coming (walked p plans (unborn vs) steps)) refl
+    part_with p plans t f args vs vs es l (down x) steps trace woven tells rests taken (Walk.coming (walk_from p plans (unborn vs) steps)) refl
 act_part p plans t f args vs u es l (up x) steps trace woven tells rests taken =
-    part_with p plans t f args vs vs es l (up x) steps trace woven tells rests taken (Walk.coming (walked p plans (unborn vs) steps)) refl
+    part_with p plans t f args vs vs es l (up x) steps trace woven tells rests taken (Walk.coming (walk_from p plans (unborn vs) steps)) refl
 act_part p plans t f args vs u es l (spawn c g xs) steps trace woven tells rests taken =
-    part_with p plans t f args vs vs es l (spawn c g xs) steps trace woven tells rests taken (Walk.coming (walked p plans (unborn vs) steps)) refl
+    part_with p plans t f args vs vs es l (spawn c g xs) steps trace woven tells rests taken (Walk.coming (walk_from p plans (unborn vs) steps)) refl
 act_part p plans t f args vs u es l (join c) steps trace woven tells rests taken =
-    part_with p plans t f args vs vs es l (join c) steps trace woven tells rests taken (Walk.coming (walked p plans (unborn vs) steps)) refl
+    part_with p plans t f args vs vs es l (join c) steps trace woven tells rests taken (Walk.coming (walk_from p plans (unborn vs) steps)) refl
 act_part p plans t f args vs u es l (print v) steps trace woven tells rests taken =
-    part_with p plans t f args vs vs es l (print v) steps trace woven tells rests taken (Walk.coming (walked p plans (unborn vs) steps)) refl
+    part_with p plans t f args vs vs es l (print v) steps trace woven tells rests taken (Walk.coming (walk_from p plans (unborn vs) steps)) refl
 
 -- Nobody was blocked at a thread that wasn't spawned
 
@@ -435,7 +435,7 @@ still_there s es h front c y there none =
     subst (λ xs. IsOf (thread_at (replay (start p) (take n h.events)) c) (thread_at (replay (start p) xs) c)) (take-append-drop n h.events) kept in
     subst (IsOf (Some y)) none (subst (λ u. IsOf u o) there whole)
 
-free_steps : (s : Setting) (es : List Entry) (h : IsLawful s es) (t : ℕ) (d : Deed) (steps : List Step) → told t steps ≡ entries_of t es
+free_steps : (s : Setting) (es : List Entry) (h : IsLawful s es) (t : ℕ) (d : Deed) (steps : List PartStep) → told t steps ≡ entries_of t es
     → IsAllowed (replay (start s.program) h.events) (event_of_deed t d) → IsFree steps d.act
 free_steps s es h t d steps tells ok before l c behind is trapped =
     let x : Entry = e.Blocked t l (w.Join c) in
@@ -501,8 +501,8 @@ pub answers : HasAnswers
 answers s es h t q d m =
     let p : Source = s.program in
     let x : Own = own s es t m.state in
-    let vs : List Version = taken s.commands t es in
-    let steps : List Step = m.asks.steps in
+    let vs : List Version = versions_of s.commands t es in
+    let steps : List PartStep = m.asks.steps in
     let trace : IsTrace p x.func x.args (items steps ++ made d.line d.act ∷ []) Open = goes_with p (plans s) x q d m.asks m.answer in
     let a : ActPart p (plans s) t m.state.func m.state.args vs (with_newest (entry_by t d.line d.act) (Control.version (control s.commands es)) vs) (entries_of t es) d.line d.act steps =
     act_part p (plans s) t m.state.func m.state.args vs (Control.version (control s.commands es)) (entries_of t es) d.line d.act steps trace
@@ -516,7 +516,7 @@ answers s es h t q d m =
         goes_on = m.goes_on;
         not_held_off = m.not_held_off;
         crosses = act_no_cross t d.line d.act ∙ sym m.no_cross;
-        away = λ k is some. subst (KeepsAway (IsFlagged s k)) (sym a.walk) (keeps_taking (IsFlagged s k) (walked p (plans s) (unborn vs) steps) a.coming (m.away k is some));
+        away = λ k is some. subst (KeepsAway (IsFlagged s k)) (sym a.walk) (keeps_taking (IsFlagged s k) (walk_from p (plans s) (unborn vs) steps) a.coming (m.away k is some));
         no_begin = m.no_begin;
         permits = act_permits s (front_of s es h.events) t d.line d.act;
       },

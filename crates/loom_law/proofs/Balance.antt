@@ -8,7 +8,7 @@ use Rattle.loom_trace.specs.declared.entry.Entry.{Entry}
 use Rattle.loom_trace.specs.declared.entry.Entry.TheVariants as e
 use Rattle.loom_law.specs.Filter.{has}
 use Rattle.loom_law.specs.Walk.{Version, holds, without_clause}
-use Rattle.loom_law.specs.Control.{Command, have_one_name, Holder, Control, first_control, without_holder, left_by, after_entry, controlled}
+use Rattle.loom_law.specs.Control.{Command, have_one_name, Holder, Control, first_control, without_holder, left_by, after_entry, control_after}
 use Rattle.loom_law.specs.Lawful.{is_held_by, is_installed}
 use Rattle.loom_law.proofs.Holdings.{or_cases, or_left, or_right, either_of, pick, same_number}
 
@@ -374,12 +374,12 @@ balanced_behind cs c t hs (e.Unreached k) h s b = unreached_balanced cs c t k hs
 balanced_behind cs c t hs _ h s b = b
 
 -- along a journal
-pub sound_along : (cs : List Command) (c : Control) (xs : List Entry) → AreSaid cs c xs → IsSound c → IsSound (controlled cs c xs)
+pub sound_along : (cs : List Command) (c : Control) (xs : List Entry) → AreSaid cs c xs → IsSound c → IsSound (control_after cs c xs)
 sound_along cs c [] h s = s
 sound_along cs c (x ∷ xs) h s = sound_along cs (after_entry cs c x) xs h.1 (sound_behind cs c x h.0 s)
 
 pub balanced_along : (cs : List Command) (c : Control) (t : ℕ) (hs : List (ℕ × ℕ)) (xs : List Entry) → AreSaid cs c xs → IsSound c → IsBalanced c t hs
-    → IsBalanced (controlled cs c xs) t (held_from cs t c hs xs)
+    → IsBalanced (control_after cs c xs) t (held_from cs t c hs xs)
 balanced_along cs c t hs [] h s b = b
 balanced_along cs c t hs (x ∷ xs) h s b =
     balanced_along cs (after_entry cs c x) t (held_behind t c hs x) xs h.1 (sound_behind cs c x h.0 s) (balanced_behind cs c t hs x h.0 s b)

@@ -15,9 +15,9 @@ use Rattle.loom_event.specs.Entries.{thread_of, is_thread}
 use Rattle.loom_event.specs.Replay.{ThreadState, Store, start, thread_at, IsUnborn, IsRunning, IsAllowedAct, with_thread, after_act, replay, AreAllowed}
 use Rattle.loom_event.specs.Replay as law
 use Rattle.loom_event.specs.Run.{IsTraced, IsThreadTraced, AreRun}
-use Rattle.loom_law.specs.Walk.{Version, Plans, Operation, wait, enters, at, past, post, leave, back, tick, cross, blocked, Step, goes, makes, items, told, entry_of_operation, Queue, Walk, unborn, behind_entry, crossing, after, walked, place_of_item, place_of_next, Acts, AsksFor, MayCross, MayBlock, MayStand, AreWoven}
-use Rattle.loom_law.specs.Part.{Own, IsPart}
-use Rattle.loom_law.specs.Control.{Command, Control, first_control, after_entry, controlled, takes, taken_from, taken, entries_of}
+use Rattle.loom_law.specs.Walk.{Version, Plans, Operation, wait, enters, at, past, post, leave, back, tick, cross, blocked, PartStep, goes, makes, items, told, entry_of_operation, Queue, Walk, unborn, behind_entry, crossing, after, walk_from, place_of_item, place_of_next, Acts, AsksFor, MayCross, MayBlock, MayStand, AreWoven}
+use Rattle.loom_law.specs.ThreadPart.{Own, IsPart}
+use Rattle.loom_law.specs.Control.{Command, Control, first_control, after_entry, control_after, takes_version, versions_from, versions_of, entries_of}
 use Rattle.loom_law.specs.Lawful.{Setting, Front, front_of, plans, own, HasPart}
 use Rattle.loom_law.proofs.Strict.{Stands, IsStrict}
 
@@ -66,11 +66,11 @@ entries_append t (x ∷ es) fs =
     ∙ sym (more_append (is_thread t (thread_of x)) x (entries_of t es) (entries_of t fs))
 
 pub taken_append : (cs : List Command) (t : ℕ) (c : Control) (es fs : List Entry)
-    → taken_from cs t c (es ++ fs) ≡ taken_from cs t c es ++ taken_from cs t (controlled cs c es) fs
+    → versions_from cs t c (es ++ fs) ≡ versions_from cs t c es ++ versions_from cs t (control_after cs c es) fs
 taken_append cs t c [] fs = refl
 taken_append cs t c (x ∷ es) fs =
-    ap (λ zs. if takes t x then c.version ∷ zs else zs) (taken_append cs t (after_entry cs c x) es fs)
-    ∙ sym (more_append (takes t x) c.version (taken_from cs t (after_entry cs c x) es) (taken_from cs t (controlled cs (after_entry cs c x) es) fs))
+    ap (λ zs. if takes_version t x then c.version ∷ zs else zs) (taken_append cs t (after_entry cs c x) es fs)
+    ∙ sym (more_append (takes_version t x) c.version (versions_from cs t (after_entry cs c x) es) (versions_from cs t (control_after cs (after_entry cs c x) es) fs))
 
 pub deeds_append : (t : ℕ) (xs ys : List Event) → deeds t (xs ++ ys) ≡ deeds t xs ++ deeds t ys
 deeds_append t [] ys = refl
@@ -132,11 +132,11 @@ act_keeps s u (print v) (suc i) = of_same (slice_get s.spawned i)
 
 pub replay_keeps : (s : Store) (xs : List Event) (t : ℕ) → IsOf (thread_at s t) (thread_at (replay s xs) t)
 replay_keeps s [] t = of_same (thread_at s t)
-replay_keeps s (x ∷ xs) t = of_both _ _ _ (act_keeps s x.thread x.act t) (replay_keeps (law.after s x) xs t)
+replay_keeps s (x ∷ xs) t = of_both _ _ _ (act_keeps s x.thread x.act t) (replay_keeps (law.after_event s x) xs t)
 
 pub replay_append : (s : Store) (xs ys : List Event) → replay s (xs ++ ys) ≡ replay (replay s xs) ys
 replay_append s [] ys = refl
-replay_append s (x ∷ xs) ys = replay_append (law.after s x) xs ys
+replay_append s (x ∷ xs) ys = replay_append (law.after_event s x) xs ys
 
 -- A thread that isn't there has done nothing
 
@@ -189,13 +189,13 @@ nothing_done s t (x ∷ xs) h none =
     let there = allowed_there s x.thread x.act h.0 in
     let at_t : thread_at s t ≡ Some there.0 = subst (λ u. thread_at s u ≡ Some there.0) (same_number x.thread t y) there.1 in
     absurd (not_lost (thread_at s t) (thread_at (replay s (x ∷ xs)) t) there.0 (replay_keeps s (x ∷ xs) t) at_t none))
-    (λ y. if_false (x.thread == t) (record { line = x.line; act = x.act } ∷ deeds t xs) (deeds t xs) y ∙ nothing_done (law.after s x) t xs h.1 none)
+    (λ y. if_false (x.thread == t) (record { line = x.line; act = x.act } ∷ deeds t xs) (deeds t xs) y ∙ nothing_done (law.after_event s x) t xs h.1 none)
 
 -- Fronts of runs
 
 pub allowed_front : (s : Store) (xs ys : List Event) → AreAllowed s (xs ++ ys) → AreAllowed s xs
 allowed_front s [] ys h = tt
-allowed_front s (x ∷ xs) ys h = (h.0, allowed_front (law.after s x) xs ys h.1)
+allowed_front s (x ∷ xs) ys h = (h.0, allowed_front (law.after_event s x) xs ys h.1)
 
 pub record Cut (is : List Item) (ds : List Deed) : Type 0 where
   pub before : List Item
@@ -260,7 +260,7 @@ abbrev pub takings : List Entry → ℕ
 takings [] = 0
 takings (x ∷ es) = if is_taking x then suc (takings es) else takings es
 
-pub takes_is : (t : ℕ) (x : Entry) → takes t x ≡ (is_taking x && is_thread t (thread_of x))
+pub takes_is : (t : ℕ) (x : Entry) → takes_version t x ≡ (is_taking x && is_thread t (thread_of x))
 takes_is t (e.Begin u l) = refl
 takes_is t (e.Cross u l x v n) = refl
 takes_is t _ = refl
@@ -272,10 +272,10 @@ count_one false true x v es vs is h = if_false (is_taking x) (suc (takings es)) 
 count_one true false x v es vs is h = h
 count_one false false x v es vs is h = h
 
-pub takings_taken : (cs : List Command) (t : ℕ) (c : Control) (es : List Entry) → takings (entries_of t es) ≡ length (taken_from cs t c es)
+pub takings_taken : (cs : List Command) (t : ℕ) (c : Control) (es : List Entry) → takings (entries_of t es) ≡ length (versions_from cs t c es)
 takings_taken cs t c [] = refl
 takings_taken cs t c (x ∷ es) =
-    let vs : List Version = taken_from cs t (after_entry cs c x) es in
+    let vs : List Version = versions_from cs t (after_entry cs c x) es in
     subst (λ (b : Bool). takings (if is_thread t (thread_of x) then x ∷ entries_of t es else entries_of t es) ≡ length (if b then c.version ∷ vs else vs))
     (sym (takes_is t x))
     (count_one (is_taking x) (is_thread t (thread_of x)) x c.version (entries_of t es) vs refl (takings_taken cs t (after_entry cs c x) es))
@@ -313,14 +313,14 @@ asks_same z vs us is l (w.Enter k c) h = h
 asks_same z vs us is l (w.Wait k n) h = h
 
 -- with fewer versions to come, as many as are taken
-abbrev pub IsFront : Source → Plans → Walk → List Version → List Step → List Item → Type 0
-IsFront p plans z vs ss ahead = AreWoven p plans (to_take z vs) ss ahead × (Walk.coming (walked p plans (to_take z vs) ss) ≡ [])
+abbrev pub IsFront : Source → Plans → Walk → List Version → List PartStep → List Item → Type 0
+IsFront p plans z vs ss ahead = AreWoven p plans (to_take z vs) ss ahead × (Walk.coming (walk_from p plans (to_take z vs) ss) ≡ [])
 
 pub none_left : (vs : List Version) → 0 ≡ length vs → vs ≡ []
 none_left [] h = refl
 none_left (v ∷ vs) h = let no : ⊥ = omega arith in absurd no
 
-pub fewer : (p : Source) (plans : Plans) (t : ℕ) (z : Walk) (vs us : List Version) (ss : List Step) (ahead : List Item) → AreWoven p plans (to_take z (vs ++ us)) ss ahead
+pub fewer : (p : Source) (plans : Plans) (t : ℕ) (z : Walk) (vs us : List Version) (ss : List PartStep) (ahead : List Item) → AreWoven p plans (to_take z (vs ++ us)) ss ahead
     → takings (told t ss) ≡ length vs → IsFront p plans z vs ss ahead
 fewer p plans t z vs us [] ahead h n = (tt, none_left vs n)
 fewer p plans t z [] us (goes (made l begin) ∷ ss) ahead h n = let no : ⊥ = omega arith in absurd no
@@ -395,16 +395,16 @@ fewer p plans t z vs us (makes l (blocked what) ∷ ss) ahead h n =
     ((d, ih.0), ih.1)
 
 -- the steps that tell the first entries
-pub record CutSteps (t : ℕ) (ss : List Step) (es : List Entry) : Type 0 where
-  pub before : List Step
-  pub behind : List Step
+pub record CutSteps (t : ℕ) (ss : List PartStep) (es : List Entry) : Type 0 where
+  pub before : List PartStep
+  pub behind : List PartStep
   pub whole : ss ≡ before ++ behind
   pub same : told t before ≡ es
 
-with_step : (t : ℕ) (s : Step) (ss : List Step) (es : List Entry) → ((us : List Step) → told t (s ∷ us) ≡ told t us) → CutSteps t ss es → CutSteps t (s ∷ ss) es
+with_step : (t : ℕ) (s : PartStep) (ss : List PartStep) (es : List Entry) → ((us : List PartStep) → told t (s ∷ us) ≡ told t us) → CutSteps t ss es → CutSteps t (s ∷ ss) es
 with_step t s ss es skips h = record { before = s ∷ h.before; behind = h.behind; whole = ap (◌∷◌ s) h.whole; same = skips h.before ∙ h.same }
 
-with_told : (t : ℕ) (s : Step) (ss : List Step) (x y : Entry) (es fs : List Entry) → ((us : List Step) → told t (s ∷ us) ≡ x ∷ told t us) → x ∷ told t ss ≡ (y ∷ es) ++ fs
+with_told : (t : ℕ) (s : PartStep) (ss : List PartStep) (x y : Entry) (es fs : List Entry) → ((us : List PartStep) → told t (s ∷ us) ≡ x ∷ told t us) → x ∷ told t ss ≡ (y ∷ es) ++ fs
     → (told t ss ≡ es ++ fs → CutSteps t ss es) → CutSteps t (s ∷ ss) (y ∷ es)
 with_told t s ss x y es fs tells h go =
     let first : x ≡ y = cc in
@@ -412,7 +412,7 @@ with_told t s ss x y es fs tells h go =
     let c : CutSteps t ss es = go others in
     record { before = s ∷ c.before; behind = c.behind; whole = ap (◌∷◌ s) c.whole; same = tells c.before ∙ (ap (λ z. z ∷ told t c.before) first ∙ ap (◌∷◌ y) c.same) }
 
-cut_steps : (t : ℕ) (ss : List Step) (es fs : List Entry) → told t ss ≡ es ++ fs → CutSteps t ss es
+cut_steps : (t : ℕ) (ss : List PartStep) (es fs : List Entry) → told t ss ≡ es ++ fs → CutSteps t ss es
 cut_steps t ss [] fs h = record { before = []; behind = ss; whole = refl; same = refl }
 cut_steps t [] (x ∷ es) fs h = cc
 cut_steps t (goes (made l a) ∷ ss) (x ∷ es) fs h = with_told t (goes (made l a)) ss (entry_by t l a) x es fs (λ us. refl) h (λ g. cut_steps t ss es fs g)
@@ -423,15 +423,15 @@ cut_steps t (goes (edge l) ∷ ss) (x ∷ es) fs h = with_step t (goes (edge l))
 cut_steps t (goes (enter f env) ∷ ss) (x ∷ es) fs h = with_step t (goes (enter f env)) ss (x ∷ es) (λ us. refl) (cut_steps t ss (x ∷ es) fs h)
 cut_steps t (goes (out f) ∷ ss) (x ∷ es) fs h = with_step t (goes (out f)) ss (x ∷ es) (λ us. refl) (cut_steps t ss (x ∷ es) fs h)
 
-pub items_append : (us vs : List Step) → items (us ++ vs) ≡ items us ++ items vs
+pub items_append : (us vs : List PartStep) → items (us ++ vs) ≡ items us ++ items vs
 items_append [] vs = refl
 items_append (goes i ∷ us) vs = ap (◌∷◌ i) (items_append us vs)
 items_append (makes l o ∷ us) vs = items_append us vs
 
-pub items_ahead : (us vs : List Step) (ahead : List Item) → items (us ++ vs) ++ ahead ≡ items us ++ (items vs ++ ahead)
+pub items_ahead : (us vs : List PartStep) (ahead : List Item) → items (us ++ vs) ++ ahead ≡ items us ++ (items vs ++ ahead)
 items_ahead us vs ahead = ap (λ z. z ++ ahead) (items_append us vs) ∙ append_assoc (items us) (items vs) ahead
 
-pub woven_front : (p : Source) (plans : Plans) (z : Walk) (us vs : List Step) (ahead : List Item) → AreWoven p plans z (us ++ vs) ahead → AreWoven p plans z us (items vs ++ ahead)
+pub woven_front : (p : Source) (plans : Plans) (z : Walk) (us vs : List PartStep) (ahead : List Item) → AreWoven p plans z (us ++ vs) ahead → AreWoven p plans z us (items vs ++ ahead)
 woven_front p plans z [] vs ahead h = tt
 woven_front p plans z (u ∷ us) vs ahead h =
     (subst (MayStand p z u) (items_ahead us vs ahead) h.0, woven_front p plans (after p plans z u) us vs ahead h.1)
@@ -505,7 +505,7 @@ no_operation p vs is l (cross x m n) b h = let c : MayCross p (unborn vs) is l x
 no_operation p vs is l (blocked what) b h = let c : MayBlock (unborn vs) is l what = h in not_asked vs is l what b c.asks
 
 -- the entry that the first step of a part tells
-pub first_begins : (p : Source) (plans : Plans) (t f : ℕ) (args : List ℤ) (vs : List Version) (ss : List Step) (ahead : List Item) (r : Outcome) (y : Entry) (ys : List Entry)
+pub first_begins : (p : Source) (plans : Plans) (t f : ℕ) (args : List ℤ) (vs : List Version) (ss : List PartStep) (ahead : List Item) (r : Outcome) (y : Entry) (ys : List Entry)
     → IsTrace p f args (items ss ++ ahead) r → AreWoven p plans (unborn vs) ss ahead → told t ss ≡ y ∷ ys → IsBegin y
 first_begins p plans t f args vs [] ahead r y ys trace h g = cc
 first_begins p plans t f args vs (makes l o ∷ ss) ahead r y ys trace h g =
@@ -575,22 +575,22 @@ part_of_front : (s : Setting) (front rest : List Entry) (t : ℕ) (x y : ThreadS
     → IsPart s.program (plans s) (own s (front ++ rest) t y) → IsPart s.program (plans s) (own s front t x)
 part_of_front s front rest t x y f a h =
     let cs : List Command = s.commands in
-    let behind : List Version = taken_from cs t (controlled cs first_control front) rest in
-    let more : IsPart s.program (plans s) (an_own t y.func y.args (taken cs t front ++ behind) (entries_of t front ++ entries_of t rest)) =
+    let behind : List Version = versions_from cs t (control_after cs first_control front) rest in
+    let more : IsPart s.program (plans s) (an_own t y.func y.args (versions_of cs t front ++ behind) (entries_of t front ++ entries_of t rest)) =
     subst (λ vs. IsPart s.program (plans s) (an_own t y.func y.args vs (entries_of t front ++ entries_of t rest))) (taken_append cs t first_control front rest)
-    (subst (λ es. IsPart s.program (plans s) (an_own t y.func y.args (taken cs t (front ++ rest)) es)) (entries_append t front rest) h) in
-    let cut : IsPart s.program (plans s) (an_own t y.func y.args (taken cs t front) (entries_of t front)) =
-    part_front s.program (plans s) t y.func y.args (taken cs t front) behind (entries_of t front) (entries_of t rest) (takings_taken cs t first_control front) more in
-    subst (λ g. IsPart s.program (plans s) (an_own t g x.args (taken cs t front) (entries_of t front))) (sym f)
-    (subst (λ vs. IsPart s.program (plans s) (an_own t y.func vs (taken cs t front) (entries_of t front))) (sym a) cut)
+    (subst (λ es. IsPart s.program (plans s) (an_own t y.func y.args (versions_of cs t (front ++ rest)) es)) (entries_append t front rest) h) in
+    let cut : IsPart s.program (plans s) (an_own t y.func y.args (versions_of cs t front) (entries_of t front)) =
+    part_front s.program (plans s) t y.func y.args (versions_of cs t front) behind (entries_of t front) (entries_of t rest) (takings_taken cs t first_control front) more in
+    subst (λ g. IsPart s.program (plans s) (an_own t g x.args (versions_of cs t front) (entries_of t front))) (sym f)
+    (subst (λ vs. IsPart s.program (plans s) (an_own t y.func vs (versions_of cs t front) (entries_of t front))) (sym a) cut)
 
 pub has_part_front : (s : Setting) (front rest : List Entry) (t : ℕ) (o o' : Option ThreadState) → IsOf o o' → (o ≡ None → entries_of t (targets front) ≡ [])
     → HasPart s (front ++ rest) t o' → HasPart s front t o
 has_part_front s front rest t None None is idle h = front_empty (entries_of t front) (entries_of t rest) (sym (entries_append t front rest) ∙ h)
 has_part_front s front rest t None (Some y) is idle h =
     nothing_yet t front (entries_of t front) (idle refl) refl
-    (cut_first s.program (plans s) t y.func y.args (taken s.commands t (front ++ rest)) (entries_of t front) (entries_of t rest)
-    (subst (λ es. IsPart s.program (plans s) (an_own t y.func y.args (taken s.commands t (front ++ rest)) es)) (entries_append t front rest) h))
+    (cut_first s.program (plans s) t y.func y.args (versions_of s.commands t (front ++ rest)) (entries_of t front) (entries_of t rest)
+    (subst (λ es. IsPart s.program (plans s) (an_own t y.func y.args (versions_of s.commands t (front ++ rest)) es)) (entries_append t front rest) h))
 has_part_front s front rest t (Some x) None is idle h = absurd is
 has_part_front s front rest t (Some x) (Some y) is idle h = part_of_front s front rest t x y is.0 is.1 h
 

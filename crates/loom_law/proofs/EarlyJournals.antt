@@ -19,10 +19,10 @@ use Rattle.loom_event.proofs.Runs as runs
 use Rattle.loom_event.proofs.Stops as stops
 use Rattle.loom_event.proofs.Shown.{event}
 use Rattle.loom_law.specs.Filter.{plan_of}
-use Rattle.loom_law.specs.Walk.{wait, past, post, blocked, Step, goes, makes, items}
+use Rattle.loom_law.specs.Walk.{wait, past, post, blocked, PartStep, goes, makes, items}
 use Rattle.loom_law.specs.Walk as walk
 use Rattle.loom_law.specs.Control.{refused, means, install, Command}
-use Rattle.loom_law.specs.Lawful.{Setting, HasPart, StandsAt, running, IsOutside, MayInstall, front_at, IsLawful}
+use Rattle.loom_law.specs.Lawful.{Setting, HasPart, StandsAt, running_thread, IsOutside, MayInstall, front_at, IsLawful}
 use Rattle.loom_law.proofs.Fronts.{Each, behind, each_one, FollowsBehind, nothing_made}
 use Rattle.loom_law.proofs.Journals.{not_due, moves}
 
@@ -71,7 +71,7 @@ order_nowhere zero = refl
 order_nowhere (suc zero) = refl
 order_nowhere (suc (suc t)) = refl
 
-order_outside : (t : ℕ) → IsOutside order_setting (e.Asked 1 ∷ []) t (running (thread_at (start order_program) t)) (plan_of order_program ((Clause.order (record { event = record { file = (codes "use.lm"); line = 8; test = None }; count = 1 } ∷ record { event = record { file = (codes "use.lm"); line = 3; test = None }; count = 1 } ∷ [])) ∷ [])) nowhere
+order_outside : (t : ℕ) → IsOutside order_setting (e.Asked 1 ∷ []) t (running_thread (thread_at (start order_program) t)) (plan_of order_program ((Clause.order (record { event = record { file = (codes "use.lm"); line = 8; test = None }; count = 1 } ∷ record { event = record { file = (codes "use.lm"); line = 3; test = None }; count = 1 } ∷ [])) ∷ [])) nowhere
 order_outside zero = tt
 order_outside (suc zero) = tt
 order_outside (suc (suc t)) = tt
@@ -89,7 +89,7 @@ order_installs = record {
   outside = order_outside;
 }
 
-abbrev order_steps_1 : List Step
+abbrev order_steps_1 : List PartStep
 order_steps_1 =
     goes (made 5 begin) ∷ goes (enter 1 (((codes "u"), (pos 0)) ∷ [])) ∷ goes (begins 6 (((codes "u"), (pos 0)) ∷ [])) ∷ goes (made 6 (spawn 2 0 []))
     ∷ goes (done 6) ∷ goes (begins 7 (((codes "u"), (pos 2)) ∷ [])) ∷ goes (made 7 (print (pos 1))) ∷ goes (done 7)
@@ -111,7 +111,7 @@ order_part_1 = record {
   taken = refl;
 }
 
-abbrev order_steps_2 : List Step
+abbrev order_steps_2 : List PartStep
 order_steps_2 =
     goes (made 2 begin) ∷ goes (enter 0 []) ∷ goes (begins 3 []) ∷ makes 3 (blocked (w.Wait 1 2)) ∷ makes 3 (wait 1 2) ∷ makes 3 (walk.at 1 (2 ∷ []))
     ∷ goes (made 3 (read 0 (pos 5))) ∷ goes (made 3 (print (pos 2))) ∷ goes (done 3) ∷ makes 3 (walk.past 1 (2 ∷ [])) ∷ goes (out 0) ∷ goes (made 2 end) ∷ []
@@ -214,7 +214,7 @@ nested_ended zero x h = cc
 nested_ended (suc zero) x h = cc
 nested_ended (suc (suc t)) x h = cc
 
-abbrev nested_steps_1 : List Step
+abbrev nested_steps_1 : List PartStep
 nested_steps_1 =
     goes (made 6 begin) ∷ goes (enter 1 []) ∷ goes (begins 7 []) ∷ goes (enter 0 ((codes "n", pos 2) ∷ [])) ∷ goes (begins 2 ((codes "n", pos 2) ∷ []))
     ∷ goes (begins 3 ((codes "n", pos 2) ∷ [])) ∷ goes (enter 0 ((codes "n", pos 1) ∷ [])) ∷ goes (begins 2 ((codes "n", pos 1) ∷ []))
@@ -296,7 +296,7 @@ abbrev unreached_events : List Event
 unreached_events =
     event 1 5 begin ∷ event 1 3 (read 0 (pos 0)) ∷ []
 
-abbrev unreached_steps_1 : List Step
+abbrev unreached_steps_1 : List PartStep
 unreached_steps_1 =
     goes (made 5 begin) ∷ goes (enter 1 ((codes "i", pos 0) ∷ [])) ∷ goes (begins 6 ((codes "i", pos 0) ∷ [])) ∷ goes (done 6)
     ∷ goes (begins 7 ((codes "i", pos 0) ∷ [])) ∷ goes (begins 8 ((codes "i", pos 0) ∷ [])) ∷ goes (enter 0 []) ∷ goes (begins 3 [])
@@ -353,7 +353,7 @@ abbrev cut_events : List Event
 cut_events =
     event 1 5 begin ∷ event 1 3 (read 0 (pos 0)) ∷ event 1 3 (write 0 (pos 1)) ∷ []
 
-abbrev cut_steps_1 : List Step
+abbrev cut_steps_1 : List PartStep
 cut_steps_1 =
     goes (made 5 begin) ∷ goes (enter 1 ((codes "i", pos 0) ∷ [])) ∷ goes (begins 6 ((codes "i", pos 0) ∷ [])) ∷ goes (done 6)
     ∷ goes (begins 7 ((codes "i", pos 0) ∷ [])) ∷ goes (begins 8 ((codes "i", pos 0) ∷ [])) ∷ goes (enter 0 []) ∷ goes (begins 3 [])

@@ -10,38 +10,38 @@ use Rattle.loom_event.specs.Event.{Event, entry_by, entry_of, is_target, targets
 use Rattle.loom_event.specs.Entries.{thread_of, is_thread}
 use Rattle.loom_event.specs.Replay.{ThreadState, start, thread_at, replay}
 use Rattle.loom_event.specs.Run.{AreRun}
-use Rattle.loom_law.specs.Walk.{Version, Step, goes, makes, items, told, entry_of_operation, unborn, AreWoven}
-use Rattle.loom_law.specs.Part.{Own, IsPart}
-use Rattle.loom_law.specs.Control.{Holder, Control, control, first_control, taken, entries_of}
+use Rattle.loom_law.specs.Walk.{Version, PartStep, goes, makes, items, told, entry_of_operation, unborn, AreWoven}
+use Rattle.loom_law.specs.ThreadPart.{Own, IsPart}
+use Rattle.loom_law.specs.Control.{Holder, Control, control, first_control, versions_of, entries_of}
 use Rattle.loom_law.specs.Lawful.{Setting, Front, front_of, plans, own, HasPart, MayMove, Permits, MayFollow, MayFollowBy, IsLawful}
 use Rattle.loom_law.proofs.Strict.{Stands, IsStrict, StandsBy}
 use Rattle.loom_law.specs.Laws.{IsUnfinished, own_with}
 use Rattle.loom_law.proofs.OnePart.{told_append, append_none, never_empty}
 use Rattle.loom_law.proofs.Earlier.{append_assoc, map_front, take_again, length_append, targets_append, run_front, has_part_front, stays, idle_entries, allowed_front, nothing_done, less_behind, if_false, items_ahead, woven_front, takings, takings_taken}
-use Rattle.loom_law.proofs.Turns.{own_same, op_no_target, some_thread, event_stands, act_free, walked_coming, drop_all, eq_same}
+use Rattle.loom_law.proofs.Turns.{own_same, op_no_target, some_thread, event_stands, act_free, walk_coming, drop_all, eq_same}
 use Rattle.loom_law.proofs.Longer.{longer, beginning, mine, map_length}
 
 -- The last step that tells an entry
 
 -- this step tells the entry
-abbrev Tells : ℕ → Entry → Step → Type 0
+abbrev Tells : ℕ → Entry → PartStep → Type 0
 Tells t x (makes l o) = x ≡ entry_of_operation t l o
 Tells t x (goes (made l a)) = x ≡ entry_by t l a
 Tells t x (goes _) = ⊥
 
-record LastTold (t : ℕ) (ss : List Step) (es : List Entry) (x : Entry) : Type 0 where
-  before : List Step
-  step : Step
-  behind : List Step
+record LastTold (t : ℕ) (ss : List PartStep) (es : List Entry) (x : Entry) : Type 0 where
+  before : List PartStep
+  step : PartStep
+  behind : List PartStep
   whole : ss ≡ before ++ step ∷ behind
   same : told t before ≡ es
   tells : Tells t x step
 
-with_mark : (t : ℕ) (s : Step) (ss : List Step) (es : List Entry) (x : Entry) → ((us : List Step) → told t (s ∷ us) ≡ told t us) → LastTold t ss es x → LastTold t (s ∷ ss) es x
+with_mark : (t : ℕ) (s : PartStep) (ss : List PartStep) (es : List Entry) (x : Entry) → ((us : List PartStep) → told t (s ∷ us) ≡ told t us) → LastTold t ss es x → LastTold t (s ∷ ss) es x
 with_mark t s ss es x skips h =
     record { before = s ∷ h.before; step = h.step; behind = h.behind; whole = ap (◌∷◌ s) h.whole; same = skips h.before ∙ h.same; tells = h.tells }
 
-with_told : (t : ℕ) (s : Step) (ss : List Step) (u y : Entry) (es : List Entry) (x : Entry) → ((us : List Step) → told t (s ∷ us) ≡ u ∷ told t us)
+with_told : (t : ℕ) (s : PartStep) (ss : List PartStep) (u y : Entry) (es : List Entry) (x : Entry) → ((us : List PartStep) → told t (s ∷ us) ≡ u ∷ told t us)
     → u ∷ told t ss ≡ (y ∷ es) ++ x ∷ [] → (told t ss ≡ es ++ x ∷ [] → LastTold t ss es x) → LastTold t (s ∷ ss) (y ∷ es) x
 with_told t s ss u y es x tells h go =
     let first : u ≡ y = cc in
@@ -56,7 +56,7 @@ with_told t s ss u y es x tells h go =
       tells = c.tells;
     }
 
-last_told : (t : ℕ) (ss : List Step) (es : List Entry) (x : Entry) → told t ss ≡ es ++ x ∷ [] → LastTold t ss es x
+last_told : (t : ℕ) (ss : List PartStep) (es : List Entry) (x : Entry) → told t ss ≡ es ++ x ∷ [] → LastTold t ss es x
 last_told t [] es x h = absurd (never_empty es x h)
 last_told t (makes m q ∷ ss) [] x h = record { before = []; step = makes m q; behind = ss; whole = refl; same = refl; tells = cc }
 last_told t (goes (made m a) ∷ ss) [] x h = record { before = []; step = goes (made m a); behind = ss; whole = refl; same = refl; tells = cc }
@@ -74,13 +74,13 @@ none_there : (t : ℕ) (x : Entry) (es : List Entry) → is_thread t (thread_of 
 none_there t x es self h = never_empty (entries_of t es) x (sym h ∙ mine t x es self)
 
 -- the part that ends with the step that tells the entry
-cut_part : (s : Setting) (es : List Entry) (x : Entry) (t : ℕ) (z : ThreadState) (part : IsPart s.program (plans s) (own s (es ++ x ∷ []) t z)) (before : List Step) (step : Step)
-    (behind : List Step) → part.steps ≡ before ++ step ∷ behind → told t (before ++ step ∷ []) ≡ entries_of t (es ++ x ∷ [])
+cut_part : (s : Setting) (es : List Entry) (x : Entry) (t : ℕ) (z : ThreadState) (part : IsPart s.program (plans s) (own s (es ++ x ∷ []) t z)) (before : List PartStep) (step : PartStep)
+    (behind : List PartStep) → part.steps ≡ before ++ step ∷ behind → told t (before ++ step ∷ []) ≡ entries_of t (es ++ x ∷ [])
     → (h : IsPart s.program (plans s) (own s (es ++ x ∷ []) t z)) × (h.steps ≡ before ++ step ∷ [])
 cut_part s es x t z part before step behind is tells =
     let p : Source = s.program in
-    let vs : List Version = taken s.commands t (es ++ x ∷ []) in
-    let us : List Step = before ++ step ∷ [] in
+    let vs : List Version = versions_of s.commands t (es ++ x ∷ []) in
+    let us : List PartStep = before ++ step ∷ [] in
     let split : part.steps ≡ us ++ behind = is ∙ sym (append_assoc before (step ∷ []) behind) in
     let trace : IsTrace p z.func z.args (items (us ++ behind) ++ part.ahead) part.outcome =
     subst (λ ss. IsTrace p z.func z.args (items ss ++ part.ahead) part.outcome) split part.trace in (
@@ -91,7 +91,7 @@ cut_part s es x t z part before step behind is tells =
         trace = subst (λ ws. IsTrace p z.func z.args ws part.outcome) (items_ahead us behind part.ahead) trace;
         woven = woven_front p (plans s) (unborn vs) us behind part.ahead (subst (λ ss. AreWoven p (plans s) (unborn vs) ss part.ahead) split part.woven);
         tells = tells;
-        taken = walked_coming p (plans s) t (unborn vs) us
+        taken = walk_coming p (plans s) t (unborn vs) us
             ∙ drop_all (takings (told t us)) vs (ap takings tells ∙ takings_taken s.commands t first_control (es ++ x ∷ []));
       },
       refl,
@@ -99,7 +99,7 @@ cut_part s es x t z part before step behind is tells =
 
 stands_by : (s : Setting) (es : List Entry) (h : IsStrict s es) (x : Entry) (t : ℕ) (z : ThreadState) → is_thread t (thread_of x) ≡ true
     → (is_target x ≡ false → thread_at (replay (start s.program) h.events) t ≡ Some z)
-    → (part : IsPart s.program (plans s) (own s (es ++ x ∷ []) t z)) (before : List Step) (step : Step) (behind : List Step) → part.steps ≡ before ++ step ∷ behind
+    → (part : IsPart s.program (plans s) (own s (es ++ x ∷ []) t z)) (before : List PartStep) (step : PartStep) (behind : List PartStep) → part.steps ≡ before ++ step ∷ behind
     → told t before ≡ entries_of t es → Tells t x step → MayMove s (front_of s es h.events) t x → Permits s (front_of s es h.events) x
     → Stands s (front_of s es h.events) x []
 stands_by s es h x t z self there part before (makes l o) behind is same e m n =
@@ -111,7 +111,7 @@ stands_by s es h x t z self there part before (makes l o) behind is same e m n =
     (subst (MayMove s f t) e m) (subst (Permits s f) e n))
 stands_by s es h x t z self there part before (goes (made l a)) behind is same e m n =
     let f : Front = front_of s es h.events in
-    let step : Step = goes (made l a) in
+    let step : PartStep = goes (made l a) in
     let tells : told t (before ++ step ∷ []) ≡ entries_of t (es ++ x ∷ []) =
     told_append t before (step ∷ []) ∙ (ap (λ us. us ++ entry_by t l a ∷ []) same ∙ (ap (λ y. entries_of t es ++ y ∷ []) (sym e) ∙ sym (mine t x es self))) in
     let cut = cut_part s es x t z part before step behind is tells in

@@ -21,12 +21,12 @@ use Rattle.loom_event.proofs.Runs as runs
 use Rattle.loom_event.proofs.Stops as stops
 use Rattle.loom_event.proofs.Shown.{event}
 use Rattle.loom_law.specs.Filter.{Watch, statement, Range, between, Plan, plan_of}
-use Rattle.loom_law.specs.Walk.{enters, past, leave, cross, Step, goes, makes, items}
+use Rattle.loom_law.specs.Walk.{enters, past, leave, cross, PartStep, goes, makes, items}
 use Rattle.loom_law.specs.Walk as walk
 use Rattle.loom_law.specs.Paths.{Node, leaves, complete, turns, links_of, statements, has_return, called_by, Begins, IsStatement, statements_of, places_of, Calls, Reaches, IsReached, IsReachedAt, watch_at, node_places, IsExit, Halts, Comes, IsUnsafeByEvent, IsUnsafeByPath, IsUnsafeByFunction, IsUnsafe}
 use Rattle.loom_law.specs.Paths as paths
 use Rattle.loom_law.specs.Control.{means, install, Command}
-use Rattle.loom_law.specs.Lawful.{Setting, HasPart, StandsAt, running, IsOutside, MayInstall, front_at, own, StaysAway, IsLawful}
+use Rattle.loom_law.specs.Lawful.{Setting, HasPart, StandsAt, running_thread, IsOutside, MayInstall, front_at, own, StaysAway, IsLawful}
 use Rattle.loom_law.proofs.Earlier.{same_number}
 use Rattle.loom_law.proofs.Sites.{outside_where_flagged}
 use Rattle.loom_law.proofs.Fronts.{Each, behind, each_one, FollowsBehind, nothing_made}
@@ -330,7 +330,7 @@ abbrev evacuation_front : List Entry
 evacuation_front =
     e.Begin 1 5 ∷ e.Read 1 3 0 (pos 0) ∷ e.Asked 1 ∷ e.Write 1 3 0 (pos 1) ∷ e.Read 1 9 0 (pos 1) ∷ e.Write 1 9 0 (pos 2) ∷ []
 
-abbrev evacuation_before : List Step
+abbrev evacuation_before : List PartStep
 evacuation_before =
     goes (made 5 begin) ∷ goes (enter 1 ((codes "i", pos 0) ∷ [])) ∷ goes (begins 6 ((codes "i", pos 0) ∷ [])) ∷ goes (done 6)
     ∷ goes (begins 7 ((codes "i", pos 0) ∷ [])) ∷ goes (begins 8 ((codes "i", pos 0) ∷ [])) ∷ goes (enter 0 []) ∷ goes (begins 3 [])
@@ -367,7 +367,7 @@ evacuation_flagged (suc zero) = inr turn_is_safe
 evacuation_flagged (suc (suc t)) = inl refl
 
 evacuation_outside : (t : ℕ)
-    → IsOutside evacuation_setting evacuation_front t (running (thread_at (replay (start evacuated) (take 5 evacuation_events)) t)) plan (evacuation_place t)
+    → IsOutside evacuation_setting evacuation_front t (running_thread (thread_at (replay (start evacuated) (take 5 evacuation_events)) t)) plan (evacuation_place t)
 evacuation_outside zero = tt
 evacuation_outside (suc zero) = outside_where_flagged evacuation_setting (own evacuation_setting evacuation_front 1 inside_main) kept_away turn (inr turn_is_safe)
 evacuation_outside (suc (suc t)) = tt
@@ -417,7 +417,7 @@ evacuation_writes = record {
   away = record { passed = tt; stood = λ g. let no : false ≡ true = g in cc };
 }
 
-abbrev evacuation_steps_1 : List Step
+abbrev evacuation_steps_1 : List PartStep
 evacuation_steps_1 =
     goes (made 5 begin) ∷ goes (enter 1 ((codes "i", pos 0) ∷ [])) ∷ goes (begins 6 ((codes "i", pos 0) ∷ [])) ∷ goes (done 6)
     ∷ goes (begins 7 ((codes "i", pos 0) ∷ [])) ∷ goes (begins 8 ((codes "i", pos 0) ∷ [])) ∷ goes (enter 0 []) ∷ goes (begins 3 [])

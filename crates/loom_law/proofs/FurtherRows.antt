@@ -10,14 +10,14 @@ use Rattle.loom_lang.specs.Trace.{division, begin, end, trap, read, write, lock,
 use Rattle.loom_event.proofs.Runs.{next, given}
 use Rattle.loom_command.specs.Filter.{Region, Clause}
 use Rattle.loom_law.specs.Filter.{plan_of}
-use Rattle.loom_law.specs.Walk.{wait, enters, past, post, leave, back, tick, cross, blocked, Step, goes, makes, told, unborn, AreWoven}
+use Rattle.loom_law.specs.Walk.{wait, enters, past, post, leave, back, tick, cross, blocked, PartStep, goes, makes, told, unborn, AreWoven}
 use Rattle.loom_law.specs.Walk as walk
 use Rattle.loom_command.specs.Script.{stall}
 use Rattle.loom_command.specs.Script as script
 use Rattle.loom_law.specs.Control.{refused, means, install, remove, Command, plans_of}
-use Rattle.loom_law.specs.Part.{Own, IsPart}
-use Rattle.loom_law.specs.Walk.{Walk, walked, place_of_next, place_number}
-use Rattle.loom_law.specs.Control.{taken, entries_of}
+use Rattle.loom_law.specs.ThreadPart.{Own, IsPart}
+use Rattle.loom_law.specs.Walk.{Walk, walk_from, place_of_next, place_number}
+use Rattle.loom_law.specs.Control.{versions_of, entries_of}
 use Rattle.loom_lang.specs.Places as place
 use Rattle.loom_trace.specs.declared.entry.Ending.TheVariants as k
 use Rattle.std.proofs.Common.{true}
@@ -50,7 +50,7 @@ commands_r7 = (record { trigger = script.at 0; name = (codes "u"); action = inst
 abbrev pub own_r7_1 : Own
 own_r7_1 = record { thread = 1; func = 1; args = []; versions = (record { number = 1; active = (1 ∷ []) } ∷ record { number = 2; active = [] } ∷ []); entries = (e.Begin 1 5 ∷ e.Lock 1 6 0 ∷ e.Spawn 1 7 2 0 [] ∷ e.Print 1 8 (pos 1) ∷ e.Cross 1 9 8 2 0 ∷ e.Print 1 9 (pos 2) ∷ e.Unlock 1 10 0 ∷ e.Blocked 1 11 (w.Join 2) ∷ e.Join 1 11 2 ∷ e.End 1 5 ∷ []) }
 
-abbrev pub steps_r7_1 : List Step
+abbrev pub steps_r7_1 : List PartStep
 steps_r7_1 = (goes (made 5 begin) ∷ goes (enter 1 (((codes "t"), (pos 0)) ∷ [])) ∷ goes (begins 6 (((codes "t"), (pos 0)) ∷ [])) ∷ goes (made 6 (lock 0)) ∷ goes (done 6) ∷ goes (begins 7 (((codes "t"), (pos 0)) ∷ [])) ∷ goes (made 7 (spawn 2 0 [])) ∷ goes (done 7) ∷ goes (begins 8 (((codes "t"), (pos 2)) ∷ [])) ∷ goes (made 8 (print (pos 1))) ∷ goes (done 8) ∷ goes (begins 9 (((codes "t"), (pos 2)) ∷ [])) ∷ makes 9 (cross 8 2 0) ∷ goes (made 9 (print (pos 2))) ∷ goes (done 9) ∷ goes (begins 10 (((codes "t"), (pos 2)) ∷ [])) ∷ goes (made 10 (unlock 0)) ∷ goes (done 10) ∷ goes (begins 11 (((codes "t"), (pos 2)) ∷ [])) ∷ makes 11 (blocked (w.Join 2)) ∷ goes (made 11 (join 2)) ∷ goes (done 11) ∷ goes (out 1) ∷ goes (made 5 end) ∷ [])
 
 pub part_r7_1 : IsPart program_r7 (plans_of commands_r7) own_r7_1
@@ -67,7 +67,7 @@ part_r7_1 = record {
 abbrev pub own_r7_2 : Own
 own_r7_2 = record { thread = 2; func = 0; args = []; versions = (record { number = 1; active = (1 ∷ []) } ∷ record { number = 2; active = [] } ∷ []); entries = (e.Begin 2 2 ∷ e.Enter 2 2 1 1 ∷ e.At 2 2 1 (1 ∷ []) ∷ e.Blocked 2 3 (w.Lock 0) ∷ e.Cross 2 3 2 2 0 ∷ e.Blocked 2 3 (w.Lock 0) ∷ e.Lock 2 3 0 ∷ e.End 2 2 ∷ []) }
 
-abbrev pub steps_r7_2 : List Step
+abbrev pub steps_r7_2 : List PartStep
 steps_r7_2 = (goes (made 2 begin) ∷ goes (enter 0 []) ∷ makes 2 (enters 1 1) ∷ makes 2 (walk.at 1 (1 ∷ [])) ∷ goes (begins 3 []) ∷ makes 3 (blocked (w.Lock 0)) ∷ makes 3 (cross 2 2 0) ∷ makes 3 (blocked (w.Lock 0)) ∷ goes (made 3 (lock 0)) ∷ goes (done 3) ∷ goes (out 0) ∷ goes (made 2 end) ∷ [])
 
 pub part_r7_2 : IsPart program_r7 (plans_of commands_r7) own_r7_2
@@ -81,14 +81,14 @@ part_r7_2 = record {
   taken = refl;
 }
 
-abbrev pub point_r7_0 : List Step
+abbrev pub point_r7_0 : List PartStep
 point_r7_0 = (goes (made 5 begin) ∷ goes (enter 1 (((codes "t"), (pos 0)) ∷ [])) ∷ goes (begins 6 (((codes "t"), (pos 0)) ∷ [])) ∷ goes (made 6 (lock 0)) ∷ goes (done 6) ∷ goes (begins 7 (((codes "t"), (pos 0)) ∷ [])) ∷ goes (made 7 (spawn 2 0 [])) ∷ goes (done 7) ∷ goes (begins 8 (((codes "t"), (pos 2)) ∷ [])) ∷ goes (made 8 (print (pos 1))) ∷ goes (done 8) ∷ goes (begins 9 (((codes "t"), (pos 2)) ∷ [])) ∷ [])
 
 pub woven_point_r7_0 : AreWoven program_r7 (plans_of commands_r7) (unborn (record { number = 1; active = (1 ∷ []) } ∷ [])) point_r7_0 ((made 9 (print (pos 2))) ∷ [])
 woven_point_r7_0 = ((refl, tt), (refl, (refl, (refl, (refl, (refl, (refl, (refl, (refl, (refl, (refl, (refl, tt))))))))))))
 
 abbrev pub led_r7_0 : Walk
-led_r7_0 = walked program_r7 (plans_of commands_r7) (unborn (record { number = 1; active = (1 ∷ []) } ∷ [])) point_r7_0
+led_r7_0 = walk_from program_r7 (plans_of commands_r7) (unborn (record { number = 1; active = (1 ∷ []) } ∷ [])) point_r7_0
 
 pub stands_r7_0 : place_of_next led_r7_0 (Walk.owed led_r7_0) ((made 9 (print (pos 2))) ∷ []) ≡ Some (place.inside 9)
 stands_r7_0 = refl
@@ -96,14 +96,14 @@ stands_r7_0 = refl
 pub number_r7_0 : place_number program_r7 (place.inside 9) ≡ 8
 number_r7_0 = refl
 
-abbrev pub point_r7_1 : List Step
+abbrev pub point_r7_1 : List PartStep
 point_r7_1 = (goes (made 2 begin) ∷ goes (enter 0 []) ∷ makes 2 (enters 1 1) ∷ makes 2 (walk.at 1 (1 ∷ [])) ∷ goes (begins 3 []) ∷ makes 3 (blocked (w.Lock 0)) ∷ [])
 
 pub woven_point_r7_1 : AreWoven program_r7 (plans_of commands_r7) (unborn (record { number = 1; active = (1 ∷ []) } ∷ [])) point_r7_1 ((made 3 (lock 0)) ∷ [])
 woven_point_r7_1 = ((refl, tt), (refl, (refl, (refl, (refl, (record { asks = refl; not_yet = refl }, tt))))))
 
 abbrev pub led_r7_1 : Walk
-led_r7_1 = walked program_r7 (plans_of commands_r7) (unborn (record { number = 1; active = (1 ∷ []) } ∷ [])) point_r7_1
+led_r7_1 = walk_from program_r7 (plans_of commands_r7) (unborn (record { number = 1; active = (1 ∷ []) } ∷ [])) point_r7_1
 
 pub stands_r7_1 : place_of_next led_r7_1 (Walk.owed led_r7_1) ((made 3 (lock 0)) ∷ []) ≡ Some (place.inside 3)
 stands_r7_1 = refl
@@ -120,13 +120,13 @@ crosses_r7 = refl
 pub holds_r7 : check_holds commands_r7 [] journal_r7 ≡ true
 holds_r7 = refl
 
-pub takes_r7_1 : taken commands_r7 1 journal_r7 ≡ Own.versions own_r7_1
+pub takes_r7_1 : versions_of commands_r7 1 journal_r7 ≡ Own.versions own_r7_1
 takes_r7_1 = refl
 
 pub made_r7_1 : entries_of 1 journal_r7 ≡ Own.entries own_r7_1
 made_r7_1 = refl
 
-pub takes_r7_2 : taken commands_r7 2 journal_r7 ≡ Own.versions own_r7_2
+pub takes_r7_2 : versions_of commands_r7 2 journal_r7 ≡ Own.versions own_r7_2
 takes_r7_2 = refl
 
 pub made_r7_2 : entries_of 2 journal_r7 ≡ Own.entries own_r7_2
@@ -164,7 +164,7 @@ commands_r8 = (record { trigger = script.at 0; name = (codes "a"); action = inst
 abbrev pub own_r8_1 : Own
 own_r8_1 = record { thread = 1; func = 2; args = []; versions = (record { number = 1; active = (1 ∷ []) } ∷ record { number = 2; active = (1 ∷ 3 ∷ []) } ∷ []); entries = (e.Begin 1 8 ∷ e.Spawn 1 9 2 1 [] ∷ e.Enter 1 2 1 1 ∷ e.At 1 2 1 (1 ∷ []) ∷ e.Read 1 3 0 (pos 0) ∷ e.Write 1 3 0 (pos 1) ∷ e.Back 1 2 ∷ e.Leave 1 2 1 1 ∷ e.Cross 1 12 12 2 0 ∷ e.Blocked 1 15 (w.Join 2) ∷ e.Join 1 15 2 ∷ e.End 1 8 ∷ []) }
 
-abbrev pub steps_r8_1 : List Step
+abbrev pub steps_r8_1 : List PartStep
 steps_r8_1 = (goes (made 8 begin) ∷ goes (enter 2 (((codes "t"), (pos 0)) ∷ ((codes "i"), (pos 0)) ∷ [])) ∷ goes (begins 9 (((codes "t"), (pos 0)) ∷ ((codes "i"), (pos 0)) ∷ [])) ∷ goes (made 9 (spawn 2 1 [])) ∷ goes (done 9) ∷ goes (begins 10 (((codes "t"), (pos 2)) ∷ ((codes "i"), (pos 0)) ∷ [])) ∷ goes (enter 0 []) ∷ makes 2 (enters 1 1) ∷ makes 2 (walk.at 1 (1 ∷ [])) ∷ goes (begins 3 []) ∷ goes (made 3 (read 0 (pos 0))) ∷ goes (made 3 (write 0 (pos 1))) ∷ goes (done 3) ∷ goes (out 0) ∷ makes 2 (back) ∷ makes 2 (leave 1 1) ∷ goes (done 10) ∷ goes (begins 11 (((codes "t"), (pos 2)) ∷ ((codes "i"), (pos 0)) ∷ [])) ∷ goes (done 11) ∷ goes (begins 12 (((codes "t"), (pos 2)) ∷ ((codes "i"), (pos 0)) ∷ [])) ∷ goes (begins 13 (((codes "t"), (pos 2)) ∷ ((codes "i"), (pos 0)) ∷ [])) ∷ goes (done 13) ∷ makes 12 (cross 12 2 0) ∷ goes (edge 12) ∷ goes (begins 13 (((codes "t"), (pos 2)) ∷ ((codes "i"), (pos 1)) ∷ [])) ∷ goes (done 13) ∷ goes (edge 12) ∷ goes (done 12) ∷ goes (begins 15 (((codes "t"), (pos 2)) ∷ ((codes "i"), (pos 2)) ∷ [])) ∷ makes 15 (blocked (w.Join 2)) ∷ goes (made 15 (join 2)) ∷ goes (done 15) ∷ goes (out 2) ∷ goes (made 8 end) ∷ [])
 
 pub woven_r8_1 : AreWoven program_r8 (plans_of commands_r8) (unborn (Own.versions own_r8_1)) steps_r8_1 []
@@ -176,7 +176,7 @@ told_r8_1 = refl
 abbrev pub own_r8_2 : Own
 own_r8_2 = record { thread = 2; func = 1; args = []; versions = (record { number = 1; active = (1 ∷ []) } ∷ record { number = 2; active = (1 ∷ 3 ∷ []) } ∷ []); entries = (e.Begin 2 5 ∷ e.Blocked 2 2 (w.Enter 1 1) ∷ e.Cross 2 2 1 2 0 ∷ e.Enter 2 2 1 1 ∷ e.At 2 2 1 (1 ∷ []) ∷ e.Enter 2 2 3 1 ∷ e.At 2 2 3 (1 ∷ []) ∷ e.Read 2 3 0 (pos 1) ∷ e.Write 2 3 0 (pos 2) ∷ e.Back 2 2 ∷ e.Leave 2 2 1 1 ∷ e.Leave 2 2 3 1 ∷ e.End 2 5 ∷ []) }
 
-abbrev pub steps_r8_2 : List Step
+abbrev pub steps_r8_2 : List PartStep
 steps_r8_2 = (goes (made 5 begin) ∷ goes (enter 1 []) ∷ goes (begins 6 []) ∷ goes (enter 0 []) ∷ makes 2 (blocked (w.Enter 1 1)) ∷ makes 2 (cross 1 2 0) ∷ makes 2 (enters 1 1) ∷ makes 2 (walk.at 1 (1 ∷ [])) ∷ makes 2 (enters 3 1) ∷ makes 2 (walk.at 3 (1 ∷ [])) ∷ goes (begins 3 []) ∷ goes (made 3 (read 0 (pos 1))) ∷ goes (made 3 (write 0 (pos 2))) ∷ goes (done 3) ∷ goes (out 0) ∷ makes 2 (back) ∷ makes 2 (leave 1 1) ∷ makes 2 (leave 3 1) ∷ goes (done 6) ∷ goes (out 1) ∷ goes (made 5 end) ∷ [])
 
 pub part_r8_2 : IsPart program_r8 (plans_of commands_r8) own_r8_2
@@ -190,14 +190,14 @@ part_r8_2 = record {
   taken = refl;
 }
 
-abbrev pub point_r8_0 : List Step
+abbrev pub point_r8_0 : List PartStep
 point_r8_0 = (goes (made 8 begin) ∷ goes (enter 2 (((codes "t"), (pos 0)) ∷ ((codes "i"), (pos 0)) ∷ [])) ∷ goes (begins 9 (((codes "t"), (pos 0)) ∷ ((codes "i"), (pos 0)) ∷ [])) ∷ goes (made 9 (spawn 2 1 [])) ∷ goes (done 9) ∷ goes (begins 10 (((codes "t"), (pos 2)) ∷ ((codes "i"), (pos 0)) ∷ [])) ∷ goes (enter 0 []) ∷ makes 2 (enters 1 1) ∷ makes 2 (walk.at 1 (1 ∷ [])) ∷ goes (begins 3 []) ∷ goes (made 3 (read 0 (pos 0))) ∷ goes (made 3 (write 0 (pos 1))) ∷ goes (done 3) ∷ goes (out 0) ∷ makes 2 (back) ∷ makes 2 (leave 1 1) ∷ goes (done 10) ∷ goes (begins 11 (((codes "t"), (pos 2)) ∷ ((codes "i"), (pos 0)) ∷ [])) ∷ goes (done 11) ∷ goes (begins 12 (((codes "t"), (pos 2)) ∷ ((codes "i"), (pos 0)) ∷ [])) ∷ goes (begins 13 (((codes "t"), (pos 2)) ∷ ((codes "i"), (pos 0)) ∷ [])) ∷ goes (done 13) ∷ [])
 
 pub woven_point_r8_0 : AreWoven program_r8 (plans_of commands_r8) (unborn (record { number = 1; active = (1 ∷ []) } ∷ [])) point_r8_0 ((edge 12) ∷ [])
 woven_point_r8_0 = ((refl, tt), (refl, (refl, (refl, (refl, (refl, (refl, (refl, (refl, (refl, (refl, (refl, (refl, (refl, (refl, (refl, (refl, (refl, (refl, (refl, (refl, (refl, tt))))))))))))))))))))))
 
 abbrev pub led_r8_0 : Walk
-led_r8_0 = walked program_r8 (plans_of commands_r8) (unborn (record { number = 1; active = (1 ∷ []) } ∷ [])) point_r8_0
+led_r8_0 = walk_from program_r8 (plans_of commands_r8) (unborn (record { number = 1; active = (1 ∷ []) } ∷ [])) point_r8_0
 
 pub stands_r8_0 : place_of_next led_r8_0 (Walk.owed led_r8_0) ((edge 12) ∷ []) ≡ Some (place.back_edge 12)
 stands_r8_0 = refl
@@ -205,14 +205,14 @@ stands_r8_0 = refl
 pub number_r8_0 : place_number program_r8 (place.back_edge 12) ≡ 12
 number_r8_0 = refl
 
-abbrev pub point_r8_1 : List Step
+abbrev pub point_r8_1 : List PartStep
 point_r8_1 = (goes (made 8 begin) ∷ goes (enter 2 (((codes "t"), (pos 0)) ∷ ((codes "i"), (pos 0)) ∷ [])) ∷ goes (begins 9 (((codes "t"), (pos 0)) ∷ ((codes "i"), (pos 0)) ∷ [])) ∷ goes (made 9 (spawn 2 1 [])) ∷ goes (done 9) ∷ goes (begins 10 (((codes "t"), (pos 2)) ∷ ((codes "i"), (pos 0)) ∷ [])) ∷ goes (enter 0 []) ∷ makes 2 (enters 1 1) ∷ makes 2 (walk.at 1 (1 ∷ [])) ∷ goes (begins 3 []) ∷ goes (made 3 (read 0 (pos 0))) ∷ goes (made 3 (write 0 (pos 1))) ∷ goes (done 3) ∷ goes (out 0) ∷ makes 2 (back) ∷ makes 2 (leave 1 1) ∷ goes (done 10) ∷ goes (begins 11 (((codes "t"), (pos 2)) ∷ ((codes "i"), (pos 0)) ∷ [])) ∷ goes (done 11) ∷ goes (begins 12 (((codes "t"), (pos 2)) ∷ ((codes "i"), (pos 0)) ∷ [])) ∷ goes (begins 13 (((codes "t"), (pos 2)) ∷ ((codes "i"), (pos 0)) ∷ [])) ∷ goes (done 13) ∷ goes (edge 12) ∷ goes (begins 13 (((codes "t"), (pos 2)) ∷ ((codes "i"), (pos 1)) ∷ [])) ∷ goes (done 13) ∷ [])
 
 pub woven_point_r8_1 : AreWoven program_r8 (plans_of commands_r8) (unborn (record { number = 1; active = (1 ∷ []) } ∷ [])) point_r8_1 ((edge 12) ∷ [])
 woven_point_r8_1 = ((refl, tt), (refl, (refl, (refl, (refl, (refl, (refl, (refl, (refl, (refl, (refl, (refl, (refl, (refl, (refl, (refl, (refl, (refl, (refl, (refl, (refl, (refl, (refl, (refl, (refl, tt)))))))))))))))))))))))))
 
 abbrev pub led_r8_1 : Walk
-led_r8_1 = walked program_r8 (plans_of commands_r8) (unborn (record { number = 1; active = (1 ∷ []) } ∷ [])) point_r8_1
+led_r8_1 = walk_from program_r8 (plans_of commands_r8) (unborn (record { number = 1; active = (1 ∷ []) } ∷ [])) point_r8_1
 
 pub stands_r8_1 : place_of_next led_r8_1 (Walk.owed led_r8_1) ((edge 12) ∷ []) ≡ Some (place.back_edge 12)
 stands_r8_1 = refl
@@ -220,14 +220,14 @@ stands_r8_1 = refl
 pub number_r8_1 : place_number program_r8 (place.back_edge 12) ≡ 12
 number_r8_1 = refl
 
-abbrev pub point_r8_2 : List Step
+abbrev pub point_r8_2 : List PartStep
 point_r8_2 = (goes (made 8 begin) ∷ goes (enter 2 (((codes "t"), (pos 0)) ∷ ((codes "i"), (pos 0)) ∷ [])) ∷ goes (begins 9 (((codes "t"), (pos 0)) ∷ ((codes "i"), (pos 0)) ∷ [])) ∷ goes (made 9 (spawn 2 1 [])) ∷ goes (done 9) ∷ goes (begins 10 (((codes "t"), (pos 2)) ∷ ((codes "i"), (pos 0)) ∷ [])) ∷ goes (enter 0 []) ∷ makes 2 (enters 1 1) ∷ makes 2 (walk.at 1 (1 ∷ [])) ∷ goes (begins 3 []) ∷ goes (made 3 (read 0 (pos 0))) ∷ goes (made 3 (write 0 (pos 1))) ∷ goes (done 3) ∷ goes (out 0) ∷ makes 2 (back) ∷ makes 2 (leave 1 1) ∷ goes (done 10) ∷ goes (begins 11 (((codes "t"), (pos 2)) ∷ ((codes "i"), (pos 0)) ∷ [])) ∷ goes (done 11) ∷ goes (begins 12 (((codes "t"), (pos 2)) ∷ ((codes "i"), (pos 0)) ∷ [])) ∷ goes (begins 13 (((codes "t"), (pos 2)) ∷ ((codes "i"), (pos 0)) ∷ [])) ∷ goes (done 13) ∷ goes (edge 12) ∷ goes (begins 13 (((codes "t"), (pos 2)) ∷ ((codes "i"), (pos 1)) ∷ [])) ∷ goes (done 13) ∷ goes (edge 12) ∷ goes (done 12) ∷ goes (begins 15 (((codes "t"), (pos 2)) ∷ ((codes "i"), (pos 2)) ∷ [])) ∷ [])
 
 pub woven_point_r8_2 : AreWoven program_r8 (plans_of commands_r8) (unborn (record { number = 1; active = (1 ∷ []) } ∷ [])) point_r8_2 ((made 15 (join 2)) ∷ [])
 woven_point_r8_2 = ((refl, tt), (refl, (refl, (refl, (refl, (refl, (refl, (refl, (refl, (refl, (refl, (refl, (refl, (refl, (refl, (refl, (refl, (refl, (refl, (refl, (refl, (refl, (refl, (refl, (refl, (refl, (refl, (refl, tt))))))))))))))))))))))))))))
 
 abbrev pub led_r8_2 : Walk
-led_r8_2 = walked program_r8 (plans_of commands_r8) (unborn (record { number = 1; active = (1 ∷ []) } ∷ [])) point_r8_2
+led_r8_2 = walk_from program_r8 (plans_of commands_r8) (unborn (record { number = 1; active = (1 ∷ []) } ∷ [])) point_r8_2
 
 pub stands_r8_2 : place_of_next led_r8_2 (Walk.owed led_r8_2) ((made 15 (join 2)) ∷ []) ≡ Some (place.inside 15)
 stands_r8_2 = refl
@@ -235,14 +235,14 @@ stands_r8_2 = refl
 pub number_r8_2 : place_number program_r8 (place.inside 15) ≡ 14
 number_r8_2 = refl
 
-abbrev pub point_r8_3 : List Step
+abbrev pub point_r8_3 : List PartStep
 point_r8_3 = (goes (made 5 begin) ∷ goes (enter 1 []) ∷ goes (begins 6 []) ∷ goes (enter 0 []) ∷ makes 2 (blocked (w.Enter 1 1)) ∷ [])
 
 pub woven_point_r8_3 : AreWoven program_r8 (plans_of commands_r8) (unborn (record { number = 1; active = (1 ∷ []) } ∷ [])) point_r8_3 ((made 1 end) ∷ [])
 woven_point_r8_3 = ((refl, tt), (refl, (refl, (refl, (record { asks = refl; not_yet = refl }, tt)))))
 
 abbrev pub led_r8_3 : Walk
-led_r8_3 = walked program_r8 (plans_of commands_r8) (unborn (record { number = 1; active = (1 ∷ []) } ∷ [])) point_r8_3
+led_r8_3 = walk_from program_r8 (plans_of commands_r8) (unborn (record { number = 1; active = (1 ∷ []) } ∷ [])) point_r8_3
 
 pub stands_r8_3 : place_of_next led_r8_3 (Walk.owed led_r8_3) ((made 1 end) ∷ []) ≡ Some (place.entry 0)
 stands_r8_3 = refl
@@ -259,13 +259,13 @@ crosses_r8 = refl
 pub holds_r8 : check_holds commands_r8 [] journal_r8 ≡ true
 holds_r8 = refl
 
-pub takes_r8_1 : taken commands_r8 1 journal_r8 ≡ Own.versions own_r8_1
+pub takes_r8_1 : versions_of commands_r8 1 journal_r8 ≡ Own.versions own_r8_1
 takes_r8_1 = refl
 
 pub made_r8_1 : entries_of 1 journal_r8 ≡ Own.entries own_r8_1
 made_r8_1 = refl
 
-pub takes_r8_2 : taken commands_r8 2 journal_r8 ≡ Own.versions own_r8_2
+pub takes_r8_2 : versions_of commands_r8 2 journal_r8 ≡ Own.versions own_r8_2
 takes_r8_2 = refl
 
 pub made_r8_2 : entries_of 2 journal_r8 ≡ Own.entries own_r8_2
@@ -301,7 +301,7 @@ commands_r9 = (record { trigger = script.at 0; name = (codes "a"); action = inst
 abbrev pub own_r9_1 : Own
 own_r9_1 = record { thread = 1; func = 1; args = []; versions = (record { number = 1; active = (1 ∷ []) } ∷ record { number = 2; active = [] } ∷ []); entries = (e.Begin 1 6 ∷ e.Spawn 1 7 2 0 [] ∷ e.Blocked 1 10 (w.Wait 1 4) ∷ e.Cross 1 10 10 2 0 ∷ e.Print 1 10 (pos 0) ∷ e.Print 1 10 (pos 1) ∷ e.Print 1 10 (pos 2) ∷ e.Print 1 10 (pos 3) ∷ e.Print 1 10 (pos 4) ∷ e.Print 1 10 (pos 5) ∷ e.Up 1 13 0 ∷ e.Blocked 1 14 (w.Join 2) ∷ e.Join 1 14 2 ∷ e.End 1 6 ∷ []) }
 
-abbrev pub steps_r9_1 : List Step
+abbrev pub steps_r9_1 : List PartStep
 steps_r9_1 = (goes (made 6 begin) ∷ goes (enter 1 (((codes "t"), (pos 0)) ∷ ((codes "i"), (pos 0)) ∷ [])) ∷ goes (begins 7 (((codes "t"), (pos 0)) ∷ ((codes "i"), (pos 0)) ∷ [])) ∷ goes (made 7 (spawn 2 0 [])) ∷ goes (done 7) ∷ goes (begins 8 (((codes "t"), (pos 2)) ∷ ((codes "i"), (pos 0)) ∷ [])) ∷ goes (done 8) ∷ goes (begins 9 (((codes "t"), (pos 2)) ∷ ((codes "i"), (pos 0)) ∷ [])) ∷ goes (begins 10 (((codes "t"), (pos 2)) ∷ ((codes "i"), (pos 0)) ∷ [])) ∷ makes 10 (blocked (w.Wait 1 4)) ∷ makes 10 (cross 10 2 0) ∷ goes (made 10 (print (pos 0))) ∷ goes (done 10) ∷ goes (begins 11 (((codes "t"), (pos 2)) ∷ ((codes "i"), (pos 0)) ∷ [])) ∷ goes (done 11) ∷ goes (edge 9) ∷ goes (begins 10 (((codes "t"), (pos 2)) ∷ ((codes "i"), (pos 1)) ∷ [])) ∷ goes (made 10 (print (pos 1))) ∷ goes (done 10) ∷ goes (begins 11 (((codes "t"), (pos 2)) ∷ ((codes "i"), (pos 1)) ∷ [])) ∷ goes (done 11) ∷ goes (edge 9) ∷ goes (begins 10 (((codes "t"), (pos 2)) ∷ ((codes "i"), (pos 2)) ∷ [])) ∷ goes (made 10 (print (pos 2))) ∷ goes (done 10) ∷ goes (begins 11 (((codes "t"), (pos 2)) ∷ ((codes "i"), (pos 2)) ∷ [])) ∷ goes (done 11) ∷ goes (edge 9) ∷ goes (begins 10 (((codes "t"), (pos 2)) ∷ ((codes "i"), (pos 3)) ∷ [])) ∷ goes (made 10 (print (pos 3))) ∷ goes (done 10) ∷ goes (begins 11 (((codes "t"), (pos 2)) ∷ ((codes "i"), (pos 3)) ∷ [])) ∷ goes (done 11) ∷ goes (edge 9) ∷ goes (begins 10 (((codes "t"), (pos 2)) ∷ ((codes "i"), (pos 4)) ∷ [])) ∷ goes (made 10 (print (pos 4))) ∷ goes (done 10) ∷ goes (begins 11 (((codes "t"), (pos 2)) ∷ ((codes "i"), (pos 4)) ∷ [])) ∷ goes (done 11) ∷ goes (edge 9) ∷ goes (begins 10 (((codes "t"), (pos 2)) ∷ ((codes "i"), (pos 5)) ∷ [])) ∷ goes (made 10 (print (pos 5))) ∷ goes (done 10) ∷ goes (begins 11 (((codes "t"), (pos 2)) ∷ ((codes "i"), (pos 5)) ∷ [])) ∷ goes (done 11) ∷ goes (edge 9) ∷ goes (done 9) ∷ goes (begins 13 (((codes "t"), (pos 2)) ∷ ((codes "i"), (pos 6)) ∷ [])) ∷ goes (made 13 (up 0)) ∷ goes (done 13) ∷ goes (begins 14 (((codes "t"), (pos 2)) ∷ ((codes "i"), (pos 6)) ∷ [])) ∷ makes 14 (blocked (w.Join 2)) ∷ goes (made 14 (join 2)) ∷ goes (done 14) ∷ goes (out 1) ∷ goes (made 6 end) ∷ [])
 
 pub woven_r9_1 : AreWoven program_r9 (plans_of commands_r9) (unborn (Own.versions own_r9_1)) steps_r9_1 []
@@ -313,7 +313,7 @@ told_r9_1 = refl
 abbrev pub own_r9_2 : Own
 own_r9_2 = record { thread = 2; func = 0; args = []; versions = (record { number = 1; active = (1 ∷ []) } ∷ record { number = 2; active = [] } ∷ []); entries = (e.Begin 2 2 ∷ e.Enter 2 3 1 1 ∷ e.At 2 3 1 (1 ∷ 3 ∷ []) ∷ e.Blocked 2 3 (w.Down 0) ∷ e.Cross 2 3 2 2 0 ∷ e.Blocked 2 3 (w.Down 0) ∷ e.Down 2 3 0 ∷ e.Print 2 4 (pos 1) ∷ e.End 2 2 ∷ []) }
 
-abbrev pub steps_r9_2 : List Step
+abbrev pub steps_r9_2 : List PartStep
 steps_r9_2 = (goes (made 2 begin) ∷ goes (enter 0 []) ∷ goes (begins 3 []) ∷ makes 3 (enters 1 1) ∷ makes 3 (walk.at 1 (1 ∷ 3 ∷ [])) ∷ makes 3 (blocked (w.Down 0)) ∷ makes 3 (cross 2 2 0) ∷ makes 3 (blocked (w.Down 0)) ∷ goes (made 3 (down 0)) ∷ goes (done 3) ∷ goes (begins 4 []) ∷ goes (made 4 (print (pos 1))) ∷ goes (done 4) ∷ goes (out 0) ∷ goes (made 2 end) ∷ [])
 
 pub part_r9_2 : IsPart program_r9 (plans_of commands_r9) own_r9_2
@@ -327,14 +327,14 @@ part_r9_2 = record {
   taken = refl;
 }
 
-abbrev pub point_r9_0 : List Step
+abbrev pub point_r9_0 : List PartStep
 point_r9_0 = (goes (made 6 begin) ∷ goes (enter 1 (((codes "t"), (pos 0)) ∷ ((codes "i"), (pos 0)) ∷ [])) ∷ goes (begins 7 (((codes "t"), (pos 0)) ∷ ((codes "i"), (pos 0)) ∷ [])) ∷ goes (made 7 (spawn 2 0 [])) ∷ goes (done 7) ∷ goes (begins 8 (((codes "t"), (pos 2)) ∷ ((codes "i"), (pos 0)) ∷ [])) ∷ goes (done 8) ∷ goes (begins 9 (((codes "t"), (pos 2)) ∷ ((codes "i"), (pos 0)) ∷ [])) ∷ goes (begins 10 (((codes "t"), (pos 2)) ∷ ((codes "i"), (pos 0)) ∷ [])) ∷ makes 10 (blocked (w.Wait 1 4)) ∷ [])
 
 pub woven_point_r9_0 : AreWoven program_r9 (plans_of commands_r9) (unborn (record { number = 1; active = (1 ∷ []) } ∷ [])) point_r9_0 ((made 1 end) ∷ [])
 woven_point_r9_0 = ((refl, tt), (refl, (refl, (refl, (refl, (refl, (refl, (refl, (refl, (record { asks = refl; not_yet = refl }, tt))))))))))
 
 abbrev pub led_r9_0 : Walk
-led_r9_0 = walked program_r9 (plans_of commands_r9) (unborn (record { number = 1; active = (1 ∷ []) } ∷ [])) point_r9_0
+led_r9_0 = walk_from program_r9 (plans_of commands_r9) (unborn (record { number = 1; active = (1 ∷ []) } ∷ [])) point_r9_0
 
 pub stands_r9_0 : place_of_next led_r9_0 (Walk.owed led_r9_0) ((made 1 end) ∷ []) ≡ Some (place.inside 10)
 stands_r9_0 = refl
@@ -342,14 +342,14 @@ stands_r9_0 = refl
 pub number_r9_0 : place_number program_r9 (place.inside 10) ≡ 10
 number_r9_0 = refl
 
-abbrev pub point_r9_1 : List Step
+abbrev pub point_r9_1 : List PartStep
 point_r9_1 = (goes (made 2 begin) ∷ goes (enter 0 []) ∷ goes (begins 3 []) ∷ makes 3 (enters 1 1) ∷ makes 3 (walk.at 1 (1 ∷ 3 ∷ [])) ∷ makes 3 (blocked (w.Down 0)) ∷ [])
 
 pub woven_point_r9_1 : AreWoven program_r9 (plans_of commands_r9) (unborn (record { number = 1; active = (1 ∷ []) } ∷ [])) point_r9_1 ((made 3 (down 0)) ∷ [])
 woven_point_r9_1 = ((refl, tt), (refl, (refl, (refl, (refl, (record { asks = refl; not_yet = refl }, tt))))))
 
 abbrev pub led_r9_1 : Walk
-led_r9_1 = walked program_r9 (plans_of commands_r9) (unborn (record { number = 1; active = (1 ∷ []) } ∷ [])) point_r9_1
+led_r9_1 = walk_from program_r9 (plans_of commands_r9) (unborn (record { number = 1; active = (1 ∷ []) } ∷ [])) point_r9_1
 
 pub stands_r9_1 : place_of_next led_r9_1 (Walk.owed led_r9_1) ((made 3 (down 0)) ∷ []) ≡ Some (place.inside 3)
 stands_r9_1 = refl
@@ -366,13 +366,13 @@ crosses_r9 = refl
 pub holds_r9 : check_holds commands_r9 [] journal_r9 ≡ true
 holds_r9 = refl
 
-pub takes_r9_1 : taken commands_r9 1 journal_r9 ≡ Own.versions own_r9_1
+pub takes_r9_1 : versions_of commands_r9 1 journal_r9 ≡ Own.versions own_r9_1
 takes_r9_1 = refl
 
 pub made_r9_1 : entries_of 1 journal_r9 ≡ Own.entries own_r9_1
 made_r9_1 = refl
 
-pub takes_r9_2 : taken commands_r9 2 journal_r9 ≡ Own.versions own_r9_2
+pub takes_r9_2 : versions_of commands_r9 2 journal_r9 ≡ Own.versions own_r9_2
 takes_r9_2 = refl
 
 pub made_r9_2 : entries_of 2 journal_r9 ≡ Own.entries own_r9_2
@@ -406,7 +406,7 @@ commands_r10 = (record { trigger = script.at 5; name = (codes "a"); action = ins
 abbrev pub own_r10_1 : Own
 own_r10_1 = record { thread = 1; func = 1; args = []; versions = (record { number = 0; active = [] } ∷ record { number = 1; active = (1 ∷ []) } ∷ []); entries = (e.Begin 1 5 ∷ e.Spawn 1 6 2 0 [] ∷ e.Print 1 9 (pos 0) ∷ e.Cross 1 8 8 1 0 ∷ e.Print 1 9 (pos 1) ∷ e.Print 1 9 (pos 2) ∷ e.Print 1 9 (pos 3) ∷ e.Print 1 9 (pos 4) ∷ e.Enter 1 12 1 1 ∷ e.At 1 12 1 (1 ∷ 2 ∷ []) ∷ e.Up 1 12 0 ∷ e.Past 1 12 1 (1 ∷ 2 ∷ []) ∷ e.Leave 1 12 1 1 ∷ e.Join 1 13 2 ∷ e.End 1 5 ∷ []) }
 
-abbrev pub steps_r10_1 : List Step
+abbrev pub steps_r10_1 : List PartStep
 steps_r10_1 = (goes (made 5 begin) ∷ goes (enter 1 (((codes "t"), (pos 0)) ∷ ((codes "i"), (pos 0)) ∷ [])) ∷ goes (begins 6 (((codes "t"), (pos 0)) ∷ ((codes "i"), (pos 0)) ∷ [])) ∷ goes (made 6 (spawn 2 0 [])) ∷ goes (done 6) ∷ goes (begins 7 (((codes "t"), (pos 2)) ∷ ((codes "i"), (pos 0)) ∷ [])) ∷ goes (done 7) ∷ goes (begins 8 (((codes "t"), (pos 2)) ∷ ((codes "i"), (pos 0)) ∷ [])) ∷ goes (begins 9 (((codes "t"), (pos 2)) ∷ ((codes "i"), (pos 0)) ∷ [])) ∷ goes (made 9 (print (pos 0))) ∷ goes (done 9) ∷ goes (begins 10 (((codes "t"), (pos 2)) ∷ ((codes "i"), (pos 0)) ∷ [])) ∷ goes (done 10) ∷ makes 8 (cross 8 1 0) ∷ goes (edge 8) ∷ goes (begins 9 (((codes "t"), (pos 2)) ∷ ((codes "i"), (pos 1)) ∷ [])) ∷ goes (made 9 (print (pos 1))) ∷ goes (done 9) ∷ goes (begins 10 (((codes "t"), (pos 2)) ∷ ((codes "i"), (pos 1)) ∷ [])) ∷ goes (done 10) ∷ goes (edge 8) ∷ goes (begins 9 (((codes "t"), (pos 2)) ∷ ((codes "i"), (pos 2)) ∷ [])) ∷ goes (made 9 (print (pos 2))) ∷ goes (done 9) ∷ goes (begins 10 (((codes "t"), (pos 2)) ∷ ((codes "i"), (pos 2)) ∷ [])) ∷ goes (done 10) ∷ goes (edge 8) ∷ goes (begins 9 (((codes "t"), (pos 2)) ∷ ((codes "i"), (pos 3)) ∷ [])) ∷ goes (made 9 (print (pos 3))) ∷ goes (done 9) ∷ goes (begins 10 (((codes "t"), (pos 2)) ∷ ((codes "i"), (pos 3)) ∷ [])) ∷ goes (done 10) ∷ goes (edge 8) ∷ goes (begins 9 (((codes "t"), (pos 2)) ∷ ((codes "i"), (pos 4)) ∷ [])) ∷ goes (made 9 (print (pos 4))) ∷ goes (done 9) ∷ goes (begins 10 (((codes "t"), (pos 2)) ∷ ((codes "i"), (pos 4)) ∷ [])) ∷ goes (done 10) ∷ goes (edge 8) ∷ goes (done 8) ∷ goes (begins 12 (((codes "t"), (pos 2)) ∷ ((codes "i"), (pos 5)) ∷ [])) ∷ makes 12 (enters 1 1) ∷ makes 12 (walk.at 1 (1 ∷ 2 ∷ [])) ∷ goes (made 12 (up 0)) ∷ goes (done 12) ∷ makes 12 (walk.past 1 (1 ∷ 2 ∷ [])) ∷ makes 12 (leave 1 1) ∷ goes (begins 13 (((codes "t"), (pos 2)) ∷ ((codes "i"), (pos 5)) ∷ [])) ∷ goes (made 13 (join 2)) ∷ goes (done 13) ∷ goes (out 1) ∷ goes (made 5 end) ∷ [])
 
 pub woven_r10_1 : AreWoven program_r10 (plans_of commands_r10) (unborn (Own.versions own_r10_1)) steps_r10_1 []
@@ -418,7 +418,7 @@ told_r10_1 = refl
 abbrev pub own_r10_2 : Own
 own_r10_2 = record { thread = 2; func = 0; args = []; versions = (record { number = 0; active = [] } ∷ record { number = 1; active = (1 ∷ []) } ∷ []); entries = (e.Begin 2 2 ∷ e.Blocked 2 3 (w.Down 0) ∷ e.Cross 2 3 2 1 0 ∷ e.Blocked 2 3 (w.Down 0) ∷ e.Down 2 3 0 ∷ e.End 2 2 ∷ []) }
 
-abbrev pub steps_r10_2 : List Step
+abbrev pub steps_r10_2 : List PartStep
 steps_r10_2 = (goes (made 2 begin) ∷ goes (enter 0 []) ∷ goes (begins 3 []) ∷ makes 3 (blocked (w.Down 0)) ∷ makes 3 (cross 2 1 0) ∷ makes 3 (blocked (w.Down 0)) ∷ goes (made 3 (down 0)) ∷ goes (done 3) ∷ goes (out 0) ∷ goes (made 2 end) ∷ [])
 
 pub part_r10_2 : IsPart program_r10 (plans_of commands_r10) own_r10_2
@@ -432,14 +432,14 @@ part_r10_2 = record {
   taken = refl;
 }
 
-abbrev pub point_r10_0 : List Step
+abbrev pub point_r10_0 : List PartStep
 point_r10_0 = (goes (made 5 begin) ∷ goes (enter 1 (((codes "t"), (pos 0)) ∷ ((codes "i"), (pos 0)) ∷ [])) ∷ goes (begins 6 (((codes "t"), (pos 0)) ∷ ((codes "i"), (pos 0)) ∷ [])) ∷ goes (made 6 (spawn 2 0 [])) ∷ goes (done 6) ∷ goes (begins 7 (((codes "t"), (pos 2)) ∷ ((codes "i"), (pos 0)) ∷ [])) ∷ goes (done 7) ∷ goes (begins 8 (((codes "t"), (pos 2)) ∷ ((codes "i"), (pos 0)) ∷ [])) ∷ goes (begins 9 (((codes "t"), (pos 2)) ∷ ((codes "i"), (pos 0)) ∷ [])) ∷ goes (made 9 (print (pos 0))) ∷ goes (done 9) ∷ goes (begins 10 (((codes "t"), (pos 2)) ∷ ((codes "i"), (pos 0)) ∷ [])) ∷ goes (done 10) ∷ [])
 
 pub woven_point_r10_0 : AreWoven program_r10 (plans_of commands_r10) (unborn (record { number = 0; active = [] } ∷ [])) point_r10_0 ((edge 8) ∷ [])
 woven_point_r10_0 = ((refl, tt), (refl, (refl, (refl, (refl, (refl, (refl, (refl, (refl, (refl, (refl, (refl, (refl, tt)))))))))))))
 
 abbrev pub led_r10_0 : Walk
-led_r10_0 = walked program_r10 (plans_of commands_r10) (unborn (record { number = 0; active = [] } ∷ [])) point_r10_0
+led_r10_0 = walk_from program_r10 (plans_of commands_r10) (unborn (record { number = 0; active = [] } ∷ [])) point_r10_0
 
 pub stands_r10_0 : place_of_next led_r10_0 (Walk.owed led_r10_0) ((edge 8) ∷ []) ≡ Some (place.back_edge 8)
 stands_r10_0 = refl
@@ -447,14 +447,14 @@ stands_r10_0 = refl
 pub number_r10_0 : place_number program_r10 (place.back_edge 8) ≡ 8
 number_r10_0 = refl
 
-abbrev pub point_r10_1 : List Step
+abbrev pub point_r10_1 : List PartStep
 point_r10_1 = (goes (made 5 begin) ∷ goes (enter 1 (((codes "t"), (pos 0)) ∷ ((codes "i"), (pos 0)) ∷ [])) ∷ goes (begins 6 (((codes "t"), (pos 0)) ∷ ((codes "i"), (pos 0)) ∷ [])) ∷ goes (made 6 (spawn 2 0 [])) ∷ goes (done 6) ∷ goes (begins 7 (((codes "t"), (pos 2)) ∷ ((codes "i"), (pos 0)) ∷ [])) ∷ goes (done 7) ∷ goes (begins 8 (((codes "t"), (pos 2)) ∷ ((codes "i"), (pos 0)) ∷ [])) ∷ goes (begins 9 (((codes "t"), (pos 2)) ∷ ((codes "i"), (pos 0)) ∷ [])) ∷ goes (made 9 (print (pos 0))) ∷ goes (done 9) ∷ goes (begins 10 (((codes "t"), (pos 2)) ∷ ((codes "i"), (pos 0)) ∷ [])) ∷ goes (done 10) ∷ goes (edge 8) ∷ goes (begins 9 (((codes "t"), (pos 2)) ∷ ((codes "i"), (pos 1)) ∷ [])) ∷ [])
 
 pub woven_point_r10_1 : AreWoven program_r10 (plans_of commands_r10) (unborn (record { number = 0; active = [] } ∷ [])) point_r10_1 ((made 9 (print (pos 1))) ∷ [])
 woven_point_r10_1 = ((refl, tt), (refl, (refl, (refl, (refl, (refl, (refl, (refl, (refl, (refl, (refl, (refl, (refl, (refl, (refl, tt)))))))))))))))
 
 abbrev pub led_r10_1 : Walk
-led_r10_1 = walked program_r10 (plans_of commands_r10) (unborn (record { number = 0; active = [] } ∷ [])) point_r10_1
+led_r10_1 = walk_from program_r10 (plans_of commands_r10) (unborn (record { number = 0; active = [] } ∷ [])) point_r10_1
 
 pub stands_r10_1 : place_of_next led_r10_1 (Walk.owed led_r10_1) ((made 9 (print (pos 1))) ∷ []) ≡ Some (place.inside 9)
 stands_r10_1 = refl
@@ -462,14 +462,14 @@ stands_r10_1 = refl
 pub number_r10_1 : place_number program_r10 (place.inside 9) ≡ 9
 number_r10_1 = refl
 
-abbrev pub point_r10_2 : List Step
+abbrev pub point_r10_2 : List PartStep
 point_r10_2 = (goes (made 2 begin) ∷ goes (enter 0 []) ∷ goes (begins 3 []) ∷ makes 3 (blocked (w.Down 0)) ∷ [])
 
 pub woven_point_r10_2 : AreWoven program_r10 (plans_of commands_r10) (unborn (record { number = 0; active = [] } ∷ [])) point_r10_2 ((made 3 (down 0)) ∷ [])
 woven_point_r10_2 = ((refl, tt), (refl, (refl, (record { asks = refl; not_yet = refl }, tt))))
 
 abbrev pub led_r10_2 : Walk
-led_r10_2 = walked program_r10 (plans_of commands_r10) (unborn (record { number = 0; active = [] } ∷ [])) point_r10_2
+led_r10_2 = walk_from program_r10 (plans_of commands_r10) (unborn (record { number = 0; active = [] } ∷ [])) point_r10_2
 
 pub stands_r10_2 : place_of_next led_r10_2 (Walk.owed led_r10_2) ((made 3 (down 0)) ∷ []) ≡ Some (place.inside 3)
 stands_r10_2 = refl
@@ -486,13 +486,13 @@ crosses_r10 = refl
 pub holds_r10 : check_holds commands_r10 [] journal_r10 ≡ true
 holds_r10 = refl
 
-pub takes_r10_1 : taken commands_r10 1 journal_r10 ≡ Own.versions own_r10_1
+pub takes_r10_1 : versions_of commands_r10 1 journal_r10 ≡ Own.versions own_r10_1
 takes_r10_1 = refl
 
 pub made_r10_1 : entries_of 1 journal_r10 ≡ Own.entries own_r10_1
 made_r10_1 = refl
 
-pub takes_r10_2 : taken commands_r10 2 journal_r10 ≡ Own.versions own_r10_2
+pub takes_r10_2 : versions_of commands_r10 2 journal_r10 ≡ Own.versions own_r10_2
 takes_r10_2 = refl
 
 pub made_r10_2 : entries_of 2 journal_r10 ≡ Own.entries own_r10_2
@@ -522,7 +522,7 @@ commands_r11 = (record { trigger = script.at 0; name = (codes "a"); action = ins
 abbrev pub own_r11_1 : Own
 own_r11_1 = record { thread = 1; func = 1; args = []; versions = (record { number = 2; active = (1 ∷ 2 ∷ []) } ∷ []); entries = (e.Begin 1 7 ∷ e.Enter 1 2 1 2 ∷ e.At 1 2 1 (3 ∷ []) ∷ e.Enter 1 3 1 1 ∷ e.At 1 3 1 (1 ∷ []) ∷ e.Write 1 3 0 (pos 1) ∷ e.Past 1 3 1 (1 ∷ []) ∷ e.Enter 1 4 2 1 ∷ e.At 1 4 2 (1 ∷ 2 ∷ []) ∷ e.Trap 1 4 1 ∷ e.Leave 1 4 1 1 ∷ e.Leave 1 4 1 2 ∷ e.Leave 1 4 2 1 ∷ e.End 1 7 ∷ []) }
 
-abbrev pub steps_r11_1 : List Step
+abbrev pub steps_r11_1 : List PartStep
 steps_r11_1 = (goes (made 7 begin) ∷ goes (enter 1 []) ∷ goes (begins 8 []) ∷ goes (enter 0 []) ∷ makes 2 (enters 1 2) ∷ makes 2 (walk.at 1 (3 ∷ [])) ∷ goes (begins 3 []) ∷ makes 3 (enters 1 1) ∷ makes 3 (walk.at 1 (1 ∷ [])) ∷ goes (made 3 (write 0 (pos 1))) ∷ goes (done 3) ∷ makes 3 (walk.past 1 (1 ∷ [])) ∷ goes (begins 4 []) ∷ makes 4 (enters 2 1) ∷ makes 4 (walk.at 2 (1 ∷ 2 ∷ [])) ∷ goes (made 4 (trap division)) ∷ makes 4 (leave 1 1) ∷ makes 4 (leave 1 2) ∷ makes 4 (leave 2 1) ∷ goes (made 7 end) ∷ [])
 
 pub part_r11_1 : IsPart program_r11 (plans_of commands_r11) own_r11_1
@@ -545,7 +545,7 @@ crosses_r11 = refl
 pub holds_r11 : check_holds commands_r11 [] journal_r11 ≡ true
 holds_r11 = refl
 
-pub takes_r11_1 : taken commands_r11 1 journal_r11 ≡ Own.versions own_r11_1
+pub takes_r11_1 : versions_of commands_r11 1 journal_r11 ≡ Own.versions own_r11_1
 takes_r11_1 = refl
 
 pub made_r11_1 : entries_of 1 journal_r11 ≡ Own.entries own_r11_1
@@ -575,7 +575,7 @@ commands_r12 = (record { trigger = script.at 0; name = (codes "a"); action = ins
 abbrev pub own_r12_1 : Own
 own_r12_1 = record { thread = 1; func = 1; args = []; versions = (record { number = 2; active = (1 ∷ 2 ∷ []) } ∷ []); entries = (e.Begin 1 6 ∷ e.Print 1 7 (pos 1) ∷ e.Enter 1 2 1 1 ∷ e.At 1 2 1 (1 ∷ []) ∷ e.Enter 1 2 2 2 ∷ e.At 1 2 2 (3 ∷ []) ∷ e.Enter 1 3 1 2 ∷ e.At 1 3 1 (2 ∷ []) ∷ e.Enter 1 3 2 1 ∷ e.At 1 3 2 (1 ∷ []) ∷ e.Write 1 3 0 (pos 1) ∷ e.Past 1 3 1 (2 ∷ []) ∷ e.Past 1 3 2 (1 ∷ []) ∷ e.At 1 4 1 (3 ∷ []) ∷ e.Read 1 4 0 (pos 1) ∷ e.Past 1 4 1 (3 ∷ []) ∷ e.Leave 1 4 1 2 ∷ e.Back 1 2 ∷ e.Leave 1 2 1 1 ∷ e.Leave 1 2 2 1 ∷ e.Leave 1 2 2 2 ∷ e.End 1 6 ∷ []) }
 
-abbrev pub steps_r12_1 : List Step
+abbrev pub steps_r12_1 : List PartStep
 steps_r12_1 = (goes (made 6 begin) ∷ goes (enter 1 []) ∷ goes (begins 7 []) ∷ goes (made 7 (print (pos 1))) ∷ goes (done 7) ∷ goes (begins 8 []) ∷ goes (enter 0 []) ∷ makes 2 (enters 1 1) ∷ makes 2 (walk.at 1 (1 ∷ [])) ∷ makes 2 (enters 2 2) ∷ makes 2 (walk.at 2 (3 ∷ [])) ∷ goes (begins 3 []) ∷ makes 3 (enters 1 2) ∷ makes 3 (walk.at 1 (2 ∷ [])) ∷ makes 3 (enters 2 1) ∷ makes 3 (walk.at 2 (1 ∷ [])) ∷ goes (made 3 (write 0 (pos 1))) ∷ goes (done 3) ∷ makes 3 (walk.past 1 (2 ∷ [])) ∷ makes 3 (walk.past 2 (1 ∷ [])) ∷ goes (begins 4 []) ∷ makes 4 (walk.at 1 (3 ∷ [])) ∷ goes (made 4 (read 0 (pos 1))) ∷ goes (done 4) ∷ makes 4 (walk.past 1 (3 ∷ [])) ∷ makes 4 (leave 1 2) ∷ goes (out 0) ∷ makes 2 (back) ∷ makes 2 (leave 1 1) ∷ makes 2 (leave 2 1) ∷ makes 2 (leave 2 2) ∷ goes (done 8) ∷ goes (out 1) ∷ goes (made 6 end) ∷ [])
 
 pub woven_r12_1 : AreWoven program_r12 (plans_of commands_r12) (unborn (Own.versions own_r12_1)) steps_r12_1 []
@@ -593,7 +593,7 @@ crosses_r12 = refl
 pub holds_r12 : check_holds commands_r12 [] journal_r12 ≡ true
 holds_r12 = refl
 
-pub takes_r12_1 : taken commands_r12 1 journal_r12 ≡ Own.versions own_r12_1
+pub takes_r12_1 : versions_of commands_r12 1 journal_r12 ≡ Own.versions own_r12_1
 takes_r12_1 = refl
 
 pub made_r12_1 : entries_of 1 journal_r12 ≡ Own.entries own_r12_1
@@ -619,7 +619,7 @@ commands_r13 = (record { trigger = script.at 0; name = (codes "a"); action = ins
 abbrev pub own_r13_1 : Own
 own_r13_1 = record { thread = 1; func = 0; args = []; versions = (record { number = 1; active = (1 ∷ []) } ∷ []); entries = (e.Begin 1 2 ∷ e.At 1 3 1 (1 ∷ []) ∷ e.Write 1 3 0 (pos 1) ∷ e.Past 1 3 1 (1 ∷ []) ∷ e.Post 1 3 1 1 ∷ e.Enter 1 4 1 2 ∷ e.At 1 4 1 (3 ∷ 5 ∷ []) ∷ e.Write 1 4 0 (pos 2) ∷ e.Past 1 4 1 (3 ∷ 5 ∷ []) ∷ e.Post 1 4 1 5 ∷ e.Wait 1 5 1 2 ∷ e.Wait 1 5 1 6 ∷ e.Enter 1 5 1 4 ∷ e.At 1 5 1 (2 ∷ 4 ∷ 6 ∷ 7 ∷ 8 ∷ []) ∷ e.Write 1 5 0 (pos 3) ∷ e.Past 1 5 1 (2 ∷ 4 ∷ 6 ∷ 7 ∷ 8 ∷ []) ∷ e.Leave 1 5 1 2 ∷ e.Leave 1 5 1 4 ∷ e.End 1 2 ∷ []) }
 
-abbrev pub steps_r13_1 : List Step
+abbrev pub steps_r13_1 : List PartStep
 steps_r13_1 = (goes (made 2 begin) ∷ goes (enter 0 []) ∷ goes (begins 3 []) ∷ makes 3 (walk.at 1 (1 ∷ [])) ∷ goes (made 3 (write 0 (pos 1))) ∷ goes (done 3) ∷ makes 3 (walk.past 1 (1 ∷ [])) ∷ makes 3 (post 1 1) ∷ goes (begins 4 []) ∷ makes 4 (enters 1 2) ∷ makes 4 (walk.at 1 (3 ∷ 5 ∷ [])) ∷ goes (made 4 (write 0 (pos 2))) ∷ goes (done 4) ∷ makes 4 (walk.past 1 (3 ∷ 5 ∷ [])) ∷ makes 4 (post 1 5) ∷ goes (begins 5 []) ∷ makes 5 (wait 1 2) ∷ makes 5 (wait 1 6) ∷ makes 5 (enters 1 4) ∷ makes 5 (walk.at 1 (2 ∷ 4 ∷ 6 ∷ 7 ∷ 8 ∷ [])) ∷ goes (made 5 (write 0 (pos 3))) ∷ goes (done 5) ∷ makes 5 (walk.past 1 (2 ∷ 4 ∷ 6 ∷ 7 ∷ 8 ∷ [])) ∷ makes 5 (leave 1 2) ∷ makes 5 (leave 1 4) ∷ goes (out 0) ∷ goes (made 2 end) ∷ [])
 
 pub part_r13_1 : IsPart program_r13 (plans_of commands_r13) own_r13_1
@@ -642,7 +642,7 @@ crosses_r13 = refl
 pub holds_r13 : check_holds commands_r13 [] journal_r13 ≡ true
 holds_r13 = refl
 
-pub takes_r13_1 : taken commands_r13 1 journal_r13 ≡ Own.versions own_r13_1
+pub takes_r13_1 : versions_of commands_r13 1 journal_r13 ≡ Own.versions own_r13_1
 takes_r13_1 = refl
 
 pub made_r13_1 : entries_of 1 journal_r13 ≡ Own.entries own_r13_1

@@ -12,8 +12,8 @@ use Rattle.loom_lang.specs.Trace.{Act, begin, end, trap, read, write, lock, unlo
 use Rattle.loom_event.specs.Event.{entry_by}
 use Rattle.loom_law.specs.Walk.{tick_after}
 use Rattle.loom_law.specs.Filter.{statement, function, clauses}
-use Rattle.loom_law.specs.Walk.{Version, Plans, Operation, wait, enters, at, past, post, leave, back, tick, cross, blocked, Step, goes, makes, told, entry_of_operation, Inside, OpenFrame, Spot, elsewhere, beginning, entered, complete, left, trapped, Queue, Walk, unborn, holds, all_inside, is_left_with, completed, in_frame, opened, closed, without_first, inside_first, function_line, with_tick, taking, behind_entry, after_item, noted_at, begun_at, entered_regions, without_clause, left_behind, after_operation, walked, all_leaves, with_back, without_filters, frames_without, spot_without, new_filters, owed_fresh, owed_behind_cross, crossing, begun_with, MayStand, AreWoven}
-use Rattle.loom_law.specs.Part.{leaving, is_inside}
+use Rattle.loom_law.specs.Walk.{Version, Plans, Operation, wait, enters, at, past, post, leave, back, tick, cross, blocked, PartStep, goes, makes, told, entry_of_operation, Inside, OpenFrame, Spot, elsewhere, beginning, entered, complete, left, trapped, Queue, Walk, unborn, holds, all_inside, is_left_with, completed, in_frame, opened, closed, without_first, inside_first, function_line, with_tick, taking, behind_entry, after_item, noted_at, begun_at, entered_regions, without_clause, left_behind, after_operation, walk_from, all_leaves, with_back, without_filters, frames_without, spot_without, new_filters, owed_fresh, owed_behind_cross, crossing, begun_with, MayStand, AreWoven}
+use Rattle.loom_law.specs.ThreadPart.{leaving, is_inside}
 use Rattle.loom_law.specs.Laws.{HasHeldRegions}
 use Rattle.loom_law.proofs.Cross.{held_in, each_in, all_held_in, kept_safe}
 use Rattle.loom_law.proofs.Holdings.{pick, held_append, HeldAll, HeldEach, AllHeld, UnderEach, Safe, in_first, safe_now, safe_op, safe_needs, Covers, beginning_safe, behind_safe, all_leaves_safe, back_safe, within_frames}
@@ -195,19 +195,19 @@ op_good p plans z l (cross x v n) rest m h = crossing_good p plans z z.coming h
 op_good p plans z l (blocked w) rest m h = h
 
 -- whether a step takes a new version
-abbrev pub crosses : Step → Bool
+abbrev pub crosses : PartStep → Bool
 crosses (goes i) = false
 crosses (makes l o) = is_crossing o
 
-abbrev pub NoneCross : List Step → Type 0
+abbrev pub NoneCross : List PartStep → Type 0
 NoneCross [] = Unit {0}
 NoneCross (s ∷ ss) = (crosses s ≡ false) × NoneCross ss
 
 rests : (plans : Plans) (z : Walk) → Good plans z → Rests z
 rests plans z h = ((safe_now plans z.held (insides z.frames) (leaving z.spot) z.owed h).0, none_held z.held)
 
-pub walk_good : (p : Source) (plans : Plans) (z : Walk) (ss : List Step) (ahead : List Item) → AreWoven p plans z ss ahead → Good plans z
-    → Good plans (walked p plans z ss)
+pub walk_good : (p : Source) (plans : Plans) (z : Walk) (ss : List PartStep) (ahead : List Item) → AreWoven p plans z ss ahead → Good plans z
+    → Good plans (walk_from p plans z ss)
 walk_good p plans z [] ahead w h = h
 walk_good p plans z (goes i ∷ ss) ahead w h =
     walk_good p plans (after_item p plans z i) ss ahead w.1 (item_good p plans z i (owed_none p z i _ w.0) (rests plans z h))
@@ -230,7 +230,7 @@ inside_held plans z k c h m =
 -- The law: at each point of a full part a thread holds each clause whose regions it is inside.
 pub inside_is_held : HasHeldRegions
 inside_is_held p plans x k c h =
-    inside_held plans (walked p plans (unborn x.versions) h.part.steps) k c
+    inside_held plans (walk_from p plans (unborn x.versions) h.part.steps) k c
     (walk_good p plans (unborn x.versions) h.part.steps h.part.ahead h.part.woven (good_start plans x.versions)) h.is
 
 -- What it holds is told by its entries
@@ -288,7 +288,7 @@ op_told p plans z t l (tick x) c = refl
 op_told p plans z t l (cross x v n) c = cc
 op_told p plans z t l (blocked w) c = refl
 
-pub held_told : (p : Source) (plans : Plans) (z : Walk) (t : ℕ) (ss : List Step) → NoneCross ss → Walk.held (walked p plans z ss) ≡ held_by z.held (told t ss)
+pub held_told : (p : Source) (plans : Plans) (z : Walk) (t : ℕ) (ss : List PartStep) → NoneCross ss → Walk.held (walk_from p plans z ss) ≡ held_by z.held (told t ss)
 held_told p plans z t [] c = refl
 held_told p plans z t (goes (made l a) ∷ ss) c =
     held_told p plans (after_item p plans z (made l a)) t ss c.1
@@ -336,7 +336,7 @@ act_cross t l (spawn c f vs) b h = h
 act_cross t l (join c) b h = h
 act_cross t l (print v) b h = h
 
-pub steps_cross : (t : ℕ) (ss : List Step) → none_cross (told t ss) ≡ true → NoneCross ss
+pub steps_cross : (t : ℕ) (ss : List PartStep) → none_cross (told t ss) ≡ true → NoneCross ss
 steps_cross t [] h = tt
 steps_cross t (goes (made l a) ∷ ss) h = (refl, steps_cross t ss (act_cross t l a _ h))
 steps_cross t (goes (begins l env) ∷ ss) h = (refl, steps_cross t ss h)
@@ -386,7 +386,7 @@ at_covered p plans z t l (tick x) rest m k ns s h is = cc
 at_covered p plans z t l (cross x v n) rest m k ns s h is = cc
 at_covered p plans z t l (blocked w) rest m k ns s h is = cc
 
-pub covered : (p : Source) (plans : Plans) (z : Walk) (t : ℕ) (ss : List Step) (ahead : List Item) (front : List Entry) (m k : ℕ) (ns : List ℕ) (rest : List Entry)
+pub covered : (p : Source) (plans : Plans) (z : Walk) (t : ℕ) (ss : List PartStep) (ahead : List Item) (front : List Entry) (m k : ℕ) (ns : List ℕ) (rest : List Entry)
     → NoneCross ss → AreWoven p plans z ss ahead → Good plans z → told t ss ≡ front ++ e.At t m k ns ∷ rest
     → Covers (held_by z.held front) k ns (clauses (plans k))
 covered p plans z t [] ahead [] m k ns rest c w h is = cc

@@ -17,10 +17,10 @@ use Rattle.loom_event.proofs.Runs as runs
 use Rattle.loom_event.proofs.Stops as stops
 use Rattle.loom_event.proofs.Shown.{event, adds}
 use Rattle.loom_law.specs.Filter.{plan_of}
-use Rattle.loom_law.specs.Walk.{enters, past, leave, back, Step, goes, makes, items}
+use Rattle.loom_law.specs.Walk.{enters, past, leave, back, PartStep, goes, makes, items}
 use Rattle.loom_law.specs.Walk as walk
 use Rattle.loom_law.specs.Control.{means, install, Command}
-use Rattle.loom_law.specs.Lawful.{Setting, HasPart, StandsAt, running, IsOutside, MayInstall, front_at, IsLawful}
+use Rattle.loom_law.specs.Lawful.{Setting, HasPart, StandsAt, running_thread, IsOutside, MayInstall, front_at, IsLawful}
 use Rattle.loom_law.proofs.Fronts.{Each, behind, each_one, FollowsBehind, nothing_made}
 use Rattle.loom_law.proofs.Shown.{on_line}
 use Rattle.loom_law.proofs.Journals.{not_due, moves}
@@ -59,7 +59,7 @@ alone_nowhere zero = refl
 alone_nowhere (suc zero) = refl
 alone_nowhere (suc (suc t)) = refl
 
-alone_outside : (t : ℕ) → IsOutside alone_setting (e.Asked 1 ∷ []) t (running (thread_at (start adds) t)) (plan_of adds alone) nowhere
+alone_outside : (t : ℕ) → IsOutside alone_setting (e.Asked 1 ∷ []) t (running_thread (thread_at (start adds) t)) (plan_of adds alone) nowhere
 alone_outside zero = tt
 alone_outside (suc zero) = tt
 alone_outside (suc (suc t)) = tt
@@ -77,7 +77,7 @@ alone_installs = record {
   outside = alone_outside;
 }
 
-abbrev alone_steps_1 : List Step
+abbrev alone_steps_1 : List PartStep
 alone_steps_1 =
     goes (made 5 begin) ∷ goes (enter 1 ((codes "a", pos 0) ∷ [])) ∷ goes (begins 6 ((codes "a", pos 0) ∷ [])) ∷ goes (made 6 (spawn 2 0 []))
     ∷ goes (done 6) ∷ goes (begins 7 ((codes "a", pos 2) ∷ [])) ∷ goes (made 7 (read 0 (pos 0))) ∷ goes (made 7 (write 0 (pos 1))) ∷ goes (done 7)
@@ -98,7 +98,7 @@ alone_part_1 = record {
   taken = refl;
 }
 
-abbrev alone_steps_2 : List Step
+abbrev alone_steps_2 : List PartStep
 alone_steps_2 =
     goes (made 2 begin) ∷ goes (enter 0 []) ∷ goes (begins 3 []) ∷ makes 3 (enters 1 1) ∷ makes 3 (walk.at 1 (1 ∷ 2 ∷ []))
     ∷ goes (made 3 (read 0 (pos 0))) ∷ goes (made 3 (write 0 (pos 1))) ∷ goes (done 3) ∷ makes 3 (past 1 (1 ∷ 2 ∷ [])) ∷ makes 3 (leave 1 1)
@@ -191,7 +191,7 @@ back_nowhere zero = refl
 back_nowhere (suc zero) = refl
 back_nowhere (suc (suc t)) = refl
 
-back_outside : (t : ℕ) → IsOutside back_setting (e.Asked 1 ∷ []) t (running (thread_at (start back_program) t)) (plan_of back_program ((Clause.unilateral (Region.whole (codes "f") None)) ∷ [])) nowhere
+back_outside : (t : ℕ) → IsOutside back_setting (e.Asked 1 ∷ []) t (running_thread (thread_at (start back_program) t)) (plan_of back_program ((Clause.unilateral (Region.whole (codes "f") None)) ∷ [])) nowhere
 back_outside zero = tt
 back_outside (suc zero) = tt
 back_outside (suc (suc t)) = tt
@@ -209,7 +209,7 @@ back_installs = record {
   outside = back_outside;
 }
 
-abbrev back_steps_1 : List Step
+abbrev back_steps_1 : List PartStep
 back_steps_1 =
     goes (made 6 begin) ∷ goes (enter 1 (((codes "v"), (pos 0)) ∷ [])) ∷ goes (begins 7 (((codes "v"), (pos 0)) ∷ [])) ∷ goes (enter 0 [])
     ∷ makes 2 (enters 1 1) ∷ makes 2 (walk.at 1 (1 ∷ [])) ∷ goes (begins 3 []) ∷ goes (made 3 (write 0 (pos 1))) ∷ goes (done 3) ∷ goes (begins 4 [])

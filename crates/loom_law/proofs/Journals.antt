@@ -6,7 +6,7 @@ use Rattle.loom_trace.specs.declared.entry.Entry.{Entry}
 use Rattle.loom_command.specs.Script.{Trigger, at, stall}
 use Rattle.loom_event.specs.Entries.{thread_entries}
 use Rattle.loom_law.specs.Filter.{is_alone}
-use Rattle.loom_law.specs.Control.{Command, command_at, Holder, listed}
+use Rattle.loom_law.specs.Control.{Command, command_at, Holder, listed_places}
 use Rattle.loom_law.specs.Lawful.{Setting, Front, plans, over, refusal, IsHeldOff, IsDue, IsTriggered, IsOpen, is_cross, owes_cross, IsParked, MayMove}
 use Rattle.loom_law.proofs.Earlier.{same_number}
 
@@ -111,7 +111,7 @@ none_refused s f (Some k) = is_none (refusal s f.control k)
 abbrev pub is_quiet : Setting → Front → ℕ → Entry → Bool
 is_quiet s f t x =
     (not (over s f) && not f.control.closing) && ((none_due s f && none_refused s f f.control.asked)
-    && (are_free s t f.control.holders && same_bools (is_cross x) (owes_cross x (listed t f.entries))))
+    && (are_free s t f.control.holders && same_bools (is_cross x) (owes_cross x (listed_places t f.entries))))
 
 same_are : (a b : Bool) → same_bools a b ≡ true → a ≡ b
 same_are true b h = sym h
@@ -144,7 +144,7 @@ moves {s = s} {f = f} {t = t} {x = x} quiet parked =
     record {
       goes_on = opens {s = s} {f = f} (not-true (over s f) b.0) (not-true f.control.closing b.1) d.0 d.1;
       not_held_off = not_off s f t g.0;
-      crosses = same_are (is_cross x) (owes_cross x (listed t f.entries)) g.1;
+      crosses = same_are (is_cross x) (owes_cross x (listed_places t f.entries)) g.1;
       parked = parked;
     }
 

@@ -8,7 +8,7 @@ use Rattle.loom_lang.specs.Places as place
 use Rattle.loom_lang.specs.Trace.{Locals, begin, end, trap, read, write, lock, unlock, down, up, spawn, join, print, Item, made, begins, done, edge, enter, out, Outcome, IsTrace}
 use Rattle.loom_law.specs.Walk.{tick_after}
 use Rattle.loom_law.specs.Filter.{Site, statement, function, Ruling, Plan, matching, has, waits, posts, clauses}
-use Rattle.loom_law.specs.Walk.{Version, Plans, Operation, wait, enters, at, past, post, leave, back, tick, cross, blocked, Step, goes, makes, items, Inside, OpenFrame, Spot, elsewhere, beginning, entered, complete, left, trapped, Queue, Walk, unborn, holds, begins_in, owed_waits, owed_enters, owed_by, owed_at, is_among, all_inside, completed, in_frame, owed_posts, owed_leaves, events_of, owed_past, owed_behind, all_leaves, with_back, with_tick, begun_with, function_line, without_first, without_clause, taking, behind_entry, after_item, filter_of, is_kept, still_owed, new_filters, owed_fresh, owed_behind_cross, crossing, frames_without, opened, closed, owed_out, begun_at, made_one, spot_without, left_behind, after_operation, after, walked, Owes, MayStand, AreWoven}
+use Rattle.loom_law.specs.Walk.{Version, Plans, Operation, wait, enters, at, past, post, leave, back, tick, cross, blocked, PartStep, goes, makes, items, Inside, OpenFrame, Spot, elsewhere, beginning, entered, complete, left, trapped, Queue, Walk, unborn, holds, begins_in, owed_waits, owed_enters, owed_by, owed_at, is_among, all_inside, completed, in_frame, owed_posts, owed_leaves, events_of, owed_past, owed_behind, all_leaves, with_back, with_tick, begun_with, function_line, without_first, without_clause, taking, behind_entry, after_item, filter_of, stays, still_owed, new_filters, owed_fresh, owed_behind_cross, crossing, frames_without, opened, closed, owed_out, begun_at, made_one, spot_without, left_behind, after_operation, after, walk_from, Owes, MayStand, AreWoven}
 use Rattle.loom_law.proofs.Holdings.{or_left, or_right, pick, same_number}
 use Rattle.loom_law.proofs.ActiveFilters.{Among, first_in, others_in, fresh_among, itself}
 use Rattle.loom_law.proofs.Ends.{IsOpened, one_less, EndsWell, trace_ends}
@@ -103,9 +103,9 @@ both_well : (plans : Plans) (ks : List ℕ) (os more : Queue) → AllWell plans 
 both_well plans ks [] more h g = g
 both_well plans ks (o ∷ os) more h g = (h.0, both_well plans ks os more h.1 g)
 
-one_kept : (plans : Plans) (ks : List ℕ) (l : ℕ) (o : Operation) (os : Queue) → (is_kept ks (filter_of o) ≡ true → OpWell plans ks o) → AllWell plans ks os
-    → AllWell plans ks (if is_kept ks (filter_of o) then (l, o) ∷ os else os)
-one_kept plans ks l o os w h = pick (AllWell plans ks) (is_kept ks (filter_of o)) _ _ (λ b. (w b, h)) (λ b. h)
+one_kept : (plans : Plans) (ks : List ℕ) (l : ℕ) (o : Operation) (os : Queue) → (stays ks (filter_of o) ≡ true → OpWell plans ks o) → AllWell plans ks os
+    → AllWell plans ks (if stays ks (filter_of o) then (l, o) ∷ os else os)
+one_kept plans ks l o os w h = pick (AllWell plans ks) (stays ks (filter_of o)) _ _ (λ b. (w b, h)) (λ b. h)
 
 kept_well : (plans : Plans) (old ks : List ℕ) (os : Queue) → AllWell plans old os → AllWell plans ks (still_owed ks os)
 kept_well plans old ks [] h = tt
@@ -306,9 +306,9 @@ back_has : (k c l : ℕ) (os : Queue) → has_leave k c os ≡ true → has_leav
 back_has k c l [] h = h
 back_has k c l (o ∷ os) h = h
 
-one_has : (ks : List ℕ) (k c l : ℕ) (o : Operation) (os : Queue) → is_leave k c o ≡ false → has_leave k c os ≡ true → has_leave k c (if is_kept ks (filter_of o) then (l, o) ∷ os else os) ≡ true
+one_has : (ks : List ℕ) (k c l : ℕ) (o : Operation) (os : Queue) → is_leave k c o ≡ false → has_leave k c os ≡ true → has_leave k c (if stays ks (filter_of o) then (l, o) ∷ os else os) ≡ true
 one_has ks k c l o os f h =
-    pick (λ us. has_leave k c us ≡ true) (is_kept ks (filter_of o)) ((l, o) ∷ os) os (λ b. or_right (is_leave k c o) (has_leave k c os) h) (λ b. h)
+    pick (λ us. has_leave k c us ≡ true) (stays ks (filter_of o)) ((l, o) ∷ os) os (λ b. or_right (is_leave k c o) (has_leave k c os) h) (λ b. h)
 
 kept_leave : (ks : List ℕ) (k c : ℕ) (os : Queue) → has ks k ≡ true → has_leave k c os ≡ true → has_leave k c (still_owed ks os) ≡ true
 kept_leave ks k c [] i h = cc
@@ -329,8 +329,8 @@ kept_leave ks k c ((l, tick x) ∷ os) i h = kept_leave ks k c os i h
 kept_leave ks k c ((l, cross x v n) ∷ os) i h = kept_leave ks k c os i h
 kept_leave ks k c ((l, blocked what) ∷ os) i h = kept_leave ks k c os i h
 
-one_none : (ks : List ℕ) (l : ℕ) (o : Operation) (os : Queue) → IsNoEnter o → NoEnters os → NoEnters (if is_kept ks (filter_of o) then (l, o) ∷ os else os)
-one_none ks l o os n h = pick NoEnters (is_kept ks (filter_of o)) ((l, o) ∷ os) os (λ b. (n, h)) (λ b. h)
+one_none : (ks : List ℕ) (l : ℕ) (o : Operation) (os : Queue) → IsNoEnter o → NoEnters os → NoEnters (if stays ks (filter_of o) then (l, o) ∷ os else os)
+one_none ks l o os n h = pick NoEnters (stays ks (filter_of o)) ((l, o) ∷ os) os (λ b. (n, h)) (λ b. h)
 
 kept_none : (ks : List ℕ) (os : Queue) → NoEnters os → NoEnters (still_owed ks os)
 kept_none ks [] h = tt
@@ -582,8 +582,8 @@ op_good p plans z l (blocked what) rest s h = (
   h.1,
 )
 
-walk_good : (p : Source) (plans : Plans) (z : Walk) (ss : List Step) (ahead : List Item) → AreWoven p plans z ss ahead → Goes plans z (items ss ++ ahead)
-    → Goes plans (walked p plans z ss) ahead
+walk_good : (p : Source) (plans : Plans) (z : Walk) (ss : List PartStep) (ahead : List Item) → AreWoven p plans z ss ahead → Goes plans z (items ss ++ ahead)
+    → Goes plans (walk_from p plans z ss) ahead
 walk_good p plans z [] ahead w h = h
 walk_good p plans z (goes i ∷ ss) ahead w h = walk_good p plans (after_item p plans z i) ss ahead w.1 (item_good p plans z i (items ss ++ ahead) h.1 h.0)
 walk_good p plans z (makes l o ∷ ss) ahead w h = walk_good p plans (after_operation p plans z o) ss ahead w.1 (op_good p plans z l o (items ss ++ ahead) w.0 h)
@@ -603,15 +603,15 @@ nothing_held (g ∷ hs) os is h = let bad : false ≡ true = ap (has_leave g.0 g
 at_end : (p : Source) (plans : Plans) (z : Walk) (l : ℕ) (rest : List Item) → z.owed ≡ [] → Goes plans z (made l end ∷ rest) → z.held ≡ []
 at_end p plans z l rest is h = nothing_held z.held z.owed is ((h.0.over (no_frames z.frames h.1.0)).leaves)
 
-last_there : (p : Source) (plans : Plans) (z : Walk) (ss : List Step) (s : Step) (ahead : List Item) → AreWoven p plans z (ss ++ s ∷ []) ahead
-    → MayStand p (walked p plans z ss) s ahead
+last_there : (p : Source) (plans : Plans) (z : Walk) (ss : List PartStep) (s : PartStep) (ahead : List Item) → AreWoven p plans z (ss ++ s ∷ []) ahead
+    → MayStand p (walk_from p plans z ss) s ahead
 last_there p plans z [] s ahead h = h.0
 last_there p plans z (u ∷ ss) s ahead h = last_there p plans (after p plans z u) ss s ahead h.1
 
 -- these steps lead to an end
-pub end_holds : (p : Source) (plans : Plans) (f : ℕ) (args : List ℤ) (vs : List Version) (before : List Step) (l : ℕ) (ahead : List Item) (r : Outcome)
+pub end_holds : (p : Source) (plans : Plans) (f : ℕ) (args : List ℤ) (vs : List Version) (before : List PartStep) (l : ℕ) (ahead : List Item) (r : Outcome)
     → IsTrace p f args (items (before ++ goes (made l end) ∷ []) ++ ahead) r → AreWoven p plans (unborn vs) (before ++ goes (made l end) ∷ []) ahead
-    → Walk.held (walked p plans (unborn vs) before) ≡ []
+    → Walk.held (walk_from p plans (unborn vs) before) ≡ []
 end_holds p plans f args vs [] l ahead r trace w = refl
 end_holds p plans f args vs (makes m o ∷ ss) l ahead r trace w =
     absurd (no_operation p vs (items (ss ++ goes (made l end) ∷ []) ++ ahead) m o
@@ -626,8 +626,8 @@ end_holds p plans f args vs (goes i ∷ ss) l ahead r trace w =
       first_good plans vs vs,
       subst (λ q. EndsWell q (items ss ++ made l end ∷ ahead)) (sym (first_frames vs vs)) (subst (EndsWell 0) (items_ahead ss (goes (made l end) ∷ []) ahead) ends),
     ) in
-    let there : Goes plans (walked p plans z ss) (made l end ∷ ahead) =
+    let there : Goes plans (walk_from p plans z ss) (made l end ∷ ahead) =
     walk_good p plans z ss (made l end ∷ ahead) (woven_front p plans z ss (goes (made l end) ∷ []) ahead woven) good in
-    let held : Walk.held (walked p plans z ss) ≡ [] = at_end p plans (walked p plans z ss) l ahead (last_there p plans z ss (goes (made l end)) ahead woven) there in
-    let Q : Item → Type 0 = λ j. Walk.held (walked p plans (unborn vs) (goes j ∷ ss)) ≡ [] in
+    let held : Walk.held (walk_from p plans z ss) ≡ [] = at_end p plans (walk_from p plans z ss) l ahead (last_there p plans z ss (goes (made l end)) ahead woven) there in
+    let Q : Item → Type 0 = λ j. Walk.held (walk_from p plans (unborn vs) (goes j ∷ ss)) ≡ [] in
     subst Q (sym b.1) held

@@ -14,9 +14,9 @@ use Rattle.loom_lang.specs.Places as place
 use Rattle.loom_lang.specs.Trace.{Locals, begin, end, trap, read, write, lock, unlock, down, up, spawn, join, print, Item, made, begins, done, edge, enter, out}
 use Rattle.loom_law.specs.Walk.{tick_after}
 use Rattle.loom_law.specs.Filter.{Site, statement, function, Ruling, Plan, matching, has, waits, posts, numbered_from, clauses}
-use Rattle.loom_law.specs.Walk.{Version, Plans, Operation, wait, enters, at, past, post, leave, back, tick, cross, blocked, Step, goes, makes, Inside, OpenFrame, Spot, elsewhere, beginning, entered, complete, left, trapped, Queue, Walk, unborn, holds, begins_in, owed_waits, owed_enters, owed_by, owed_at, is_among, all_inside, completed, in_frame, owed_posts, owed_leaves, events_of, owed_past, owed_behind, all_leaves, with_back, with_tick, begun_with, function_line, without_first, taking, behind_entry, after_item, without_clause, still_owed, new_filters, owed_fresh, owed_behind_cross, crossing, after_operation, walked, Owes, MayStand, AreWoven}
-use Rattle.loom_law.specs.Part.{led, IsPart}
-use Rattle.loom_law.specs.Control.{Command, have_one_name, Control, first_control, control, after_entry, takes, taken_from, taken, entries_of, listed}
+use Rattle.loom_law.specs.Walk.{Version, Plans, Operation, wait, enters, at, past, post, leave, back, tick, cross, blocked, PartStep, goes, makes, Inside, OpenFrame, Spot, elsewhere, beginning, entered, complete, left, trapped, Queue, Walk, unborn, holds, begins_in, owed_waits, owed_enters, owed_by, owed_at, is_among, all_inside, completed, in_frame, owed_posts, owed_leaves, events_of, owed_past, owed_behind, all_leaves, with_back, with_tick, begun_with, function_line, without_first, taking, behind_entry, after_item, without_clause, still_owed, new_filters, owed_fresh, owed_behind_cross, crossing, after_operation, walk_from, Owes, MayStand, AreWoven}
+use Rattle.loom_law.specs.ThreadPart.{walk_of, IsPart}
+use Rattle.loom_law.specs.Control.{Command, have_one_name, Control, first_control, control, after_entry, takes_version, versions_from, versions_of, entries_of, listed_places}
 use Rattle.loom_law.specs.Lawful.{plans, own, is_installed, Setting, is_held_by}
 use Rattle.loom_law.specs.Laws.{AreOnce, HaveOnce, HasHeldLeaves}
 use Rattle.loom_law.proofs.Holdings.{or_cases, or_left, or_right, either_of, pick, same_number, op_held}
@@ -278,14 +278,14 @@ op_well p plans z l (tick x) rest m h = (left_op z.held z.owed l (tick x) m h.0,
 op_well p plans z l (cross x v n) rest m h = crossing_well p plans z z.coming h.0 h.1.0 refl h.1.1
 op_well p plans z l (blocked what) rest m h = h
 
-walk_well : (p : Source) (plans : Plans) (z : Walk) (ss : List Step) (ahead : List Item) → AreWoven p plans z ss ahead → LeavesWell z → LeavesWell (walked p plans z ss)
+walk_well : (p : Source) (plans : Plans) (z : Walk) (ss : List PartStep) (ahead : List Item) → AreWoven p plans z ss ahead → LeavesWell z → LeavesWell (walk_from p plans z ss)
 walk_well p plans z [] ahead w h = h
 walk_well p plans z (goes i ∷ ss) ahead w h = walk_well p plans (after_item p plans z i) ss ahead w.1 (item_well p plans z i (owed_none p z i _ w.0) h)
 walk_well p plans z (makes l o ∷ ss) ahead w h = walk_well p plans (after_operation p plans z o) ss ahead w.1 (op_well p plans z l o _ w.0 h)
 
 pub held_leaves : HasHeldLeaves
 held_leaves p plans x h once l k c owes =
-    let well : LeavesWell (led p plans x h.steps) = walk_well p plans (unborn x.versions) h.steps h.ahead h.woven (tt, (tt, once)) in
+    let well : LeavesWell (walk_of p plans x h.steps) = walk_well p plans (unborn x.versions) h.steps h.ahead h.woven (tt, (tt, once)) in
     left_held _ _ l (leave k c) owes well.0
 
 -- The versions of a lawful journal have each filter once
@@ -333,18 +333,18 @@ once_behind cs c (e.Cut k) h s o = o
 once_behind cs c (e.Unreached k) h s o = o
 once_behind cs c _ h s o = o
 
-taken_once : (cs : List Command) (t : ℕ) (c : Control) (es : List Entry) → AreSaid cs c es → IsSound c → AreOnce (Version.active c.version) → HaveOnce (taken_from cs t c es)
+taken_once : (cs : List Command) (t : ℕ) (c : Control) (es : List Entry) → AreSaid cs c es → IsSound c → AreOnce (Version.active c.version) → HaveOnce (versions_from cs t c es)
 taken_once cs t c [] h s o = tt
 taken_once cs t c (x ∷ es) h s o =
-    let ih : HaveOnce (taken_from cs t (after_entry cs c x) es) = taken_once cs t (after_entry cs c x) es h.1 (sound_behind cs c x h.0 s) (once_behind cs c x h.0 s o) in
-    pick HaveOnce (takes t x) (c.version ∷ taken_from cs t (after_entry cs c x) es) (taken_from cs t (after_entry cs c x) es) (λ b. (o, ih)) (λ b. ih)
+    let ih : HaveOnce (versions_from cs t (after_entry cs c x) es) = taken_once cs t (after_entry cs c x) es h.1 (sound_behind cs c x h.0 s) (once_behind cs c x h.0 s o) in
+    pick HaveOnce (takes_version t x) (c.version ∷ versions_from cs t (after_entry cs c x) es) (versions_from cs t (after_entry cs c x) es) (λ b. (o, ih)) (λ b. ih)
 
 pub right_leaves : (s : Setting) (front rest : List Entry) → IsStrict s (front ++ rest) → (i : ℕ) → i < thread_limit → (x : ThreadState)
-    (h : IsPart s.program (plans s) (own s front (suc i) x)) (y : Entry) (ys : List Entry) → entries_of (suc i) front ≡ y ∷ ys → listed (suc i) front ≡ []
-    → (l k c : ℕ) → Owes (led s.program (plans s) (own s front (suc i) x) h.steps).owed l (leave k c)
+    (h : IsPart s.program (plans s) (own s front (suc i) x)) (y : Entry) (ys : List Entry) → entries_of (suc i) front ≡ y ∷ ys → listed_places (suc i) front ≡ []
+    → (l k c : ℕ) → Owes (walk_of s.program (plans s) (own s front (suc i) x) h.steps).owed l (leave k c)
     → is_held_by (control s.commands front) k c (suc i) ≡ true
 right_leaves s front rest h i small x part y ys some none l k c owes =
     let t : ℕ = suc i in
-    let once : HaveOnce (taken s.commands t front) = taken_once s.commands t first_control front (are_said s front rest h) first_sound tt in
+    let once : HaveOnce (versions_of s.commands t front) = taken_once s.commands t first_control front (are_said s front rest h) first_sound tt in
     let installed : is_installed (control s.commands front) k ≡ true = owed_installed s front rest h i small x part y ys some none l (leave k c) k owes refl in
     sym (balance s front rest h t x part k c installed) ∙ held_leaves s.program (plans s) (own s front t x) part once l k c owes

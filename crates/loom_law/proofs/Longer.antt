@@ -10,8 +10,8 @@ use Rattle.loom_event.specs.Entries.{thread_of, is_thread}
 use Rattle.loom_event.specs.Replay.{ThreadState, start, thread_at, replay}
 use Rattle.loom_event.specs.Run.{IsThreadTraced, AreRun}
 use Rattle.loom_law.specs.Walk.{Version, Plans}
-use Rattle.loom_law.specs.Part.{IsPart}
-use Rattle.loom_law.specs.Control.{Command, Control, control, first_control, controlled, takes, taken, entries_of}
+use Rattle.loom_law.specs.ThreadPart.{IsPart}
+use Rattle.loom_law.specs.Control.{Command, Control, control, first_control, control_after, takes_version, versions_of, entries_of}
 use Rattle.loom_law.specs.Lawful.{Setting, Front, front_of, plans, HasPart, front_at, MayFollow, MayFollowBy}
 use Rattle.loom_law.proofs.Strict.{Stands, IsStrict, StandsBy}
 use Rattle.loom_law.specs.Laws.{IsUnfinished, with_newest, own_with}
@@ -147,55 +147,55 @@ pub and_false : (a b : Bool) → b ≡ false → (a && b) ≡ false
 and_false true b h = h
 and_false false b h = refl
 
-pub not_taken : (cs : List Command) (t : ℕ) (x : Entry) (es : List Entry) → is_thread t (thread_of x) ≡ false → taken cs t (es ++ x ∷ []) ≡ taken cs t es
+pub not_taken : (cs : List Command) (t : ℕ) (x : Entry) (es : List Entry) → is_thread t (thread_of x) ≡ false → versions_of cs t (es ++ x ∷ []) ≡ versions_of cs t es
 not_taken cs t x es h =
-    let v : Version = Control.version (controlled cs first_control es) in
-    let no : takes t x ≡ false = takes_is t x ∙ and_false (is_taking x) (is_thread t (thread_of x)) h in
+    let v : Version = Control.version (control_after cs first_control es) in
+    let no : takes_version t x ≡ false = takes_is t x ∙ and_false (is_taking x) (is_thread t (thread_of x)) h in
     taken_append cs t first_control es (x ∷ [])
-    ∙ (ap (λ zs. taken cs t es ++ zs) (if_false (takes t x) (v ∷ []) [] no) ∙ append_none (taken cs t es))
+    ∙ (ap (λ zs. versions_of cs t es ++ zs) (if_false (takes_version t x) (v ∷ []) [] no) ∙ append_none (versions_of cs t es))
 
 pub others_part : (s : Setting) (es : List Entry) (x : Entry) (t : ℕ) (o o' : Option ThreadState) → IsOf o o' → is_thread t (thread_of x) ≡ false → HasPart s es t o
     → HasPart s (es ++ x ∷ []) t o'
 others_part s es x t None None is other h = not_mine t x es other ∙ h
 others_part s es x t None (Some z) is other h =
     let none : entries_of t (es ++ x ∷ []) ≡ [] = not_mine t x es other ∙ h in
-    empty_part s.program (plans s) t z.func z.args (taken s.commands t (es ++ x ∷ [])) (entries_of t (es ++ x ∷ [])) none
-    (none_left (taken s.commands t (es ++ x ∷ [])) (sym (ap takings none) ∙ takings_taken s.commands t first_control (es ++ x ∷ [])))
+    empty_part s.program (plans s) t z.func z.args (versions_of s.commands t (es ++ x ∷ [])) (entries_of t (es ++ x ∷ [])) none
+    (none_left (versions_of s.commands t (es ++ x ∷ [])) (sym (ap takings none) ∙ takings_taken s.commands t first_control (es ++ x ∷ [])))
 others_part s es x t (Some y) None is other h = absurd is
 others_part s es x t (Some y) (Some z) is other h =
     let p : Source = s.program in
-    let one : IsPart p (plans s) (an_own t z.func y.args (taken s.commands t es) (entries_of t es)) =
-    subst (λ f. IsPart p (plans s) (an_own t f y.args (taken s.commands t es) (entries_of t es))) is.0 h in
-    let two : IsPart p (plans s) (an_own t z.func z.args (taken s.commands t es) (entries_of t es)) =
-    subst (λ vs. IsPart p (plans s) (an_own t z.func vs (taken s.commands t es) (entries_of t es))) is.1 one in
-    let three : IsPart p (plans s) (an_own t z.func z.args (taken s.commands t (es ++ x ∷ [])) (entries_of t es)) =
+    let one : IsPart p (plans s) (an_own t z.func y.args (versions_of s.commands t es) (entries_of t es)) =
+    subst (λ f. IsPart p (plans s) (an_own t f y.args (versions_of s.commands t es) (entries_of t es))) is.0 h in
+    let two : IsPart p (plans s) (an_own t z.func z.args (versions_of s.commands t es) (entries_of t es)) =
+    subst (λ vs. IsPart p (plans s) (an_own t z.func vs (versions_of s.commands t es) (entries_of t es))) is.1 one in
+    let three : IsPart p (plans s) (an_own t z.func z.args (versions_of s.commands t (es ++ x ∷ [])) (entries_of t es)) =
     subst (λ vs. IsPart p (plans s) (an_own t z.func z.args vs (entries_of t es))) (sym (not_taken s.commands t x es other)) two in
-    subst (λ zs. IsPart p (plans s) (an_own t z.func z.args (taken s.commands t (es ++ x ∷ [])) zs)) (sym (not_mine t x es other)) three
+    subst (λ zs. IsPart p (plans s) (an_own t z.func z.args (versions_of s.commands t (es ++ x ∷ [])) zs)) (sym (not_mine t x es other)) three
 
 pub mine : (t : ℕ) (x : Entry) (es : List Entry) → is_thread t (thread_of x) ≡ true → entries_of t (es ++ x ∷ []) ≡ entries_of t es ++ x ∷ []
 mine t x es h = entries_append t es (x ∷ []) ∙ ap (λ zs. entries_of t es ++ zs) (if_true (is_thread t (thread_of x)) (x ∷ []) [] h)
 
-pub one_taken : (t : ℕ) (v : Version) (vs : List Version) (x : Entry) → is_thread t (thread_of x) ≡ true → vs ++ (if takes t x then v ∷ [] else []) ≡ with_newest x v vs
+pub one_taken : (t : ℕ) (v : Version) (vs : List Version) (x : Entry) → is_thread t (thread_of x) ≡ true → vs ++ (if takes_version t x then v ∷ [] else []) ≡ with_newest x v vs
 one_taken t v vs (e.Begin u l) h = ap (λ zs. vs ++ zs) (if_true (u == t) (v ∷ []) [] h)
 one_taken t v vs (e.Cross u l x n m) h = ap (λ zs. vs ++ zs) (if_true (u == t) (v ∷ []) [] h)
 one_taken t v vs _ h = append_none vs
 
 pub newest_taken : (cs : List Command) (t : ℕ) (x : Entry) (es : List Entry) → is_thread t (thread_of x) ≡ true
-    → taken cs t (es ++ x ∷ []) ≡ with_newest x (Control.version (control cs es)) (taken cs t es)
-newest_taken cs t x es h = taken_append cs t first_control es (x ∷ []) ∙ one_taken t (Control.version (control cs es)) (taken cs t es) x h
+    → versions_of cs t (es ++ x ∷ []) ≡ with_newest x (Control.version (control cs es)) (versions_of cs t es)
+newest_taken cs t x es h = taken_append cs t first_control es (x ∷ []) ∙ one_taken t (Control.version (control cs es)) (versions_of cs t es) x h
 
 pub own_part : (s : Setting) (es : List Entry) (x : Entry) (t : ℕ) (y : ThreadState) (o' : Option ThreadState) → IsOf (Some y) o' → is_thread t (thread_of x) ≡ true
     → IsPart s.program (plans s) (own_with s es t y x) → HasPart s (es ++ x ∷ []) t o'
 own_part s es x t y None is self h = absurd is
 own_part s es x t y (Some z) is self h =
     let p : Source = s.program in
-    let vs : List Version = with_newest x (Control.version (control s.commands es)) (taken s.commands t es) in
+    let vs : List Version = with_newest x (Control.version (control s.commands es)) (versions_of s.commands t es) in
     let us : List Entry = entries_of t es ++ x ∷ [] in
     let one : IsPart p (plans s) (an_own t z.func y.args vs us) = subst (λ f. IsPart p (plans s) (an_own t f y.args vs us)) is.0 h in
     let two : IsPart p (plans s) (an_own t z.func z.args vs us) = subst (λ ws. IsPart p (plans s) (an_own t z.func ws vs us)) is.1 one in
-    let three : IsPart p (plans s) (an_own t z.func z.args (taken s.commands t (es ++ x ∷ [])) us) =
+    let three : IsPart p (plans s) (an_own t z.func z.args (versions_of s.commands t (es ++ x ∷ [])) us) =
     subst (λ ws. IsPart p (plans s) (an_own t z.func z.args ws us)) (sym (newest_taken s.commands t x es self)) two in
-    subst (λ zs. IsPart p (plans s) (an_own t z.func z.args (taken s.commands t (es ++ x ∷ [])) zs)) (sym (mine t x es self)) three
+    subst (λ zs. IsPart p (plans s) (an_own t z.func z.args (versions_of s.commands t (es ++ x ∷ [])) zs)) (sym (mine t x es self)) three
 
 -- Control entries
 

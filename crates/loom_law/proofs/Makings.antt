@@ -11,17 +11,17 @@ use Rattle.loom_lang.specs.Trace.{Act, begin, end, trap, read, write, lock, unlo
 use Rattle.loom_lang.specs.Acts.{Deed}
 use Rattle.loom_event.specs.Answer.{granted}
 use Rattle.loom_event.specs.Replay.{ThreadState}
-use Rattle.loom_law.specs.Walk.{Version, Plans, Operation, wait, enters, at, past, post, leave, back, tick, cross, blocked, Queue, Step, goes, makes, items, told, entry_of_operation, Walk, unborn, behind_entry, taking, crossing, after, walked, first_number, Acts, AsksFor, MayCross, AreWoven}
-use Rattle.loom_law.specs.Part.{Own, led, IsPart, HasMoved, KeepsAway}
+use Rattle.loom_law.specs.Walk.{Version, Plans, Operation, wait, enters, at, past, post, leave, back, tick, cross, blocked, Queue, PartStep, goes, makes, items, told, entry_of_operation, Walk, unborn, behind_entry, taking, crossing, after, walk_from, first_number, Acts, AsksFor, MayCross, AreWoven}
+use Rattle.loom_law.specs.ThreadPart.{Own, walk_of, IsPart, HasMoved, KeepsAway}
 use Rattle.loom_law.specs.Control.{entries_of}
 use Rattle.loom_law.specs.Lawful.{Setting, plans, own, IsFlagged, is_begin, StaysAway}
 use Rattle.loom_law.specs.Laws.{own_with}
 use Rattle.loom_law.specs.TurnLaws.{AsksToDo, HasMakingTurns, blocked_behind, request_of, HasBlocks}
 use Rattle.loom_law.proofs.OnePart.{told_append, one_move}
 use Rattle.loom_law.proofs.Earlier.{append_assoc, items_ahead, woven_front, takings}
-use Rattle.loom_law.proofs.Turns.{BeforeOp, before_op, moved, walked_coming}
+use Rattle.loom_law.proofs.Turns.{BeforeOp, before_op, moved, walk_coming}
 use Rattle.loom_law.proofs.Lawful.{operation_turns}
-use Rattle.loom_law.proofs.Answers.{goes_with, woven_ahead, walked_append, woven_last}
+use Rattle.loom_law.proofs.Answers.{goes_with, woven_ahead, walk_append, woven_last}
 
 asked_part : (s : Setting) (es : List Entry) (t : ℕ) (z : ThreadState) (l : ℕ) (o : Operation) → AsksToDo s es (own s es t z) l o
     → IsPart s.program (plans s) (own_with s es t z (entry_of_operation t l o))
@@ -51,14 +51,14 @@ op_no_begin t l (blocked what) = refl
 -- the part that ends with the operation
 pub record OpPart (p : Source) (plans : Plans) (x : Own) (l : ℕ) (o : Operation) : Type 0 where
   pub part : IsPart p plans x
-  pub before : List Step
+  pub before : List PartStep
   pub last : part.steps ≡ before ++ makes l o ∷ []
 
 pub cut_part : (p : Source) (plans : Plans) (x : Own) (es : List Entry) (l : ℕ) (o : Operation) → x.entries ≡ es ++ entry_of_operation x.thread l o ∷ [] → IsPart p plans x → OpPart p plans x l o
 cut_part p plans x es l o is h =
     let t : ℕ = x.thread in
     let c : BeforeOp t h.steps es l o = before_op t h.steps es l o (h.tells ∙ is) in
-    let steps : List Step = c.before ++ makes l o ∷ [] in
+    let steps : List PartStep = c.before ++ makes l o ∷ [] in
     let ahead : List Item = items c.behind ++ h.ahead in
     let whole : h.steps ≡ steps ++ c.behind = c.whole ∙ sym (append_assoc c.before (makes l o ∷ []) c.behind) in
     let tells : told t steps ≡ x.entries = told_append t c.before (makes l o ∷ []) ∙ (ap (λ us. us ++ entry_of_operation t l o ∷ []) c.same ∙ sym is) in
@@ -70,8 +70,8 @@ cut_part p plans x es l o is h =
         trace = subst (λ is. IsTrace p x.func x.args is h.outcome) (ap (λ ss. items ss ++ h.ahead) whole ∙ (items_ahead steps c.behind h.ahead)) h.trace;
         woven = woven_front p plans (unborn x.versions) steps c.behind h.ahead (subst (λ ss. AreWoven p plans (unborn x.versions) ss h.ahead) whole h.woven);
         tells = tells;
-        taken = walked_coming p plans t (unborn x.versions) steps
-            ∙ (ap (λ us. drop (takings us) x.versions) (tells ∙ sym h.tells) ∙ (sym (walked_coming p plans t (unborn x.versions) h.steps) ∙ h.taken));
+        taken = walk_coming p plans t (unborn x.versions) steps
+            ∙ (ap (λ us. drop (takings us) x.versions) (tells ∙ sym h.tells) ∙ (sym (walk_coming p plans t (unborn x.versions) h.steps) ∙ h.taken));
       };
       before = c.before;
       last = refl;
@@ -97,7 +97,7 @@ making_turns s es h open_ t l o m =
       crosses = m.crosses;
       away = λ k is some.
           let away : StaysAway s x k = m.away k is some in
-          subst (λ ss. KeepsAway (IsFlagged s k) (led s.program (plans s) x ss)) (one_move s.program (plans s) x away.steps c.before away.moved before) away.away;
+          subst (λ ss. KeepsAway (IsFlagged s k) (walk_of s.program (plans s) x ss)) (one_move s.program (plans s) x away.steps c.before away.moved before) away.away;
       no_begin = λ k is b. let no : false ≡ true = sym (op_no_begin t l o) ∙ b in cc;
       permits = m.permits;
     })
@@ -112,41 +112,41 @@ crossing_blocked : (p : Source) (plans : Plans) (z : Walk) (vs : List Version) (
 crossing_blocked p plans z [] v h = cc
 crossing_blocked p plans z (u ∷ vs) v h = refl
 
-pub walked_blocked : (p : Source) (plans : Plans) (t : ℕ) (z : Walk) (ss : List Step) (ahead : List Item) → AreWoven p plans z ss ahead
-    → Walk.is_blocked (walked p plans z ss) ≡ blocked_behind z.is_blocked (told t ss)
-walked_blocked p plans t z [] ahead h = refl
-walked_blocked p plans t z (goes (made l begin) ∷ ss) ahead h =
-    walked_blocked p plans t (taking (behind_entry z) z.coming) ss ahead h.1
+pub walk_blocked : (p : Source) (plans : Plans) (t : ℕ) (z : Walk) (ss : List PartStep) (ahead : List Item) → AreWoven p plans z ss ahead
+    → Walk.is_blocked (walk_from p plans z ss) ≡ blocked_behind z.is_blocked (told t ss)
+walk_blocked p plans t z [] ahead h = refl
+walk_blocked p plans t z (goes (made l begin) ∷ ss) ahead h =
+    walk_blocked p plans t (taking (behind_entry z) z.coming) ss ahead h.1
     ∙ ap (λ b. blocked_behind b (told t ss)) (taking_blocked (behind_entry z) z.coming)
-walked_blocked p plans t z (makes l (cross x v n) ∷ ss) ahead h =
+walk_blocked p plans t z (makes l (cross x v n) ∷ ss) ahead h =
     let c : MayCross p z (items ss ++ ahead) l x v n = h.0 in
-    walked_blocked p plans t (crossing p plans z z.coming) ss ahead h.1
+    walk_blocked p plans t (crossing p plans z z.coming) ss ahead h.1
     ∙ ap (λ b. blocked_behind b (told t ss)) (crossing_blocked p plans z z.coming v c.version)
-walked_blocked p plans t z (goes (made l end) ∷ ss) ahead h = walked_blocked p plans t (after p plans z (goes (made l end))) ss ahead h.1
-walked_blocked p plans t z (goes (made l (trap c)) ∷ ss) ahead h = walked_blocked p plans t (after p plans z (goes (made l (trap c)))) ss ahead h.1
-walked_blocked p plans t z (goes (made l (read x v)) ∷ ss) ahead h = walked_blocked p plans t (after p plans z (goes (made l (read x v)))) ss ahead h.1
-walked_blocked p plans t z (goes (made l (write x v)) ∷ ss) ahead h = walked_blocked p plans t (after p plans z (goes (made l (write x v)))) ss ahead h.1
-walked_blocked p plans t z (goes (made l (lock x)) ∷ ss) ahead h = walked_blocked p plans t (after p plans z (goes (made l (lock x)))) ss ahead h.1
-walked_blocked p plans t z (goes (made l (unlock x)) ∷ ss) ahead h = walked_blocked p plans t (after p plans z (goes (made l (unlock x)))) ss ahead h.1
-walked_blocked p plans t z (goes (made l (down x)) ∷ ss) ahead h = walked_blocked p plans t (after p plans z (goes (made l (down x)))) ss ahead h.1
-walked_blocked p plans t z (goes (made l (up x)) ∷ ss) ahead h = walked_blocked p plans t (after p plans z (goes (made l (up x)))) ss ahead h.1
-walked_blocked p plans t z (goes (made l (spawn c f ws)) ∷ ss) ahead h = walked_blocked p plans t (after p plans z (goes (made l (spawn c f ws)))) ss ahead h.1
-walked_blocked p plans t z (goes (made l (join c)) ∷ ss) ahead h = walked_blocked p plans t (after p plans z (goes (made l (join c)))) ss ahead h.1
-walked_blocked p plans t z (goes (made l (print v)) ∷ ss) ahead h = walked_blocked p plans t (after p plans z (goes (made l (print v)))) ss ahead h.1
-walked_blocked p plans t z (goes (begins l env) ∷ ss) ahead h = walked_blocked p plans t (after p plans z (goes (begins l env))) ss ahead h.1
-walked_blocked p plans t z (goes (done l) ∷ ss) ahead h = walked_blocked p plans t (after p plans z (goes (done l))) ss ahead h.1
-walked_blocked p plans t z (goes (edge l) ∷ ss) ahead h = walked_blocked p plans t (after p plans z (goes (edge l))) ss ahead h.1
-walked_blocked p plans t z (goes (enter f env) ∷ ss) ahead h = walked_blocked p plans t (after p plans z (goes (enter f env))) ss ahead h.1
-walked_blocked p plans t z (goes (out f) ∷ ss) ahead h = walked_blocked p plans t (after p plans z (goes (out f))) ss ahead h.1
-walked_blocked p plans t z (makes l (wait k n) ∷ ss) ahead h = walked_blocked p plans t (after p plans z (makes l (wait k n))) ss ahead h.1
-walked_blocked p plans t z (makes l (enters k c) ∷ ss) ahead h = walked_blocked p plans t (after p plans z (makes l (enters k c))) ss ahead h.1
-walked_blocked p plans t z (makes l (at k ns) ∷ ss) ahead h = walked_blocked p plans t (after p plans z (makes l (at k ns))) ss ahead h.1
-walked_blocked p plans t z (makes l (past k ns) ∷ ss) ahead h = walked_blocked p plans t (after p plans z (makes l (past k ns))) ss ahead h.1
-walked_blocked p plans t z (makes l (post k n) ∷ ss) ahead h = walked_blocked p plans t (after p plans z (makes l (post k n))) ss ahead h.1
-walked_blocked p plans t z (makes l (leave k c) ∷ ss) ahead h = walked_blocked p plans t (after p plans z (makes l (leave k c))) ss ahead h.1
-walked_blocked p plans t z (makes l back ∷ ss) ahead h = walked_blocked p plans t (after p plans z (makes l back)) ss ahead h.1
-walked_blocked p plans t z (makes l (tick x) ∷ ss) ahead h = walked_blocked p plans t (after p plans z (makes l (tick x))) ss ahead h.1
-walked_blocked p plans t z (makes l (blocked what) ∷ ss) ahead h = walked_blocked p plans t (after p plans z (makes l (blocked what))) ss ahead h.1
+walk_blocked p plans t z (goes (made l end) ∷ ss) ahead h = walk_blocked p plans t (after p plans z (goes (made l end))) ss ahead h.1
+walk_blocked p plans t z (goes (made l (trap c)) ∷ ss) ahead h = walk_blocked p plans t (after p plans z (goes (made l (trap c)))) ss ahead h.1
+walk_blocked p plans t z (goes (made l (read x v)) ∷ ss) ahead h = walk_blocked p plans t (after p plans z (goes (made l (read x v)))) ss ahead h.1
+walk_blocked p plans t z (goes (made l (write x v)) ∷ ss) ahead h = walk_blocked p plans t (after p plans z (goes (made l (write x v)))) ss ahead h.1
+walk_blocked p plans t z (goes (made l (lock x)) ∷ ss) ahead h = walk_blocked p plans t (after p plans z (goes (made l (lock x)))) ss ahead h.1
+walk_blocked p plans t z (goes (made l (unlock x)) ∷ ss) ahead h = walk_blocked p plans t (after p plans z (goes (made l (unlock x)))) ss ahead h.1
+walk_blocked p plans t z (goes (made l (down x)) ∷ ss) ahead h = walk_blocked p plans t (after p plans z (goes (made l (down x)))) ss ahead h.1
+walk_blocked p plans t z (goes (made l (up x)) ∷ ss) ahead h = walk_blocked p plans t (after p plans z (goes (made l (up x)))) ss ahead h.1
+walk_blocked p plans t z (goes (made l (spawn c f ws)) ∷ ss) ahead h = walk_blocked p plans t (after p plans z (goes (made l (spawn c f ws)))) ss ahead h.1
+walk_blocked p plans t z (goes (made l (join c)) ∷ ss) ahead h = walk_blocked p plans t (after p plans z (goes (made l (join c)))) ss ahead h.1
+walk_blocked p plans t z (goes (made l (print v)) ∷ ss) ahead h = walk_blocked p plans t (after p plans z (goes (made l (print v)))) ss ahead h.1
+walk_blocked p plans t z (goes (begins l env) ∷ ss) ahead h = walk_blocked p plans t (after p plans z (goes (begins l env))) ss ahead h.1
+walk_blocked p plans t z (goes (done l) ∷ ss) ahead h = walk_blocked p plans t (after p plans z (goes (done l))) ss ahead h.1
+walk_blocked p plans t z (goes (edge l) ∷ ss) ahead h = walk_blocked p plans t (after p plans z (goes (edge l))) ss ahead h.1
+walk_blocked p plans t z (goes (enter f env) ∷ ss) ahead h = walk_blocked p plans t (after p plans z (goes (enter f env))) ss ahead h.1
+walk_blocked p plans t z (goes (out f) ∷ ss) ahead h = walk_blocked p plans t (after p plans z (goes (out f))) ss ahead h.1
+walk_blocked p plans t z (makes l (wait k n) ∷ ss) ahead h = walk_blocked p plans t (after p plans z (makes l (wait k n))) ss ahead h.1
+walk_blocked p plans t z (makes l (enters k c) ∷ ss) ahead h = walk_blocked p plans t (after p plans z (makes l (enters k c))) ss ahead h.1
+walk_blocked p plans t z (makes l (at k ns) ∷ ss) ahead h = walk_blocked p plans t (after p plans z (makes l (at k ns))) ss ahead h.1
+walk_blocked p plans t z (makes l (past k ns) ∷ ss) ahead h = walk_blocked p plans t (after p plans z (makes l (past k ns))) ss ahead h.1
+walk_blocked p plans t z (makes l (post k n) ∷ ss) ahead h = walk_blocked p plans t (after p plans z (makes l (post k n))) ss ahead h.1
+walk_blocked p plans t z (makes l (leave k c) ∷ ss) ahead h = walk_blocked p plans t (after p plans z (makes l (leave k c))) ss ahead h.1
+walk_blocked p plans t z (makes l back ∷ ss) ahead h = walk_blocked p plans t (after p plans z (makes l back)) ss ahead h.1
+walk_blocked p plans t z (makes l (tick x) ∷ ss) ahead h = walk_blocked p plans t (after p plans z (makes l (tick x))) ss ahead h.1
+walk_blocked p plans t z (makes l (blocked what) ∷ ss) ahead h = walk_blocked p plans t (after p plans z (makes l (blocked what))) ss ahead h.1
 
 -- A request that can be disabled
 
@@ -183,20 +183,20 @@ pub blocks : HasBlocks
 blocks p plans x q l what h is free =
     let c : CanWait q l what = can_wait l what q is in
     let d : Deed = record { line = l; act = c.act } in
-    let steps : List Step = h.steps in
-    let last : List Step = makes l (blocked what) ∷ [] in
+    let steps : List PartStep = h.steps in
+    let last : List PartStep = makes l (blocked what) ∷ [] in
     let ahead : List Item = made l c.act ∷ [] in
     let trace : IsTrace p x.func x.args (items steps ++ ahead) Open = goes_with p plans x q d h (inl (pos 0, c.grants)) in
     let woven : AreWoven p plans (unborn x.versions) steps ahead =
     woven_ahead p plans x q d h (inl (pos 0, c.grants)) (λ before m e behind whole trapped. c.no_trap e trapped) in
-    let not_yet : Walk.is_blocked (led p plans x steps) ≡ false =
-    walked_blocked p plans x.thread (unborn x.versions) steps ahead woven ∙ (ap (blocked_behind false) h.tells ∙ free) in
+    let not_yet : Walk.is_blocked (walk_of p plans x steps) ≡ false =
+    walk_blocked p plans x.thread (unborn x.versions) steps ahead woven ∙ (ap (blocked_behind false) h.tells ∙ free) in
     record {
       steps = steps ++ last;
       ahead = ahead;
       outcome = Open;
       trace = subst (λ us. IsTrace p x.func x.args us Open) (sym (items_ahead steps last ahead)) trace;
-      woven = woven_last p plans (unborn x.versions) steps (makes l (blocked what)) ahead woven (record { asks = c.asks (led p plans x steps) h.rests; not_yet = not_yet });
+      woven = woven_last p plans (unborn x.versions) steps (makes l (blocked what)) ahead woven (record { asks = c.asks (walk_of p plans x steps) h.rests; not_yet = not_yet });
       tells = told_append x.thread steps last ∙ ap (λ us. us ++ e.Blocked x.thread l what ∷ []) h.tells;
-      taken = ap (λ z. Walk.coming z) (walked_append p plans (unborn x.versions) steps last) ∙ h.taken;
+      taken = ap (λ z. Walk.coming z) (walk_append p plans (unborn x.versions) steps last) ∙ h.taken;
     }

@@ -6,9 +6,9 @@ use Rattle.loom_trace.specs.declared.entry.Entry.TheVariants as e
 use Rattle.loom_lang.specs.Trace.{begin, end, trap, read, write, lock, unlock, down, up, spawn, join, print, made, begins, done, edge, enter, out}
 use Rattle.loom_event.specs.Entries.{thread_of, is_thread}
 use Rattle.loom_event.specs.Replay.{ThreadState, thread_limit}
-use Rattle.loom_law.specs.Walk.{Version, Plans, wait, enters, at, past, post, leave, back, tick, cross, blocked, Step, goes, makes, told, Walk, unborn, without_first, taking, behind_entry, crossing, after, walked}
-use Rattle.loom_law.specs.Part.{led, IsPart}
-use Rattle.loom_law.specs.Control.{Command, Control, first_control, after_entry, controlled, taken_from, taken, entries_of, row_at, listing, listed_from, listed, control}
+use Rattle.loom_law.specs.Walk.{Version, Plans, wait, enters, at, past, post, leave, back, tick, cross, blocked, PartStep, goes, makes, told, Walk, unborn, without_first, taking, behind_entry, crossing, after, walk_from}
+use Rattle.loom_law.specs.ThreadPart.{walk_of, IsPart}
+use Rattle.loom_law.specs.Control.{Command, Control, first_control, after_entry, control_after, versions_from, versions_of, entries_of, row_at, listed_places_after, listed_places_from, listed_places, control}
 use Rattle.loom_law.specs.Lawful.{Setting, Front, plans, own, MayMove, is_cross, owes_cross, front_at}
 use Rattle.loom_law.proofs.Strict.{Stands, IsStrict}
 use Rattle.loom_law.proofs.Obedience.{stands_moves}
@@ -45,39 +45,39 @@ crossing_coming p plans z (v ∷ vs) is = refl
 both_with : (vs vs' : List Version) (ks ks' : List ℕ) (es : List Entry) → vs ≡ vs' → ks ≡ ks' → active_with vs ks es ≡ active_with vs' ks' es
 both_with vs vs' ks ks' es v h = ap (λ x. active_with x ks es) v ∙ ap (λ x. active_with vs' x es) h
 
-walked_active : (p : Source) (plans : Plans) (t : ℕ) (z : Walk) (ss : List Step) → Walk.active (walked p plans z ss) ≡ active_with z.coming z.active (told t ss)
-walked_active p plans t z [] = refl
-walked_active p plans t z (goes (made l begin) ∷ ss) =
-    walked_active p plans t (taking (behind_entry z) z.coming) ss
+walk_active : (p : Source) (plans : Plans) (t : ℕ) (z : Walk) (ss : List PartStep) → Walk.active (walk_from p plans z ss) ≡ active_with z.coming z.active (told t ss)
+walk_active p plans t z [] = refl
+walk_active p plans t z (goes (made l begin) ∷ ss) =
+    walk_active p plans t (taking (behind_entry z) z.coming) ss
     ∙ both_with _ _ _ _ (told t ss) (taking_coming (behind_entry z) z.coming refl) (taking_active (behind_entry z) z.coming)
-walked_active p plans t z (makes l (cross x v n) ∷ ss) =
-    walked_active p plans t (crossing p plans z z.coming) ss
+walk_active p plans t z (makes l (cross x v n) ∷ ss) =
+    walk_active p plans t (crossing p plans z z.coming) ss
     ∙ both_with _ _ _ _ (told t ss) (crossing_coming p plans z z.coming refl) (crossing_active p plans z z.coming)
-walked_active p plans t z (goes (made l end) ∷ ss) = walked_active p plans t (after p plans z (goes (made l end))) ss
-walked_active p plans t z (goes (made l (trap c)) ∷ ss) = walked_active p plans t (after p plans z (goes (made l (trap c)))) ss
-walked_active p plans t z (goes (made l (read x v)) ∷ ss) = walked_active p plans t (after p plans z (goes (made l (read x v)))) ss
-walked_active p plans t z (goes (made l (write x v)) ∷ ss) = walked_active p plans t (after p plans z (goes (made l (write x v)))) ss
-walked_active p plans t z (goes (made l (lock x)) ∷ ss) = walked_active p plans t (after p plans z (goes (made l (lock x)))) ss
-walked_active p plans t z (goes (made l (unlock x)) ∷ ss) = walked_active p plans t (after p plans z (goes (made l (unlock x)))) ss
-walked_active p plans t z (goes (made l (down x)) ∷ ss) = walked_active p plans t (after p plans z (goes (made l (down x)))) ss
-walked_active p plans t z (goes (made l (up x)) ∷ ss) = walked_active p plans t (after p plans z (goes (made l (up x)))) ss
-walked_active p plans t z (goes (made l (spawn c f ws)) ∷ ss) = walked_active p plans t (after p plans z (goes (made l (spawn c f ws)))) ss
-walked_active p plans t z (goes (made l (join c)) ∷ ss) = walked_active p plans t (after p plans z (goes (made l (join c)))) ss
-walked_active p plans t z (goes (made l (print v)) ∷ ss) = walked_active p plans t (after p plans z (goes (made l (print v)))) ss
-walked_active p plans t z (goes (begins l env) ∷ ss) = walked_active p plans t (after p plans z (goes (begins l env))) ss
-walked_active p plans t z (goes (done l) ∷ ss) = walked_active p plans t (after p plans z (goes (done l))) ss
-walked_active p plans t z (goes (edge l) ∷ ss) = walked_active p plans t (after p plans z (goes (edge l))) ss
-walked_active p plans t z (goes (enter f env) ∷ ss) = walked_active p plans t (after p plans z (goes (enter f env))) ss
-walked_active p plans t z (goes (out f) ∷ ss) = walked_active p plans t (after p plans z (goes (out f))) ss
-walked_active p plans t z (makes l (wait k n) ∷ ss) = walked_active p plans t (after p plans z (makes l (wait k n))) ss
-walked_active p plans t z (makes l (enters k c) ∷ ss) = walked_active p plans t (after p plans z (makes l (enters k c))) ss
-walked_active p plans t z (makes l (at k ns) ∷ ss) = walked_active p plans t (after p plans z (makes l (at k ns))) ss
-walked_active p plans t z (makes l (past k ns) ∷ ss) = walked_active p plans t (after p plans z (makes l (past k ns))) ss
-walked_active p plans t z (makes l (post k n) ∷ ss) = walked_active p plans t (after p plans z (makes l (post k n))) ss
-walked_active p plans t z (makes l (leave k c) ∷ ss) = walked_active p plans t (after p plans z (makes l (leave k c))) ss
-walked_active p plans t z (makes l back ∷ ss) = walked_active p plans t (after p plans z (makes l back)) ss
-walked_active p plans t z (makes l (tick x) ∷ ss) = walked_active p plans t (after p plans z (makes l (tick x))) ss
-walked_active p plans t z (makes l (blocked what) ∷ ss) = walked_active p plans t (after p plans z (makes l (blocked what))) ss
+walk_active p plans t z (goes (made l end) ∷ ss) = walk_active p plans t (after p plans z (goes (made l end))) ss
+walk_active p plans t z (goes (made l (trap c)) ∷ ss) = walk_active p plans t (after p plans z (goes (made l (trap c)))) ss
+walk_active p plans t z (goes (made l (read x v)) ∷ ss) = walk_active p plans t (after p plans z (goes (made l (read x v)))) ss
+walk_active p plans t z (goes (made l (write x v)) ∷ ss) = walk_active p plans t (after p plans z (goes (made l (write x v)))) ss
+walk_active p plans t z (goes (made l (lock x)) ∷ ss) = walk_active p plans t (after p plans z (goes (made l (lock x)))) ss
+walk_active p plans t z (goes (made l (unlock x)) ∷ ss) = walk_active p plans t (after p plans z (goes (made l (unlock x)))) ss
+walk_active p plans t z (goes (made l (down x)) ∷ ss) = walk_active p plans t (after p plans z (goes (made l (down x)))) ss
+walk_active p plans t z (goes (made l (up x)) ∷ ss) = walk_active p plans t (after p plans z (goes (made l (up x)))) ss
+walk_active p plans t z (goes (made l (spawn c f ws)) ∷ ss) = walk_active p plans t (after p plans z (goes (made l (spawn c f ws)))) ss
+walk_active p plans t z (goes (made l (join c)) ∷ ss) = walk_active p plans t (after p plans z (goes (made l (join c)))) ss
+walk_active p plans t z (goes (made l (print v)) ∷ ss) = walk_active p plans t (after p plans z (goes (made l (print v)))) ss
+walk_active p plans t z (goes (begins l env) ∷ ss) = walk_active p plans t (after p plans z (goes (begins l env))) ss
+walk_active p plans t z (goes (done l) ∷ ss) = walk_active p plans t (after p plans z (goes (done l))) ss
+walk_active p plans t z (goes (edge l) ∷ ss) = walk_active p plans t (after p plans z (goes (edge l))) ss
+walk_active p plans t z (goes (enter f env) ∷ ss) = walk_active p plans t (after p plans z (goes (enter f env))) ss
+walk_active p plans t z (goes (out f) ∷ ss) = walk_active p plans t (after p plans z (goes (out f))) ss
+walk_active p plans t z (makes l (wait k n) ∷ ss) = walk_active p plans t (after p plans z (makes l (wait k n))) ss
+walk_active p plans t z (makes l (enters k c) ∷ ss) = walk_active p plans t (after p plans z (makes l (enters k c))) ss
+walk_active p plans t z (makes l (at k ns) ∷ ss) = walk_active p plans t (after p plans z (makes l (at k ns))) ss
+walk_active p plans t z (makes l (past k ns) ∷ ss) = walk_active p plans t (after p plans z (makes l (past k ns))) ss
+walk_active p plans t z (makes l (post k n) ∷ ss) = walk_active p plans t (after p plans z (makes l (post k n))) ss
+walk_active p plans t z (makes l (leave k c) ∷ ss) = walk_active p plans t (after p plans z (makes l (leave k c))) ss
+walk_active p plans t z (makes l back ∷ ss) = walk_active p plans t (after p plans z (makes l back)) ss
+walk_active p plans t z (makes l (tick x) ∷ ss) = walk_active p plans t (after p plans z (makes l (tick x))) ss
+walk_active p plans t z (makes l (blocked what) ∷ ss) = walk_active p plans t (after p plans z (makes l (blocked what))) ss
 
 -- The same, read off the journal
 
@@ -101,72 +101,72 @@ takes_over : (f : List ℕ → List ℕ) (b : Bool) (v : Version) (vs : List Ver
 takes_over f true v vs ks x es steps h = steps ∙ h v.active
 takes_over f false v vs ks x es steps h = h ks
 
-told_active : (cs : List Command) (t : ℕ) (c : Control) (ks : List ℕ) (es : List Entry) → active_with (taken_from cs t c es) ks (entries_of t es) ≡ active_from cs t c ks es
+told_active : (cs : List Command) (t : ℕ) (c : Control) (ks : List ℕ) (es : List Entry) → active_with (versions_from cs t c es) ks (entries_of t es) ≡ active_from cs t c ks es
 told_active cs t c ks [] = refl
 told_active cs t c ks (e.Begin u l ∷ es) =
-    takes_over (λ js. active_from cs t c js es) (u == t) c.version (taken_from cs t c es) ks (e.Begin u l) (entries_of t es) refl (λ js. told_active cs t c js es)
+    takes_over (λ js. active_from cs t c js es) (u == t) c.version (versions_from cs t c es) ks (e.Begin u l) (entries_of t es) refl (λ js. told_active cs t c js es)
 told_active cs t c ks (e.Cross u l x v n ∷ es) =
-    takes_over (λ js. active_from cs t c js es) (u == t) c.version (taken_from cs t c es) ks (e.Cross u l x v n) (entries_of t es) refl (λ js. told_active cs t c js es)
+    takes_over (λ js. active_from cs t c js es) (u == t) c.version (versions_from cs t c es) ks (e.Cross u l x v n) (entries_of t es) refl (λ js. told_active cs t c js es)
 told_active cs t c ks (e.End u l ∷ es) =
     let d : Control = after_entry cs c (e.End u l) in
-    same_active (λ js. active_from cs t d js es) (u == t) (taken_from cs t d es) ks (e.End u l) (entries_of t es) refl (told_active cs t d ks es)
+    same_active (λ js. active_from cs t d js es) (u == t) (versions_from cs t d es) ks (e.End u l) (entries_of t es) refl (told_active cs t d ks es)
 told_active cs t c ks (e.Trap u l r ∷ es) =
     let d : Control = after_entry cs c (e.Trap u l r) in
-    same_active (λ js. active_from cs t d js es) (u == t) (taken_from cs t d es) ks (e.Trap u l r) (entries_of t es) refl (told_active cs t d ks es)
+    same_active (λ js. active_from cs t d js es) (u == t) (versions_from cs t d es) ks (e.Trap u l r) (entries_of t es) refl (told_active cs t d ks es)
 told_active cs t c ks (e.Read u l x v ∷ es) =
     let d : Control = after_entry cs c (e.Read u l x v) in
-    same_active (λ js. active_from cs t d js es) (u == t) (taken_from cs t d es) ks (e.Read u l x v) (entries_of t es) refl (told_active cs t d ks es)
+    same_active (λ js. active_from cs t d js es) (u == t) (versions_from cs t d es) ks (e.Read u l x v) (entries_of t es) refl (told_active cs t d ks es)
 told_active cs t c ks (e.Write u l x v ∷ es) =
     let d : Control = after_entry cs c (e.Write u l x v) in
-    same_active (λ js. active_from cs t d js es) (u == t) (taken_from cs t d es) ks (e.Write u l x v) (entries_of t es) refl (told_active cs t d ks es)
+    same_active (λ js. active_from cs t d js es) (u == t) (versions_from cs t d es) ks (e.Write u l x v) (entries_of t es) refl (told_active cs t d ks es)
 told_active cs t c ks (e.Lock u l y ∷ es) =
     let d : Control = after_entry cs c (e.Lock u l y) in
-    same_active (λ js. active_from cs t d js es) (u == t) (taken_from cs t d es) ks (e.Lock u l y) (entries_of t es) refl (told_active cs t d ks es)
+    same_active (λ js. active_from cs t d js es) (u == t) (versions_from cs t d es) ks (e.Lock u l y) (entries_of t es) refl (told_active cs t d ks es)
 told_active cs t c ks (e.Unlock u l y ∷ es) =
     let d : Control = after_entry cs c (e.Unlock u l y) in
-    same_active (λ js. active_from cs t d js es) (u == t) (taken_from cs t d es) ks (e.Unlock u l y) (entries_of t es) refl (told_active cs t d ks es)
+    same_active (λ js. active_from cs t d js es) (u == t) (versions_from cs t d es) ks (e.Unlock u l y) (entries_of t es) refl (told_active cs t d ks es)
 told_active cs t c ks (e.Down u l y ∷ es) =
     let d : Control = after_entry cs c (e.Down u l y) in
-    same_active (λ js. active_from cs t d js es) (u == t) (taken_from cs t d es) ks (e.Down u l y) (entries_of t es) refl (told_active cs t d ks es)
+    same_active (λ js. active_from cs t d js es) (u == t) (versions_from cs t d es) ks (e.Down u l y) (entries_of t es) refl (told_active cs t d ks es)
 told_active cs t c ks (e.Up u l y ∷ es) =
     let d : Control = after_entry cs c (e.Up u l y) in
-    same_active (λ js. active_from cs t d js es) (u == t) (taken_from cs t d es) ks (e.Up u l y) (entries_of t es) refl (told_active cs t d ks es)
+    same_active (λ js. active_from cs t d js es) (u == t) (versions_from cs t d es) ks (e.Up u l y) (entries_of t es) refl (told_active cs t d ks es)
 told_active cs t c ks (e.Spawn u l q f vs ∷ es) =
     let d : Control = after_entry cs c (e.Spawn u l q f vs) in
-    same_active (λ js. active_from cs t d js es) (u == t) (taken_from cs t d es) ks (e.Spawn u l q f vs) (entries_of t es) refl (told_active cs t d ks es)
+    same_active (λ js. active_from cs t d js es) (u == t) (versions_from cs t d es) ks (e.Spawn u l q f vs) (entries_of t es) refl (told_active cs t d ks es)
 told_active cs t c ks (e.Join u l q ∷ es) =
     let d : Control = after_entry cs c (e.Join u l q) in
-    same_active (λ js. active_from cs t d js es) (u == t) (taken_from cs t d es) ks (e.Join u l q) (entries_of t es) refl (told_active cs t d ks es)
+    same_active (λ js. active_from cs t d js es) (u == t) (versions_from cs t d es) ks (e.Join u l q) (entries_of t es) refl (told_active cs t d ks es)
 told_active cs t c ks (e.Print u l v ∷ es) =
     let d : Control = after_entry cs c (e.Print u l v) in
-    same_active (λ js. active_from cs t d js es) (u == t) (taken_from cs t d es) ks (e.Print u l v) (entries_of t es) refl (told_active cs t d ks es)
+    same_active (λ js. active_from cs t d js es) (u == t) (versions_from cs t d es) ks (e.Print u l v) (entries_of t es) refl (told_active cs t d ks es)
 told_active cs t c ks (e.Tick u l y ∷ es) =
     let d : Control = after_entry cs c (e.Tick u l y) in
-    same_active (λ js. active_from cs t d js es) (u == t) (taken_from cs t d es) ks (e.Tick u l y) (entries_of t es) refl (told_active cs t d ks es)
+    same_active (λ js. active_from cs t d js es) (u == t) (versions_from cs t d es) ks (e.Tick u l y) (entries_of t es) refl (told_active cs t d ks es)
 told_active cs t c ks (e.Blocked u l y ∷ es) =
     let d : Control = after_entry cs c (e.Blocked u l y) in
-    same_active (λ js. active_from cs t d js es) (u == t) (taken_from cs t d es) ks (e.Blocked u l y) (entries_of t es) refl (told_active cs t d ks es)
+    same_active (λ js. active_from cs t d js es) (u == t) (versions_from cs t d es) ks (e.Blocked u l y) (entries_of t es) refl (told_active cs t d ks es)
 told_active cs t c ks (e.At u l k ns ∷ es) =
     let d : Control = after_entry cs c (e.At u l k ns) in
-    same_active (λ js. active_from cs t d js es) (u == t) (taken_from cs t d es) ks (e.At u l k ns) (entries_of t es) refl (told_active cs t d ks es)
+    same_active (λ js. active_from cs t d js es) (u == t) (versions_from cs t d es) ks (e.At u l k ns) (entries_of t es) refl (told_active cs t d ks es)
 told_active cs t c ks (e.Past u l k ns ∷ es) =
     let d : Control = after_entry cs c (e.Past u l k ns) in
-    same_active (λ js. active_from cs t d js es) (u == t) (taken_from cs t d es) ks (e.Past u l k ns) (entries_of t es) refl (told_active cs t d ks es)
+    same_active (λ js. active_from cs t d js es) (u == t) (versions_from cs t d es) ks (e.Past u l k ns) (entries_of t es) refl (told_active cs t d ks es)
 told_active cs t c ks (e.Back u l ∷ es) =
     let d : Control = after_entry cs c (e.Back u l) in
-    same_active (λ js. active_from cs t d js es) (u == t) (taken_from cs t d es) ks (e.Back u l) (entries_of t es) refl (told_active cs t d ks es)
+    same_active (λ js. active_from cs t d js es) (u == t) (versions_from cs t d es) ks (e.Back u l) (entries_of t es) refl (told_active cs t d ks es)
 told_active cs t c ks (e.Enter u l k n ∷ es) =
     let d : Control = after_entry cs c (e.Enter u l k n) in
-    same_active (λ js. active_from cs t d js es) (u == t) (taken_from cs t d es) ks (e.Enter u l k n) (entries_of t es) refl (told_active cs t d ks es)
+    same_active (λ js. active_from cs t d js es) (u == t) (versions_from cs t d es) ks (e.Enter u l k n) (entries_of t es) refl (told_active cs t d ks es)
 told_active cs t c ks (e.Leave u l k n ∷ es) =
     let d : Control = after_entry cs c (e.Leave u l k n) in
-    same_active (λ js. active_from cs t d js es) (u == t) (taken_from cs t d es) ks (e.Leave u l k n) (entries_of t es) refl (told_active cs t d ks es)
+    same_active (λ js. active_from cs t d js es) (u == t) (versions_from cs t d es) ks (e.Leave u l k n) (entries_of t es) refl (told_active cs t d ks es)
 told_active cs t c ks (e.Post u l k n ∷ es) =
     let d : Control = after_entry cs c (e.Post u l k n) in
-    same_active (λ js. active_from cs t d js es) (u == t) (taken_from cs t d es) ks (e.Post u l k n) (entries_of t es) refl (told_active cs t d ks es)
+    same_active (λ js. active_from cs t d js es) (u == t) (versions_from cs t d es) ks (e.Post u l k n) (entries_of t es) refl (told_active cs t d ks es)
 told_active cs t c ks (e.Wait u l k n ∷ es) =
     let d : Control = after_entry cs c (e.Wait u l k n) in
-    same_active (λ js. active_from cs t d js es) (u == t) (taken_from cs t d es) ks (e.Wait u l k n) (entries_of t es) refl (told_active cs t d ks es)
+    same_active (λ js. active_from cs t d js es) (u == t) (versions_from cs t d es) ks (e.Wait u l k n) (entries_of t es) refl (told_active cs t d ks es)
 told_active cs t c ks (e.Asked k ∷ es) = told_active cs t (after_entry cs c (e.Asked k)) ks es
 told_active cs t c ks (e.Refused k n y ∷ es) = told_active cs t (after_entry cs c (e.Refused k n y)) ks es
 told_active cs t c ks (e.Stalled k u l ∷ es) = told_active cs t (after_entry cs c (e.Stalled k u l)) ks es
@@ -177,10 +177,10 @@ told_active cs t c ks (e.Installed k v ps ∷ es) = told_active cs t (after_entr
 told_active cs t c ks (e.Removed k v ps ∷ es) = told_active cs t (after_entry cs c (e.Removed k v ps)) ks es
 
 active_told : (s : Setting) (front : List Entry) (t : ℕ) (x : ThreadState) (h : IsPart s.program (plans s) (own s front t x))
-    → Walk.active (led s.program (plans s) (own s front t x) h.steps) ≡ active_from s.commands t first_control [] front
+    → Walk.active (walk_of s.program (plans s) (own s front t x) h.steps) ≡ active_from s.commands t first_control [] front
 active_told s front t x h =
-    walked_active s.program (plans s) t (unborn (taken s.commands t front)) h.steps
-    ∙ (ap (λ es. active_with (taken s.commands t front) [] es) h.tells ∙ told_active s.commands t first_control [] front)
+    walk_active s.program (plans s) t (unborn (versions_of s.commands t front)) h.steps
+    ∙ (ap (λ es. active_with (versions_of s.commands t front) [] es) h.tells ∙ told_active s.commands t first_control [] front)
 
 -- A thread crosses where a new version was listed for it, and each is listed for it
 
@@ -194,7 +194,7 @@ Moves t ls x = (is_thread t (thread_of x) ≡ true → is_cross x ≡ owes_cross
 
 abbrev AreMoves : ℕ → List ℕ → List Entry → Type 0
 AreMoves t ls [] = Unit {0}
-AreMoves t ls (x ∷ xs) = Moves t ls x × AreMoves t (listing t ls x) xs
+AreMoves t ls (x ∷ xs) = Moves t ls x × AreMoves t (listed_places_after t ls x) xs
 
 -- it has begun
 abbrev begun_behind : ℕ → Bool → Entry → Bool
@@ -239,7 +239,7 @@ new_listed : (ps ls : List ℕ) (i : ℕ) → i < thread_limit → length ps ≡
 new_listed ps ls i small is h = row_there ps i (subst (λ n. i < n) (sym is) small) (behind_empty ls (row_at ps (suc i)) h)
 
 newest_behind : (cs : List Command) (c : Control) (i : ℕ) (ls : List ℕ) (b : Bool) (ks : List ℕ) (x : Entry) → i < thread_limit → Moves (suc i) ls x → IsNewest c ls b ks
-    → IsNewest (after_entry cs c x) (listing (suc i) ls x) (begun_behind (suc i) b x) (active_behind (suc i) c ks x)
+    → IsNewest (after_entry cs c x) (listed_places_after (suc i) ls x) (begun_behind (suc i) b x) (active_behind (suc i) c ks x)
 newest_behind cs c i ls b ks (e.Begin u l) small m h = takes_newest c (u == suc i) b ls ks h
 newest_behind cs c i ls b ks (e.Cross u l x v n) small m h = crosses_newest c (u == suc i) b ls ks h
 newest_behind cs c i ls b ks (e.Installed k v ps) small m h = λ g n. absurd (new_listed ps ls i small m.1 n)
@@ -272,10 +272,10 @@ newest_behind cs c i ls b ks (e.Unreached k) small m h = h
 newest_behind cs c i ls b ks (e.Finish k) small m h = h
 
 newest_along : (cs : List Command) (c : Control) (i : ℕ) (ls : List ℕ) (b : Bool) (ks : List ℕ) (xs : List Entry) → i < thread_limit → AreMoves (suc i) ls xs → IsNewest c ls b ks
-    → IsNewest (controlled cs c xs) (listed_from (suc i) ls xs) (begun_from (suc i) b xs) (active_from cs (suc i) c ks xs)
+    → IsNewest (control_after cs c xs) (listed_places_from (suc i) ls xs) (begun_from (suc i) b xs) (active_from cs (suc i) c ks xs)
 newest_along cs c i ls b ks [] small m h = h
 newest_along cs c i ls b ks (x ∷ xs) small m h =
-    newest_along cs (after_entry cs c x) i (listing (suc i) ls x) (begun_behind (suc i) b x) (active_behind (suc i) c ks x) xs small m.1
+    newest_along cs (after_entry cs c x) i (listed_places_after (suc i) ls x) (begun_behind (suc i) b x) (active_behind (suc i) c ks x) xs small m.1
     (newest_behind cs c i ls b ks x small m.0 h)
 
 -- What stands moves so
@@ -289,25 +289,25 @@ same_number : (t u : ℕ) → (t == u) ≡ true → t ≡ u
 same_number t u h = grind arith
 
 crosses_of : (s : Setting) (f : Front) (t : ℕ) (x : Entry) (o : Option ℕ) → thread_of x ≡ o → ((u : ℕ) → o ≡ Some u → MayMove s f u x) → is_thread t o ≡ true
-    → is_cross x ≡ owes_cross x (listed t f.entries)
+    → is_cross x ≡ owes_cross x (listed_places t f.entries)
 crosses_of s f t x None is m h = cc
-crosses_of s f t x (Some u) is m h = subst (λ v. is_cross x ≡ owes_cross x (listed v f.entries)) (same_number u t h) ((m u refl).crosses)
+crosses_of s f t x (Some u) is m h = subst (λ v. is_cross x ≡ owes_cross x (listed_places v f.entries)) (same_number u t h) ((m u refl).crosses)
 
-moves_of : (s : Setting) (f : Front) (t : ℕ) (x : Entry) (rest : List Entry) → Stands s f x rest → Moves t (listed t f.entries) x
+moves_of : (s : Setting) (f : Front) (t : ℕ) (x : Entry) (rest : List Entry) → Stands s f x rest → Moves t (listed_places t f.entries) x
 moves_of s f t x rest h = (
   (λ g. crosses_of s f t x (thread_of x) refl (λ u is. stands_moves s f x rest u h is) g),
   row_of s f x rest h,
 )
 
-listed_last : (t : ℕ) (ls : List ℕ) (xs : List Entry) (y : Entry) → listed_from t ls (xs ++ y ∷ []) ≡ listing t (listed_from t ls xs) y
+listed_last : (t : ℕ) (ls : List ℕ) (xs : List Entry) (y : Entry) → listed_places_from t ls (xs ++ y ∷ []) ≡ listed_places_after t (listed_places_from t ls xs) y
 listed_last t ls [] y = refl
-listed_last t ls (x ∷ xs) y = listed_last t (listing t ls x) xs y
+listed_last t ls (x ∷ xs) y = listed_last t (listed_places_after t ls x) xs y
 
 append_one : (xs : List Entry) (y : Entry) (ys : List Entry) → (xs ++ y ∷ []) ++ ys ≡ xs ++ y ∷ ys
 append_one [] y ys = refl
 append_one (x ∷ xs) y ys = ap (◌∷◌ x) (append_one xs y ys)
 
-moves_from : (s : Setting) (es : List Entry) (h : IsStrict s es) (t : ℕ) (front todo rest : List Entry) → es ≡ front ++ (todo ++ rest) → AreMoves t (listed t front) todo
+moves_from : (s : Setting) (es : List Entry) (h : IsStrict s es) (t : ℕ) (front todo rest : List Entry) → es ≡ front ++ (todo ++ rest) → AreMoves t (listed_places t front) todo
 moves_from s es h t front [] rest is = tt
 moves_from s es h t front (x ∷ todo) rest is = (
   moves_of s (front_at s h.events front) t x (todo ++ rest) (h.stands front x (todo ++ rest) is),
@@ -359,12 +359,12 @@ first_begun t b (x ∷ es) y ys h is =
     (λ g. first_begun t (begun_behind t b x) es y ys (sym (if_false (is_thread t (thread_of x)) (x ∷ entries_of t es) (entries_of t es) g) ∙ h) is)
 
 pub newest : (s : Setting) (front rest : List Entry) → IsStrict s (front ++ rest) → (i : ℕ) → i < thread_limit → (x : ThreadState)
-    (h : IsPart s.program (plans s) (own s front (suc i) x)) (y : Entry) (ys : List Entry) → entries_of (suc i) front ≡ y ∷ ys → listed (suc i) front ≡ []
-    → (led s.program (plans s) (own s front (suc i) x) h.steps).active ≡ Version.active (control s.commands front).version
+    (h : IsPart s.program (plans s) (own s front (suc i) x)) (y : Entry) (ys : List Entry) → entries_of (suc i) front ≡ y ∷ ys → listed_places (suc i) front ≡ []
+    → (walk_of s.program (plans s) (own s front (suc i) x) h.steps).active ≡ Version.active (control s.commands front).version
 newest s front rest h i small x part y ys some none =
     let t : ℕ = suc i in
     let begins : IsBegin y =
-    first_begins s.program (plans s) t x.func x.args (taken s.commands t front) part.steps part.ahead part.outcome y ys part.trace part.woven (part.tells ∙ some) in
+    first_begins s.program (plans s) t x.func x.args (versions_of s.commands t front) part.steps part.ahead part.outcome y ys part.trace part.woven (part.tells ∙ some) in
     let begun : begun_from t false front ≡ true = first_begun t false front y ys some begins in
     let moves : AreMoves t [] front = moves_from s (front ++ rest) h t [] front rest refl in
     active_told s front t x part ∙ newest_along s.commands first_control i [] false [] front small moves (λ g n. cc) begun none

@@ -12,8 +12,8 @@ use Rattle.loom_event.specs.Entries.{thread_of, is_stopped, is_at_limit}
 use Rattle.loom_event.specs.Replay.{AllEnded}
 use Rattle.loom_event.specs.Replay.{ThreadState, start, thread_at, replay, IsAllowed}
 use Rattle.loom_law.specs.Walk.{tick, blocked}
-use Rattle.loom_law.specs.Part.{AsksToMake, AsksToAct}
-use Rattle.loom_law.specs.Control.{Command, command_at, Control, control, first_control, controlled, after_entry, listing, listed, listed_from}
+use Rattle.loom_law.specs.ThreadPart.{AsksToMake, AsksToAct}
+use Rattle.loom_law.specs.Control.{Command, command_at, Control, control, first_control, control_after, after_entry, listed_places_after, listed_places, listed_places_from}
 use Rattle.loom_law.specs.Lawful.{Setting, Front, front_of, plans, own, over, owes_cross, is_held_by, is_installed, IsDisabledFor, IsHeldOff, IsDue, IsStalled, IsOpen, Ends, front_at, MayFollow, IsLawful}
 use Rattle.loom_law.specs.Laws.{Balances, IsUnfinished}
 use Rattle.loom_law.specs.TurnLaws.{IsAnswered, event_of_deed}
@@ -33,7 +33,7 @@ no_due s f none h = no_command s.commands f.control.next h.command none h.is
 
 record IsQuiet (s : Setting) (x : Entry) : Type 0 where
   control : after_entry s.commands first_control x ≡ first_control
-  lists : (t : ℕ) → listing t [] x ≡ []
+  lists : (t : ℕ) → listed_places_after t [] x ≡ []
 
 abbrev no_numbers : List ℕ
 no_numbers = []
@@ -95,9 +95,9 @@ abbrev AllQuiet : Setting → List Entry → Type 0
 AllQuiet s [] = Unit {0}
 AllQuiet s (x ∷ xs) = IsQuiet s x × AllQuiet s xs
 
-controlled_last : (cs : List Command) (c : Control) (xs : List Entry) (y : Entry) → controlled cs c (xs ++ y ∷ []) ≡ after_entry cs (controlled cs c xs) y
-controlled_last cs c [] y = refl
-controlled_last cs c (x ∷ xs) y = controlled_last cs (after_entry cs c x) xs y
+control_after_last : (cs : List Command) (c : Control) (xs : List Entry) (y : Entry) → control_after cs c (xs ++ y ∷ []) ≡ after_entry cs (control_after cs c xs) y
+control_after_last cs c [] y = refl
+control_after_last cs c (x ∷ xs) y = control_after_last cs (after_entry cs c x) xs y
 
 append_one : (xs : List Entry) (y : Entry) (ys : List Entry) → (xs ++ y ∷ []) ++ ys ≡ xs ++ y ∷ ys
 append_one [] y ys = refl
@@ -109,26 +109,26 @@ quiet_from s es h none front (x ∷ todo) is so =
     let here : IsQuiet s x = quiet s (front_at s h.events front) x todo none so (h.follows front x todo is) (always_balanced s es h front x todo is) in (
       here,
       quiet_from s es h none (front ++ x ∷ []) todo (is ∙ sym (append_one front x todo))
-          (controlled_last s.commands first_control front x ∙ (ap (λ c. after_entry s.commands c x) so ∙ here.control)),
+          (control_after_last s.commands first_control front x ∙ (ap (λ c. after_entry s.commands c x) so ∙ here.control)),
     )
 
 all_quiet : (s : Setting) (es : List Entry) → IsLawful s es → s.commands ≡ [] → AllQuiet s es
 all_quiet s es h none = quiet_from s es h none [] es refl refl
 
-quiet_control : (s : Setting) (es : List Entry) → AllQuiet s es → controlled s.commands first_control es ≡ first_control
+quiet_control : (s : Setting) (es : List Entry) → AllQuiet s es → control_after s.commands first_control es ≡ first_control
 quiet_control s [] h = refl
-quiet_control s (x ∷ es) h = ap (λ c. controlled s.commands c es) h.0.control ∙ quiet_control s es h.1
+quiet_control s (x ∷ es) h = ap (λ c. control_after s.commands c es) h.0.control ∙ quiet_control s es h.1
 
-quiet_listed : (s : Setting) (es : List Entry) (t : ℕ) → AllQuiet s es → listed_from t [] es ≡ []
+quiet_listed : (s : Setting) (es : List Entry) (t : ℕ) → AllQuiet s es → listed_places_from t [] es ≡ []
 quiet_listed s [] t h = refl
-quiet_listed s (x ∷ es) t h = ap (λ ys. listed_from t ys es) (h.0.lists t) ∙ quiet_listed s es t h.1
+quiet_listed s (x ∷ es) t h = ap (λ ys. listed_places_from t ys es) (h.0.lists t) ∙ quiet_listed s es t h.1
 
 -- The journal says nothing of commands.
 pub nothing_controlled : (s : Setting) (es : List Entry) → IsLawful s es → s.commands ≡ [] → control s.commands es ≡ first_control
 nothing_controlled s es h none = quiet_control s es (all_quiet s es h none)
 
 -- No version is listed.
-pub nothing_listed : (s : Setting) (es : List Entry) → IsLawful s es → s.commands ≡ [] → (t : ℕ) → listed t es ≡ []
+pub nothing_listed : (s : Setting) (es : List Entry) → IsLawful s es → s.commands ≡ [] → (t : ℕ) → listed_places t es ≡ []
 nothing_listed s es h none t = quiet_listed s es t (all_quiet s es h none)
 
 -- No command is asked.
@@ -153,7 +153,7 @@ owes_none (e.Begin u l) = refl
 owes_none _ = refl
 
 -- Nobody owes a `Cross`.
-pub owes_no_cross : (s : Setting) (es : List Entry) → IsLawful s es → s.commands ≡ [] → (x : Entry) (t : ℕ) → owes_cross x (listed t es) ≡ false
+pub owes_no_cross : (s : Setting) (es : List Entry) → IsLawful s es → s.commands ≡ [] → (x : Entry) (t : ℕ) → owes_cross x (listed_places t es) ≡ false
 owes_no_cross s es h none x t = ap (owes_cross x) (nothing_listed s es h none t) ∙ owes_none x
 
 -- Turns

@@ -18,17 +18,17 @@ use Rattle.loom_event.specs.Replay.{start, thread_at, replay}
 use Rattle.loom_event.proofs.Runs.{next, given, event_of, events_told}
 use Rattle.loom_event.proofs.Shown.{event, adds}
 use Rattle.loom_law.specs.Filter.{Plan, plan_of}
-use Rattle.loom_law.specs.Walk.{Plans, past, leave, blocked, Step, goes, makes, items, told, Walk, unborn, is_same_place, position_of, place_number, request_place, walked, MayBlock, AreWoven}
-use Rattle.loom_law.specs.Part.{Own, led, IsPart, Point, HasMoved, KeepsAway, AsksToMake}
+use Rattle.loom_law.specs.Walk.{Plans, past, leave, blocked, PartStep, goes, makes, items, told, Walk, unborn, is_same_place, position_of, place_number, request_place, walk_from, MayBlock, AreWoven}
+use Rattle.loom_law.specs.ThreadPart.{Own, walk_of, IsPart, Point, HasMoved, KeepsAway, AsksToMake}
 use Rattle.loom_law.specs.Paths.{IsUnsafe}
-use Rattle.loom_law.specs.View.{IsClear, view_behind}
+use Rattle.loom_law.specs.FilterView.{IsClear, view_behind}
 use Rattle.loom_law.specs.Control.{means, install, remove, Command}
-use Rattle.loom_law.specs.Lawful.{Setting, Front, plans, running, IsOutside, SeesNothing, MayInstall, HasPart, IsFlagged, StaysAway, Parks, front_at, IsLawful}
+use Rattle.loom_law.specs.Lawful.{Setting, Front, plans, running_thread, IsOutside, SeesNothing, MayInstall, HasPart, IsFlagged, StaysAway, Parks, front_at, IsLawful}
 use Rattle.loom_law.specs.TurnLaws.{blocked_behind, ends_blocked}
 use Rattle.loom_law.proofs.OnePart.{told_append, same_front, one_move}
 use Rattle.loom_law.proofs.Earlier.{an_own, part_front, woven_front, same_number, by_test, if_true, if_false}
 use Rattle.loom_law.proofs.Turns.{stands_there}
-use Rattle.loom_law.proofs.Makings.{OpPart, cut_part, walked_blocked}
+use Rattle.loom_law.proofs.Makings.{OpPart, cut_part, walk_blocked}
 use Rattle.loom_law.proofs.OneRequest.{one_operation}
 use Rattle.loom_law.proofs.Journals.{not_off}
 use Rattle.loom_law.proofs.Shown.{setting, fix, version, events, main_part}
@@ -76,9 +76,9 @@ blocked_once p ps x es l what is twice h =
     let t : ℕ = x.thread in
     let c : OpPart p ps x l (blocked what) = cut_part p ps x es l (blocked what) is h in
     let part : IsPart p ps x = c.part in
-    let last : List Step = makes l (blocked what) ∷ [] in
+    let last : List PartStep = makes l (blocked what) ∷ [] in
     let woven : AreWoven p ps (unborn x.versions) (c.before ++ last) part.ahead = subst (λ ss. AreWoven p ps (unborn x.versions) ss part.ahead) c.last part.woven in
-    let stands : MayBlock (walked p ps (unborn x.versions) c.before) part.ahead l what =
+    let stands : MayBlock (walk_from p ps (unborn x.versions) c.before) part.ahead l what =
     stands_there p ps (unborn x.versions) c.before (makes l (blocked what)) [] part.ahead woven in
     let tells : told t c.before ++ e.Blocked t l what ∷ [] ≡ es ++ e.Blocked t l what ∷ [] =
     sym (told_append t c.before last) ∙ (ap (told t) (sym c.last) ∙ (part.tells ∙ is)) in
@@ -86,7 +86,7 @@ blocked_once p ps x es l what is twice h =
     let no : true ≡ false =
     sym twice
     ∙ (ap (blocked_behind false) (sym same)
-    ∙ (sym (walked_blocked p ps t (unborn x.versions) c.before part.ahead (woven_front p ps (unborn x.versions) c.before last part.ahead woven)) ∙ stands.not_yet)) in
+    ∙ (sym (walk_blocked p ps t (unborn x.versions) c.before part.ahead (woven_front p ps (unborn x.versions) c.before last part.ahead woven)) ∙ stands.not_yet)) in
     cc
 
 -- Places
@@ -176,14 +176,14 @@ blocked_stays s x n front y is blocked_ flagged h =
     let t : ℕ = x.thread in
     let p : Source = s.program in
     let m : HasMoved p (plans s) x h.steps = h.moved in
-    let last : List Step = m.last ∷ [] in
+    let last : List PartStep = m.last ∷ [] in
     let tells : told t h.steps ++ m.entry ∷ [] ≡ front ++ y ∷ [] =
     ap (λ us. told t h.steps ++ us) (sym m.is) ∙ (sym (told_append t h.steps last) ∙ (m.tells ∙ is)) in
     let same : told t h.steps ≡ front = same_front (told t h.steps) front m.entry y tells in
     let woven : AreWoven p (plans s) (unborn x.versions) h.steps (items last ++ m.ahead) = woven_front p (plans s) (unborn x.versions) h.steps last m.ahead m.woven in
-    let stood : Walk.is_blocked (led p (plans s) x h.steps) ≡ true =
-    walked_blocked p (plans s) t (unborn x.versions) h.steps (items last ++ m.ahead) woven ∙ (ap (blocked_behind false) same ∙ blocked_) in
-    h.away.stood stood (flagged (request_place (led p (plans s) x h.steps)))
+    let stood : Walk.is_blocked (walk_of p (plans s) x h.steps) ≡ true =
+    walk_blocked p (plans s) t (unborn x.versions) h.steps (items last ++ m.ahead) woven ∙ (ap (blocked_behind false) same ∙ blocked_) in
+    h.away.stood stood (flagged (request_place (walk_of p (plans s) x h.steps)))
 
 -- the removal of the worked journal is asked earlier
 abbrev pub fifth_setting : Setting
@@ -201,7 +201,7 @@ passing_front =
 abbrev pub passing : List Entry
 passing = passing_front ++ e.Up 1 6 0 ∷ []
 
-abbrev passing_steps : List Step
+abbrev passing_steps : List PartStep
 passing_steps =
     goes (made 9 begin) ∷ goes (enter 2 (((codes "t"), (pos 0)) ∷ ((codes "u"), (pos 0)) ∷ []))
     ∷ goes (begins 10 (((codes "t"), (pos 0)) ∷ ((codes "u"), (pos 0)) ∷ [])) ∷ goes (made 10 (spawn 2 0 [])) ∷ goes (done 10)
@@ -233,7 +233,7 @@ passing_unlawful h =
     let P : List Event → Type 0 = λ ys. Parks fifth_setting passing 2 1 (thread_at (Front.store (front_at fifth_setting ys passing_front)) 1) in
     let kept : StaysAway fifth_setting passing_own 2 = subst P same (bad.0.parked.0 refl) in
     let steps : kept.steps ≡ passing_steps = one_move removal_program (plans fifth_setting) passing_own kept.steps passing_steps kept.moved passing_moved in
-    let away = subst (λ ss. KeepsAway (IsFlagged fifth_setting 2) (led removal_program (plans fifth_setting) passing_own ss)) steps kept.away in
+    let away = subst (λ ss. KeepsAway (IsFlagged fifth_setting 2) (walk_of removal_program (plans fifth_setting) passing_own ss)) steps kept.away in
     away.passed.0 tt
 
 -- thread 2 is blocked at a flagged place, and goes on
@@ -262,7 +262,7 @@ inside = e.Begin 1 5 ∷ e.Spawn 1 6 2 0 [] ∷ e.Read 1 7 0 (pos 0) ∷ e.Asked
 abbrev inside_own : Own
 inside_own = an_own 1 1 [] (record { number = 0; active = [] } ∷ []) (e.Begin 1 5 ∷ e.Spawn 1 6 2 0 [] ∷ e.Read 1 7 0 (pos 0) ∷ [])
 
-abbrev inside_steps : List Step
+abbrev inside_steps : List PartStep
 inside_steps =
     goes (made 5 begin) ∷ goes (enter 1 ((codes "a", pos 0) ∷ [])) ∷ goes (begins 6 ((codes "a", pos 0) ∷ [])) ∷ goes (made 6 (spawn 2 0 []))
     ∷ goes (done 6) ∷ goes (begins 7 ((codes "a", pos 2) ∷ [])) ∷ goes (made 7 (read 0 (pos 0))) ∷ []
@@ -297,7 +297,7 @@ inside_unlawful h =
     let place_is : place.inside 7 ≡ m.lists.place 1 = at_number (m.lists.place 1) (places adds) 6 (place.inside 7) number refl in
     let plan_is : plan_of adds fix ≡ m.plan = same_plan m.command m.plan m.is m.installs in
     let P : List Event → Type 0 = λ ys.
-    IsOutside third_setting (e.Begin 1 5 ∷ e.Spawn 1 6 2 0 [] ∷ e.Read 1 7 0 (pos 0) ∷ e.Asked 1 ∷ []) 1 (running (thread_at (Front.store (front_at third_setting ys (e.Begin 1 5 ∷ e.Spawn 1 6 2 0 [] ∷ e.Read 1 7 0 (pos 0) ∷ e.Asked 1 ∷ []))) 1)) m.plan (m.lists.place 1) in
+    IsOutside third_setting (e.Begin 1 5 ∷ e.Spawn 1 6 2 0 [] ∷ e.Read 1 7 0 (pos 0) ∷ e.Asked 1 ∷ []) 1 (running_thread (thread_at (Front.store (front_at third_setting ys (e.Begin 1 5 ∷ e.Spawn 1 6 2 0 [] ∷ e.Read 1 7 0 (pos 0) ∷ e.Asked 1 ∷ []))) 1)) m.plan (m.lists.place 1) in
     let sees : SeesNothing third_setting inside_own m.plan (m.lists.place 1) = subst P same (m.outside 1) in
     let one : SeesNothing third_setting inside_own (plan_of adds fix) (m.lists.place 1) = subst (λ f. SeesNothing third_setting inside_own f (m.lists.place 1)) (sym plan_is) sees in
     let two : SeesNothing third_setting inside_own (plan_of adds fix) (place.inside 7) = subst (SeesNothing third_setting inside_own (plan_of adds fix)) (sym place_is) one in

@@ -7,9 +7,9 @@ use Rattle.loom_lang.specs.Trace.{begin, end, trap, read, write, lock, unlock, d
 use Rattle.loom_event.specs.Entries.{thread_of}
 use Rattle.loom_event.specs.Replay.{ThreadState, thread_at}
 use Rattle.loom_law.specs.Filter.{is_alone}
-use Rattle.loom_law.specs.Walk.{Version, Plans, wait, enters, at, past, post, leave, back, tick, cross, blocked, Step, goes, makes, told, Walk, unborn, holds, without_clause, without_first, taking, behind_entry, crossing, after, walked}
-use Rattle.loom_law.specs.Part.{led, IsPart, IsInside}
-use Rattle.loom_law.specs.Control.{Command, Control, first_control, after_entry, controlled, control, taken_from, taken, entries_of}
+use Rattle.loom_law.specs.Walk.{Version, Plans, wait, enters, at, past, post, leave, back, tick, cross, blocked, PartStep, goes, makes, told, Walk, unborn, holds, without_clause, without_first, taking, behind_entry, crossing, after, walk_from}
+use Rattle.loom_law.specs.ThreadPart.{walk_of, IsPart, IsInside}
+use Rattle.loom_law.specs.Control.{Command, Control, first_control, after_entry, control_after, control, versions_from, versions_of, entries_of}
 use Rattle.loom_law.specs.Lawful.{Setting, Front, plans, own, MayMove, IsHeldOff, is_held_by, is_installed, IsInsideIf, front_at, IsObeyed}
 use Rattle.loom_law.proofs.Strict.{Stands, IsStrict, StandsBy}
 use Rattle.loom_law.proofs.Inside.{inside_is_held}
@@ -49,39 +49,39 @@ crossing_coming p plans z (v ∷ vs) is = refl
 both_with : (vs vs' : List Version) (hs hs' : List (ℕ × ℕ)) (es : List Entry) → vs ≡ vs' → hs ≡ hs' → held_with vs hs es ≡ held_with vs' hs' es
 both_with vs vs' hs hs' es v h = ap (λ x. held_with x hs es) v ∙ ap (λ x. held_with vs' x es) h
 
-walked_held : (p : Source) (plans : Plans) (t : ℕ) (z : Walk) (ss : List Step) → Walk.held (walked p plans z ss) ≡ held_with z.coming z.held (told t ss)
-walked_held p plans t z [] = refl
-walked_held p plans t z (goes (made l begin) ∷ ss) =
-    walked_held p plans t (taking (behind_entry z) z.coming) ss
+walk_held : (p : Source) (plans : Plans) (t : ℕ) (z : Walk) (ss : List PartStep) → Walk.held (walk_from p plans z ss) ≡ held_with z.coming z.held (told t ss)
+walk_held p plans t z [] = refl
+walk_held p plans t z (goes (made l begin) ∷ ss) =
+    walk_held p plans t (taking (behind_entry z) z.coming) ss
     ∙ both_with _ _ _ _ (told t ss) (taking_coming (behind_entry z) z.coming refl) (taking_held (behind_entry z) z.coming)
-walked_held p plans t z (goes (made l end) ∷ ss) = walked_held p plans t (after p plans z (goes (made l end))) ss
-walked_held p plans t z (goes (made l (trap c)) ∷ ss) = walked_held p plans t (after p plans z (goes (made l (trap c)))) ss
-walked_held p plans t z (goes (made l (read x v)) ∷ ss) = walked_held p plans t (after p plans z (goes (made l (read x v)))) ss
-walked_held p plans t z (goes (made l (write x v)) ∷ ss) = walked_held p plans t (after p plans z (goes (made l (write x v)))) ss
-walked_held p plans t z (goes (made l (lock m)) ∷ ss) = walked_held p plans t (after p plans z (goes (made l (lock m)))) ss
-walked_held p plans t z (goes (made l (unlock m)) ∷ ss) = walked_held p plans t (after p plans z (goes (made l (unlock m)))) ss
-walked_held p plans t z (goes (made l (down m)) ∷ ss) = walked_held p plans t (after p plans z (goes (made l (down m)))) ss
-walked_held p plans t z (goes (made l (up m)) ∷ ss) = walked_held p plans t (after p plans z (goes (made l (up m)))) ss
-walked_held p plans t z (goes (made l (spawn c f vs)) ∷ ss) = walked_held p plans t (after p plans z (goes (made l (spawn c f vs)))) ss
-walked_held p plans t z (goes (made l (join c)) ∷ ss) = walked_held p plans t (after p plans z (goes (made l (join c)))) ss
-walked_held p plans t z (goes (made l (print v)) ∷ ss) = walked_held p plans t (after p plans z (goes (made l (print v)))) ss
-walked_held p plans t z (goes (begins l env) ∷ ss) = walked_held p plans t (after p plans z (goes (begins l env))) ss
-walked_held p plans t z (goes (done l) ∷ ss) = walked_held p plans t (after p plans z (goes (done l))) ss
-walked_held p plans t z (goes (edge l) ∷ ss) = walked_held p plans t (after p plans z (goes (edge l))) ss
-walked_held p plans t z (goes (enter f env) ∷ ss) = walked_held p plans t (after p plans z (goes (enter f env))) ss
-walked_held p plans t z (goes (out f) ∷ ss) = walked_held p plans t (after p plans z (goes (out f))) ss
-walked_held p plans t z (makes l (wait k n) ∷ ss) = walked_held p plans t (after p plans z (makes l (wait k n))) ss
-walked_held p plans t z (makes l (enters k c) ∷ ss) = walked_held p plans t (after p plans z (makes l (enters k c))) ss
-walked_held p plans t z (makes l (at k ns) ∷ ss) = walked_held p plans t (after p plans z (makes l (at k ns))) ss
-walked_held p plans t z (makes l (past k ns) ∷ ss) = walked_held p plans t (after p plans z (makes l (past k ns))) ss
-walked_held p plans t z (makes l (post k n) ∷ ss) = walked_held p plans t (after p plans z (makes l (post k n))) ss
-walked_held p plans t z (makes l (leave k c) ∷ ss) = walked_held p plans t (after p plans z (makes l (leave k c))) ss
-walked_held p plans t z (makes l back ∷ ss) = walked_held p plans t (after p plans z (makes l back)) ss
-walked_held p plans t z (makes l (tick x) ∷ ss) = walked_held p plans t (after p plans z (makes l (tick x))) ss
-walked_held p plans t z (makes l (cross x v n) ∷ ss) =
-    walked_held p plans t (crossing p plans z z.coming) ss
+walk_held p plans t z (goes (made l end) ∷ ss) = walk_held p plans t (after p plans z (goes (made l end))) ss
+walk_held p plans t z (goes (made l (trap c)) ∷ ss) = walk_held p plans t (after p plans z (goes (made l (trap c)))) ss
+walk_held p plans t z (goes (made l (read x v)) ∷ ss) = walk_held p plans t (after p plans z (goes (made l (read x v)))) ss
+walk_held p plans t z (goes (made l (write x v)) ∷ ss) = walk_held p plans t (after p plans z (goes (made l (write x v)))) ss
+walk_held p plans t z (goes (made l (lock m)) ∷ ss) = walk_held p plans t (after p plans z (goes (made l (lock m)))) ss
+walk_held p plans t z (goes (made l (unlock m)) ∷ ss) = walk_held p plans t (after p plans z (goes (made l (unlock m)))) ss
+walk_held p plans t z (goes (made l (down m)) ∷ ss) = walk_held p plans t (after p plans z (goes (made l (down m)))) ss
+walk_held p plans t z (goes (made l (up m)) ∷ ss) = walk_held p plans t (after p plans z (goes (made l (up m)))) ss
+walk_held p plans t z (goes (made l (spawn c f vs)) ∷ ss) = walk_held p plans t (after p plans z (goes (made l (spawn c f vs)))) ss
+walk_held p plans t z (goes (made l (join c)) ∷ ss) = walk_held p plans t (after p plans z (goes (made l (join c)))) ss
+walk_held p plans t z (goes (made l (print v)) ∷ ss) = walk_held p plans t (after p plans z (goes (made l (print v)))) ss
+walk_held p plans t z (goes (begins l env) ∷ ss) = walk_held p plans t (after p plans z (goes (begins l env))) ss
+walk_held p plans t z (goes (done l) ∷ ss) = walk_held p plans t (after p plans z (goes (done l))) ss
+walk_held p plans t z (goes (edge l) ∷ ss) = walk_held p plans t (after p plans z (goes (edge l))) ss
+walk_held p plans t z (goes (enter f env) ∷ ss) = walk_held p plans t (after p plans z (goes (enter f env))) ss
+walk_held p plans t z (goes (out f) ∷ ss) = walk_held p plans t (after p plans z (goes (out f))) ss
+walk_held p plans t z (makes l (wait k n) ∷ ss) = walk_held p plans t (after p plans z (makes l (wait k n))) ss
+walk_held p plans t z (makes l (enters k c) ∷ ss) = walk_held p plans t (after p plans z (makes l (enters k c))) ss
+walk_held p plans t z (makes l (at k ns) ∷ ss) = walk_held p plans t (after p plans z (makes l (at k ns))) ss
+walk_held p plans t z (makes l (past k ns) ∷ ss) = walk_held p plans t (after p plans z (makes l (past k ns))) ss
+walk_held p plans t z (makes l (post k n) ∷ ss) = walk_held p plans t (after p plans z (makes l (post k n))) ss
+walk_held p plans t z (makes l (leave k c) ∷ ss) = walk_held p plans t (after p plans z (makes l (leave k c))) ss
+walk_held p plans t z (makes l back ∷ ss) = walk_held p plans t (after p plans z (makes l back)) ss
+walk_held p plans t z (makes l (tick x) ∷ ss) = walk_held p plans t (after p plans z (makes l (tick x))) ss
+walk_held p plans t z (makes l (cross x v n) ∷ ss) =
+    walk_held p plans t (crossing p plans z z.coming) ss
     ∙ both_with _ _ _ _ (told t ss) (crossing_coming p plans z z.coming refl) (crossing_held p plans z z.coming)
-walked_held p plans t z (makes l (blocked what) ∷ ss) = walked_held p plans t (after p plans z (makes l (blocked what))) ss
+walk_held p plans t z (makes l (blocked what) ∷ ss) = walk_held p plans t (after p plans z (makes l (blocked what))) ss
 
 -- The same, read off the journal
 
@@ -111,36 +111,36 @@ crossed_over : (f : List (ℕ × ℕ) → List (ℕ × ℕ)) (b : Bool) (v : Ver
 crossed_over f true v vs hs t l x m n es h = h (held_in v.active hs)
 crossed_over f false v vs hs t l x m n es h = h hs
 
-pub told_held : (cs : List Command) (t : ℕ) (c : Control) (hs : List (ℕ × ℕ)) (es : List Entry) → held_with (taken_from cs t c es) hs (entries_of t es) ≡ held_from cs t c hs es
+pub told_held : (cs : List Command) (t : ℕ) (c : Control) (hs : List (ℕ × ℕ)) (es : List Entry) → held_with (versions_from cs t c es) hs (entries_of t es) ≡ held_from cs t c hs es
 told_held cs t c hs [] = refl
 told_held cs t c hs (e.Begin u l ∷ es) =
-    begun_held (λ gs. held_from cs t c gs es) (u == t) c.version (taken_from cs t c es) hs u l (entries_of t es) (told_held cs t c hs es)
+    begun_held (λ gs. held_from cs t c gs es) (u == t) c.version (versions_from cs t c es) hs u l (entries_of t es) (told_held cs t c hs es)
 told_held cs t c hs (e.Cross u l x v n ∷ es) =
-    crossed_over (λ gs. held_from cs t c gs es) (u == t) c.version (taken_from cs t c es) hs u l x v n (entries_of t es) (λ gs. told_held cs t c gs es)
+    crossed_over (λ gs. held_from cs t c gs es) (u == t) c.version (versions_from cs t c es) hs u l x v n (entries_of t es) (λ gs. told_held cs t c gs es)
 told_held cs t c hs (e.Enter u l k n ∷ es) =
     let d : Control = after_entry cs c (e.Enter u l k n) in
-    one_held (λ gs. held_from cs t d gs es) (u == t) (taken_from cs t d es) hs ((k, n) ∷ hs) (e.Enter u l k n) (entries_of t es) refl (λ gs. told_held cs t d gs es)
+    one_held (λ gs. held_from cs t d gs es) (u == t) (versions_from cs t d es) hs ((k, n) ∷ hs) (e.Enter u l k n) (entries_of t es) refl (λ gs. told_held cs t d gs es)
 told_held cs t c hs (e.Leave u l k n ∷ es) =
     let d : Control = after_entry cs c (e.Leave u l k n) in
-    one_held (λ gs. held_from cs t d gs es) (u == t) (taken_from cs t d es) hs (without_clause k n hs) (e.Leave u l k n) (entries_of t es) refl (λ gs. told_held cs t d gs es)
-told_held cs t c hs (e.End u l ∷ es) = same_held (λ gs. held_from cs t c gs es) (u == t) (taken_from cs t c es) hs (e.End u l) (entries_of t es) refl (told_held cs t c hs es)
-told_held cs t c hs (e.Trap u l r ∷ es) = same_held (λ gs. held_from cs t c gs es) (u == t) (taken_from cs t c es) hs (e.Trap u l r) (entries_of t es) refl (told_held cs t c hs es)
-told_held cs t c hs (e.Read u l x v ∷ es) = same_held (λ gs. held_from cs t c gs es) (u == t) (taken_from cs t c es) hs (e.Read u l x v) (entries_of t es) refl (told_held cs t c hs es)
-told_held cs t c hs (e.Write u l x v ∷ es) = same_held (λ gs. held_from cs t c gs es) (u == t) (taken_from cs t c es) hs (e.Write u l x v) (entries_of t es) refl (told_held cs t c hs es)
-told_held cs t c hs (e.Lock u l m ∷ es) = same_held (λ gs. held_from cs t c gs es) (u == t) (taken_from cs t c es) hs (e.Lock u l m) (entries_of t es) refl (told_held cs t c hs es)
-told_held cs t c hs (e.Unlock u l m ∷ es) = same_held (λ gs. held_from cs t c gs es) (u == t) (taken_from cs t c es) hs (e.Unlock u l m) (entries_of t es) refl (told_held cs t c hs es)
-told_held cs t c hs (e.Down u l m ∷ es) = same_held (λ gs. held_from cs t c gs es) (u == t) (taken_from cs t c es) hs (e.Down u l m) (entries_of t es) refl (told_held cs t c hs es)
-told_held cs t c hs (e.Up u l m ∷ es) = same_held (λ gs. held_from cs t c gs es) (u == t) (taken_from cs t c es) hs (e.Up u l m) (entries_of t es) refl (told_held cs t c hs es)
-told_held cs t c hs (e.Spawn u l d f vs ∷ es) = same_held (λ gs. held_from cs t c gs es) (u == t) (taken_from cs t c es) hs (e.Spawn u l d f vs) (entries_of t es) refl (told_held cs t c hs es)
-told_held cs t c hs (e.Join u l d ∷ es) = same_held (λ gs. held_from cs t c gs es) (u == t) (taken_from cs t c es) hs (e.Join u l d) (entries_of t es) refl (told_held cs t c hs es)
-told_held cs t c hs (e.Print u l v ∷ es) = same_held (λ gs. held_from cs t c gs es) (u == t) (taken_from cs t c es) hs (e.Print u l v) (entries_of t es) refl (told_held cs t c hs es)
-told_held cs t c hs (e.Tick u l y ∷ es) = same_held (λ gs. held_from cs t c gs es) (u == t) (taken_from cs t c es) hs (e.Tick u l y) (entries_of t es) refl (told_held cs t c hs es)
-told_held cs t c hs (e.Blocked u l y ∷ es) = same_held (λ gs. held_from cs t c gs es) (u == t) (taken_from cs t c es) hs (e.Blocked u l y) (entries_of t es) refl (told_held cs t c hs es)
-told_held cs t c hs (e.At u l k ns ∷ es) = same_held (λ gs. held_from cs t c gs es) (u == t) (taken_from cs t c es) hs (e.At u l k ns) (entries_of t es) refl (told_held cs t c hs es)
-told_held cs t c hs (e.Past u l k ns ∷ es) = same_held (λ gs. held_from cs t c gs es) (u == t) (taken_from cs t c es) hs (e.Past u l k ns) (entries_of t es) refl (told_held cs t c hs es)
-told_held cs t c hs (e.Back u l ∷ es) = same_held (λ gs. held_from cs t c gs es) (u == t) (taken_from cs t c es) hs (e.Back u l) (entries_of t es) refl (told_held cs t c hs es)
-told_held cs t c hs (e.Post u l k n ∷ es) = same_held (λ gs. held_from cs t c gs es) (u == t) (taken_from cs t c es) hs (e.Post u l k n) (entries_of t es) refl (told_held cs t c hs es)
-told_held cs t c hs (e.Wait u l k n ∷ es) = same_held (λ gs. held_from cs t c gs es) (u == t) (taken_from cs t c es) hs (e.Wait u l k n) (entries_of t es) refl (told_held cs t c hs es)
+    one_held (λ gs. held_from cs t d gs es) (u == t) (versions_from cs t d es) hs (without_clause k n hs) (e.Leave u l k n) (entries_of t es) refl (λ gs. told_held cs t d gs es)
+told_held cs t c hs (e.End u l ∷ es) = same_held (λ gs. held_from cs t c gs es) (u == t) (versions_from cs t c es) hs (e.End u l) (entries_of t es) refl (told_held cs t c hs es)
+told_held cs t c hs (e.Trap u l r ∷ es) = same_held (λ gs. held_from cs t c gs es) (u == t) (versions_from cs t c es) hs (e.Trap u l r) (entries_of t es) refl (told_held cs t c hs es)
+told_held cs t c hs (e.Read u l x v ∷ es) = same_held (λ gs. held_from cs t c gs es) (u == t) (versions_from cs t c es) hs (e.Read u l x v) (entries_of t es) refl (told_held cs t c hs es)
+told_held cs t c hs (e.Write u l x v ∷ es) = same_held (λ gs. held_from cs t c gs es) (u == t) (versions_from cs t c es) hs (e.Write u l x v) (entries_of t es) refl (told_held cs t c hs es)
+told_held cs t c hs (e.Lock u l m ∷ es) = same_held (λ gs. held_from cs t c gs es) (u == t) (versions_from cs t c es) hs (e.Lock u l m) (entries_of t es) refl (told_held cs t c hs es)
+told_held cs t c hs (e.Unlock u l m ∷ es) = same_held (λ gs. held_from cs t c gs es) (u == t) (versions_from cs t c es) hs (e.Unlock u l m) (entries_of t es) refl (told_held cs t c hs es)
+told_held cs t c hs (e.Down u l m ∷ es) = same_held (λ gs. held_from cs t c gs es) (u == t) (versions_from cs t c es) hs (e.Down u l m) (entries_of t es) refl (told_held cs t c hs es)
+told_held cs t c hs (e.Up u l m ∷ es) = same_held (λ gs. held_from cs t c gs es) (u == t) (versions_from cs t c es) hs (e.Up u l m) (entries_of t es) refl (told_held cs t c hs es)
+told_held cs t c hs (e.Spawn u l d f vs ∷ es) = same_held (λ gs. held_from cs t c gs es) (u == t) (versions_from cs t c es) hs (e.Spawn u l d f vs) (entries_of t es) refl (told_held cs t c hs es)
+told_held cs t c hs (e.Join u l d ∷ es) = same_held (λ gs. held_from cs t c gs es) (u == t) (versions_from cs t c es) hs (e.Join u l d) (entries_of t es) refl (told_held cs t c hs es)
+told_held cs t c hs (e.Print u l v ∷ es) = same_held (λ gs. held_from cs t c gs es) (u == t) (versions_from cs t c es) hs (e.Print u l v) (entries_of t es) refl (told_held cs t c hs es)
+told_held cs t c hs (e.Tick u l y ∷ es) = same_held (λ gs. held_from cs t c gs es) (u == t) (versions_from cs t c es) hs (e.Tick u l y) (entries_of t es) refl (told_held cs t c hs es)
+told_held cs t c hs (e.Blocked u l y ∷ es) = same_held (λ gs. held_from cs t c gs es) (u == t) (versions_from cs t c es) hs (e.Blocked u l y) (entries_of t es) refl (told_held cs t c hs es)
+told_held cs t c hs (e.At u l k ns ∷ es) = same_held (λ gs. held_from cs t c gs es) (u == t) (versions_from cs t c es) hs (e.At u l k ns) (entries_of t es) refl (told_held cs t c hs es)
+told_held cs t c hs (e.Past u l k ns ∷ es) = same_held (λ gs. held_from cs t c gs es) (u == t) (versions_from cs t c es) hs (e.Past u l k ns) (entries_of t es) refl (told_held cs t c hs es)
+told_held cs t c hs (e.Back u l ∷ es) = same_held (λ gs. held_from cs t c gs es) (u == t) (versions_from cs t c es) hs (e.Back u l) (entries_of t es) refl (told_held cs t c hs es)
+told_held cs t c hs (e.Post u l k n ∷ es) = same_held (λ gs. held_from cs t c gs es) (u == t) (versions_from cs t c es) hs (e.Post u l k n) (entries_of t es) refl (told_held cs t c hs es)
+told_held cs t c hs (e.Wait u l k n ∷ es) = same_held (λ gs. held_from cs t c gs es) (u == t) (versions_from cs t c es) hs (e.Wait u l k n) (entries_of t es) refl (told_held cs t c hs es)
 told_held cs t c hs (e.Asked k ∷ es) = told_held cs t (after_entry cs c (e.Asked k)) hs es
 told_held cs t c hs (e.Refused k n m ∷ es) = told_held cs t (after_entry cs c (e.Refused k n m)) hs es
 told_held cs t c hs (e.Installed k v ps ∷ es) = told_held cs t (after_entry cs c (e.Installed k v ps)) hs es
@@ -152,10 +152,10 @@ told_held cs t c hs (e.Finish k ∷ es) = told_held cs t c hs es
 
 -- what a thread holds behind its part is what the journal gives
 pub held_told : (s : Setting) (front : List Entry) (t : ℕ) (x : ThreadState) (h : IsPart s.program (plans s) (own s front t x))
-    → Walk.held (led s.program (plans s) (own s front t x) h.steps) ≡ held_from s.commands t first_control [] front
+    → Walk.held (walk_of s.program (plans s) (own s front t x) h.steps) ≡ held_from s.commands t first_control [] front
 held_told s front t x h =
-    walked_held s.program (plans s) t (unborn (taken s.commands t front)) h.steps
-    ∙ (ap (λ es. held_with (taken s.commands t front) [] es) h.tells ∙ told_held s.commands t first_control [] front)
+    walk_held s.program (plans s) t (unborn (versions_of s.commands t front)) h.steps
+    ∙ (ap (λ es. held_with (versions_of s.commands t front) [] es) h.tells ∙ told_held s.commands t first_control [] front)
 
 -- What stands says of the control
 
@@ -167,9 +167,9 @@ stands_says s f (e.Installed k v ps) rest h = h.1.asked
 stands_says s f (e.Unreached k) rest h = h.1.0
 stands_says s f _ rest h = tt
 
-pub controlled_last : (cs : List Command) (c : Control) (xs : List Entry) (y : Entry) → controlled cs c (xs ++ y ∷ []) ≡ after_entry cs (controlled cs c xs) y
-controlled_last cs c [] y = refl
-controlled_last cs c (x ∷ xs) y = controlled_last cs (after_entry cs c x) xs y
+pub control_after_last : (cs : List Command) (c : Control) (xs : List Entry) (y : Entry) → control_after cs c (xs ++ y ∷ []) ≡ after_entry cs (control_after cs c xs) y
+control_after_last cs c [] y = refl
+control_after_last cs c (x ∷ xs) y = control_after_last cs (after_entry cs c x) xs y
 
 pub append_one : (xs : List Entry) (y : Entry) (ys : List Entry) → (xs ++ y ∷ []) ++ ys ≡ xs ++ y ∷ ys
 append_one [] y ys = refl
@@ -179,7 +179,7 @@ said_from : (s : Setting) (es : List Entry) (h : IsStrict s es) (front todo rest
 said_from s es h front [] rest is = tt
 said_from s es h front (x ∷ todo) rest is = (
   stands_says s (front_at s h.events front) x (todo ++ rest) (h.stands front x (todo ++ rest) is),
-  subst (λ c. AreSaid s.commands c todo) (controlled_last s.commands first_control front x)
+  subst (λ c. AreSaid s.commands c todo) (control_after_last s.commands first_control front x)
       (said_from s es h (front ++ x ∷ []) todo rest (is ∙ sym (append_one front x (todo ++ rest)))),
 )
 
@@ -197,7 +197,7 @@ same_bools false false f g = refl
 
 pub balance : (s : Setting) (front rest : List Entry) → IsStrict s (front ++ rest) → (t : ℕ) (x : ThreadState) (h : IsPart s.program (plans s) (own s front t x)) (k c : ℕ)
     → is_installed (control s.commands front) k ≡ true
-    → holds (led s.program (plans s) (own s front t x) h.steps).held k c ≡ is_held_by (control s.commands front) k c t
+    → holds (walk_of s.program (plans s) (own s front t x) h.steps).held k c ≡ is_held_by (control s.commands front) k c t
 balance s front rest h t x part k c i =
     let hs : List (ℕ × ℕ) = held_from s.commands t first_control [] front in
     let b : IsBalanced (control s.commands front) t hs = balance_at s front rest h t in

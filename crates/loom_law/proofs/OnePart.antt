@@ -11,8 +11,8 @@ use Rattle.loom_lang.specs.Acts.{AnswerTheSame}
 use Rattle.loom_lang.specs.Alike.{AreAlike}
 use Rattle.loom_lang.proofs.NextItem.{Agree, traces_agree}
 use Rattle.loom_event.specs.Event.{entry_by}
-use Rattle.loom_law.specs.Walk.{Plans, Operation, wait, enters, at, past, post, leave, back, tick, cross, blocked, Step, goes, makes, items, told_item, told, entry_of_operation, Queue, Walk, unborn, after, place_of_item, place_of_next, Owes, Acts, AsksFor, MayCross, MayBlock, MayStand, AreWoven}
-use Rattle.loom_law.specs.Part.{Own}
+use Rattle.loom_law.specs.Walk.{Plans, Operation, wait, enters, at, past, post, leave, back, tick, cross, blocked, PartStep, goes, makes, items, told_item, told, entry_of_operation, Queue, Walk, unborn, after, place_of_item, place_of_next, Owes, Acts, AsksFor, MayCross, MayBlock, MayStand, AreWoven}
+use Rattle.loom_law.specs.ThreadPart.{Own}
 use Rattle.loom_law.specs.Laws.{EndsWithEntry, HasOnePart, HasOneMove, HasOneMade}
 
 -- An entry tells its step
@@ -227,7 +227,7 @@ no_place z (enter f env ∷ is) y k h = cc
 no_place z (out f ∷ is) y k h = cc
 
 -- places are passed until the next entry: a `Cross` that is told first counts at least those that were passed already
-later_cross : (p : Source) (plans : Plans) (t : ℕ) (z : Walk) (ss : List Step) (ahead : List Item) (l x v n : ℕ) (es : List Entry) → AreWoven p plans z ss ahead
+later_cross : (p : Source) (plans : Plans) (t : ℕ) (z : Walk) (ss : List PartStep) (ahead : List Item) (l x v n : ℕ) (es : List Entry) → AreWoven p plans z ss ahead
     → told t ss ≡ entry_of_operation t l (cross x v n) ∷ es → length z.passed ≤ n
 later_cross p plans t z [] ahead l x v n es h g = cc
 later_cross p plans t z (goes (made m a) ∷ ss) ahead l x v n es h g =
@@ -296,7 +296,7 @@ act_told t l m a o es fs g =
     let first : entry_by t l a ≡ entry_of_operation t m o = cc in
     act_is_no_op t l m a o first
 
-no_split : (p : Source) (plans : Plans) (t : ℕ) (z : Walk) (i : Item) (ss : List Step) (ahead : List Item) (l : ℕ) (o : Operation) (rest : List Item) (es : List Entry)
+no_split : (p : Source) (plans : Plans) (t : ℕ) (z : Walk) (i : Item) (ss : List PartStep) (ahead : List Item) (l : ℕ) (o : Operation) (rest : List Item) (es : List Entry)
     → AreWoven p plans z (goes i ∷ ss) ahead → MayStand p z (makes l o) rest → Begins (kind i) rest → told t (goes i ∷ ss) ≡ entry_of_operation t l o ∷ es → ⊥
 no_split p plans t z i ss ahead l (wait k n) rest es h m b g = owes_nothing z.owed l (wait k n) (goes_rest p z i (items ss ++ ahead) h.0) m
 no_split p plans t z i ss ahead l (enters k c) rest es h m b g = owes_nothing z.owed l (enters k c) (goes_rest p z i (items ss ++ ahead) h.0) m
@@ -338,7 +338,7 @@ no_split p plans t z (enter f env) ss ahead l (blocked what) rest es h m b g =
 -- Two parts
 
 -- what is left of the steps tells an entry, from each step on
-abbrev pub AreMade : ℕ → List Step → Type 0
+abbrev pub AreMade : ℕ → List PartStep → Type 0
 AreMade t [] = Unit {0}
 AreMade t (s ∷ ss) = (told t (s ∷ ss) ≡ [] → ⊥) × AreMade t ss
 
@@ -350,7 +350,7 @@ agrees_left : (is js : List Item) (j : Item) (r s : Outcome) → Agree is r (j �
 agrees_left [] js j r s h = tt
 agrees_left (i ∷ is) js j r s h = same_kind i j h.0
 
-pub one_way : (p : Source) (plans : Plans) (t : ℕ) (z : Walk) (ss us : List Step) (ahead above : List Item) (r s : Outcome) → AreWoven p plans z ss ahead
+pub one_way : (p : Source) (plans : Plans) (t : ℕ) (z : Walk) (ss us : List PartStep) (ahead above : List Item) (r s : Outcome) → AreWoven p plans z ss ahead
     → AreWoven p plans z us above → Agree (items ss ++ ahead) r (items us ++ above) s → told t ss ≡ told t us → AreMade t ss → AreMade t us → ss ≡ us
 one_way p plans t z [] [] ahead above r s h k a g m n = refl
 one_way p plans t z [] (u ∷ us) ahead above r s h k a g m n = absurd (n.0 (sym g))
@@ -374,7 +374,7 @@ one_way p plans t z (makes l o ∷ ss) (makes q u ∷ us) ahead above r s h k a 
 
 -- the last step tells an entry
 
-told_last : (t : ℕ) (ss : List Step) (s : Step) (y : Entry) → told t (s ∷ []) ≡ y ∷ [] → told t (ss ++ s ∷ []) ≡ [] → ⊥
+told_last : (t : ℕ) (ss : List PartStep) (s : PartStep) (y : Entry) → told t (s ∷ []) ≡ y ∷ [] → told t (ss ++ s ∷ []) ≡ [] → ⊥
 told_last t [] s y h g =
     let no : y ∷ [] ≡ [] = sym h ∙ g in cc
 told_last t (makes l o ∷ ss) s y h g = cc
@@ -385,11 +385,11 @@ told_last t (goes (edge l) ∷ ss) s y h g = told_last t ss s y h g
 told_last t (goes (enter f env) ∷ ss) s y h g = told_last t ss s y h g
 told_last t (goes (out f) ∷ ss) s y h g = told_last t ss s y h g
 
-pub made_up_to : (t : ℕ) (ss : List Step) (s : Step) (y : Entry) → told t (s ∷ []) ≡ y ∷ [] → AreMade t (ss ++ s ∷ [])
+pub made_up_to : (t : ℕ) (ss : List PartStep) (s : PartStep) (y : Entry) → told t (s ∷ []) ≡ y ∷ [] → AreMade t (ss ++ s ∷ [])
 made_up_to t [] s y h = (told_last t [] s y h, tt)
 made_up_to t (x ∷ ss) s y h = (told_last t (x ∷ ss) s y h, made_up_to t ss s y h)
 
-ends_made : (x : Own) (steps : List Step) → EndsWithEntry x steps → AreMade x.thread steps
+ends_made : (x : Own) (steps : List PartStep) → EndsWithEntry x steps → AreMade x.thread steps
 ends_made x steps h = subst (AreMade x.thread) (sym h.1.1.0) (made_up_to x.thread h.0 h.1.0 h.1.1.1.0 h.1.1.1.1)
 
 pub one_part : HasOnePart
@@ -399,15 +399,15 @@ one_part p plans x a b m n =
 
 -- The steps up to the last entry, and the marks behind it
 
-record Halves (t : ℕ) (ss : List Step) : Type 0 where
-  before : List Step
-  behind : List Step
+record Halves (t : ℕ) (ss : List PartStep) : Type 0 where
+  before : List PartStep
+  behind : List PartStep
   whole : ss ≡ before ++ behind
   made : AreMade t before
   marks : told t behind ≡ []
 
 -- a step that tells an entry
-told_half : (t : ℕ) (s : Step) (ss : List Step) (y : Entry) → ((us : List Step) → told t (s ∷ us) ≡ y ∷ told t us) → Halves t ss → Halves t (s ∷ ss)
+told_half : (t : ℕ) (s : PartStep) (ss : List PartStep) (y : Entry) → ((us : List PartStep) → told t (s ∷ us) ≡ y ∷ told t us) → Halves t ss → Halves t (s ∷ ss)
 told_half t s ss y tells h = record {
   before = s ∷ h.before;
   behind = h.behind;
@@ -417,7 +417,7 @@ told_half t s ss y tells h = record {
 }
 
 -- a mark: it is made only where an entry is behind it
-mark_half : (t : ℕ) (s : Step) (ss : List Step) → ((us : List Step) → told t (s ∷ us) ≡ told t us) → (h : Halves t ss) → (before : List Step) → h.before ≡ before → Halves t (s ∷ ss)
+mark_half : (t : ℕ) (s : PartStep) (ss : List PartStep) → ((us : List PartStep) → told t (s ∷ us) ≡ told t us) → (h : Halves t ss) → (before : List PartStep) → h.before ≡ before → Halves t (s ∷ ss)
 mark_half t s ss skips h [] none = record {
   before = [];
   behind = s ∷ h.behind;
@@ -435,7 +435,7 @@ mark_half t s ss skips h (u ∷ us) some =
       marks = h.marks;
     }
 
-halves : (t : ℕ) (ss : List Step) → Halves t ss
+halves : (t : ℕ) (ss : List PartStep) → Halves t ss
 halves t [] = record { before = []; behind = []; whole = refl; made = tt; marks = refl }
 halves t (makes l o ∷ ss) = told_half t (makes l o) ss (entry_of_operation t l o) (λ us. refl) (halves t ss)
 halves t (goes (made l a) ∷ ss) = told_half t (goes (made l a)) ss (entry_by t l a) (λ us. refl) (halves t ss)
@@ -453,12 +453,12 @@ pub append_none : {A : Type 0} (xs : List A) → xs ++ [] ≡ xs
 append_none [] = refl
 append_none (x ∷ xs) = ap (◌∷◌ x) (append_none xs)
 
-items_append : (us vs : List Step) → items (us ++ vs) ≡ items us ++ items vs
+items_append : (us vs : List PartStep) → items (us ++ vs) ≡ items us ++ items vs
 items_append [] vs = refl
 items_append (goes i ∷ us) vs = ap (◌∷◌ i) (items_append us vs)
 items_append (makes l o ∷ us) vs = items_append us vs
 
-items_ahead : (us vs : List Step) (ahead : List Item) → items (us ++ vs) ++ ahead ≡ items us ++ (items vs ++ ahead)
+items_ahead : (us vs : List PartStep) (ahead : List Item) → items (us ++ vs) ++ ahead ≡ items us ++ (items vs ++ ahead)
 items_ahead us vs ahead = ap (λ z. z ++ ahead) (items_append us vs) ∙ append_assoc (items us) (items vs) ahead
 
 told_item_append : (t : ℕ) (i : Item) (es fs : List Entry) → told_item t i (es ++ fs) ≡ told_item t i es ++ fs
@@ -469,18 +469,18 @@ told_item_append t (edge l) es fs = refl
 told_item_append t (enter f env) es fs = refl
 told_item_append t (out f) es fs = refl
 
-pub told_append : (t : ℕ) (us vs : List Step) → told t (us ++ vs) ≡ told t us ++ told t vs
+pub told_append : (t : ℕ) (us vs : List PartStep) → told t (us ++ vs) ≡ told t us ++ told t vs
 told_append t [] vs = refl
 told_append t (goes i ∷ us) vs = ap (told_item t i) (told_append t us vs) ∙ told_item_append t i (told t us) (told t vs)
 told_append t (makes l o ∷ us) vs = ap (◌∷◌ (entry_of_operation t l o)) (told_append t us vs)
 
-woven_front : (p : Source) (plans : Plans) (z : Walk) (us vs : List Step) (ahead : List Item) → AreWoven p plans z (us ++ vs) ahead → AreWoven p plans z us (items vs ++ ahead)
+woven_front : (p : Source) (plans : Plans) (z : Walk) (us vs : List PartStep) (ahead : List Item) → AreWoven p plans z (us ++ vs) ahead → AreWoven p plans z us (items vs ++ ahead)
 woven_front p plans z [] vs ahead h = tt
 woven_front p plans z (u ∷ us) vs ahead h =
     (subst (MayStand p z u) (items_ahead us vs ahead) h.0, woven_front p plans (after p plans z u) us vs ahead h.1)
 
 -- what is made of a part
-half_told : (t : ℕ) (ss : List Step) (h : Halves t ss) → told t h.before ≡ told t ss
+half_told : (t : ℕ) (ss : List PartStep) (h : Halves t ss) → told t h.before ≡ told t ss
 half_told t ss h = sym (ap (told t) h.whole ∙ (told_append t h.before h.behind ∙ (ap (λ es. told t h.before ++ es) h.marks ∙ append_none (told t h.before))))
 
 pub one_made : HasOneMade

@@ -6,14 +6,14 @@ use Rattle.loom_lang.specs.Trace.{Act, Item, made, begins, done, edge, enter, ou
 use Rattle.loom_lang.specs.Acts.{Deed}
 use Rattle.loom_lang.specs.Alike.{AreAlike}
 use Rattle.loom_lang.proofs.NextItem.{one_next_item, Agree, traces_agree}
-use Rattle.loom_law.specs.Walk.{Plans, Operation, wait, enters, at, past, post, leave, back, tick, cross, blocked, Queue, Step, goes, makes, items, told, entry_of_operation, Walk, unborn, after_operation, after, walked, Owes, MayStand, AreWoven}
-use Rattle.loom_law.specs.Part.{Own, led, IsPart, with_entry, AsksToMake, AsksToAct}
+use Rattle.loom_law.specs.Walk.{Plans, Operation, wait, enters, at, past, post, leave, back, tick, cross, blocked, Queue, PartStep, goes, makes, items, told, entry_of_operation, Walk, unborn, after_operation, after, walk_from, Owes, MayStand, AreWoven}
+use Rattle.loom_law.specs.ThreadPart.{Own, walk_of, IsPart, with_entry, AsksToMake, AsksToAct}
 use Rattle.loom_law.specs.Laws.{SameSteps}
 use Rattle.loom_law.specs.TurnLaws.{IsAnswered, is_owed, HasOneRequest, HasNoSplit, HasOneOperation}
 use Rattle.loom_law.proofs.OnePart.{one_made, told_append, same_front}
 use Rattle.loom_law.proofs.Earlier.{items_ahead, woven_front}
 use Rattle.loom_law.proofs.Turns.{stands_there}
-use Rattle.loom_law.proofs.Answers.{next_act, goes_with, walked_append}
+use Rattle.loom_law.proofs.Answers.{next_act, goes_with, walk_append}
 use Rattle.loom_law.proofs.Makings.{OpPart, cut_part}
 
 -- Marks behind the same steps
@@ -32,7 +32,7 @@ record IsMark (i : Item) : Type 0 where
   stands : (p : Source) (z : Walk) (rest : List Item) → MayStand p z (goes i) rest → z.owed ≡ []
   no_act : (is : List Item) → BeginsWithAct (i ∷ is) → ⊥
 
-is_mark : (t : ℕ) (i : Item) (ss : List Step) → told t (goes i ∷ ss) ≡ [] → IsMark i
+is_mark : (t : ℕ) (i : Item) (ss : List PartStep) → told t (goes i ∷ ss) ≡ [] → IsMark i
 is_mark t (made l a) ss h = cc
 is_mark t (begins m env) ss h = record { alike = λ j g. g; stands = λ p z rest g. g; no_act = λ is g. g }
 is_mark t (done m) ss h = record { alike = λ j g. g; stands = λ p z rest g. g; no_act = λ is g. g }
@@ -40,7 +40,7 @@ is_mark t (edge m) ss h = record { alike = λ j g. g; stands = λ p z rest g. g;
 is_mark t (enter f env) ss h = record { alike = λ j g. g; stands = λ p z rest g. g; no_act = λ is g. g }
 is_mark t (out f) ss h = record { alike = λ j g. g; stands = λ p z rest g. g; no_act = λ is g. g }
 
-untold : (t : ℕ) (i : Item) (ss : List Step) → told t (goes i ∷ ss) ≡ [] → told t ss ≡ []
+untold : (t : ℕ) (i : Item) (ss : List PartStep) → told t (goes i ∷ ss) ≡ [] → told t ss ≡ []
 untold t (made l a) ss h = cc
 untold t (begins m env) ss h = h
 untold t (done m) ss h = h
@@ -74,9 +74,9 @@ no_act_here i is (edge m ∷ js) r s b a k = b
 no_act_here i is (enter f env ∷ js) r s b a k = b
 no_act_here i is (out f ∷ js) r s b a k = b
 
-one_stop : (p : Source) (plans : Plans) (t : ℕ) (z : Walk) (us vs : List Step) (ahead above : List Item) (r s : Outcome) → told t us ≡ [] → told t vs ≡ []
+one_stop : (p : Source) (plans : Plans) (t : ℕ) (z : Walk) (us vs : List PartStep) (ahead above : List Item) (r s : Outcome) → told t us ≡ [] → told t vs ≡ []
     → AreWoven p plans z us ahead → AreWoven p plans z vs above → Agree (items us ++ ahead) r (items vs ++ above) s
-    → IsStop (walked p plans z us) ahead → IsStop (walked p plans z vs) above → us ≡ vs
+    → IsStop (walk_from p plans z us) ahead → IsStop (walk_from p plans z vs) above → us ≡ vs
 one_stop p plans t z [] [] ahead above r s m n h k a b c = refl
 one_stop p plans t z (makes l o ∷ us) vs ahead above r s m n h k a b c = cc
 one_stop p plans t z [] (makes l o ∷ vs) ahead above r s m n h k a b c = cc
@@ -88,15 +88,15 @@ one_stop p plans t z (goes i ∷ us) [] ahead above r s m n h k a b (inr c) = ab
 one_stop p plans t z (goes i ∷ us) (goes j ∷ vs) ahead above r s m n h k a b c =
     let same : i ≡ j = (is_mark t i us m).alike j a.0 in
     let P : Item → Type 0 = λ y. AreWoven p plans (after p plans z (goes y)) vs above in
-    let Q : Item → Type 0 = λ y. IsStop (walked p plans (after p plans z (goes y)) vs) above in
+    let Q : Item → Type 0 = λ y. IsStop (walk_from p plans (after p plans z (goes y)) vs) above in
     let ih : us ≡ vs =
     one_stop p plans t (after p plans z (goes i)) us vs ahead above r s (untold t i us m) (untold t j vs n) h.1 (subst P (sym same) k.1) (a.1 same) b (subst Q (sym same) c) in
     ap (λ y. goes y ∷ us) same ∙ ap (◌∷◌ (goes j)) ih
 
 -- Points at which a thread asks
 
-woven_behind : (p : Source) (plans : Plans) (z : Walk) (us vs : List Step) (ahead : List Item) → AreWoven p plans z (us ++ vs) ahead
-    → AreWoven p plans (walked p plans z us) vs ahead
+woven_behind : (p : Source) (plans : Plans) (z : Walk) (us vs : List PartStep) (ahead : List Item) → AreWoven p plans z (us ++ vs) ahead
+    → AreWoven p plans (walk_from p plans z us) vs ahead
 woven_behind p plans z [] vs ahead h = h
 woven_behind p plans z (u ∷ us) vs ahead h = woven_behind p plans (after p plans z u) us vs ahead h.1
 
@@ -107,7 +107,7 @@ agree_behind (x ∷ xs) is js r s h = agree_behind xs is js r s (h.1 refl)
 -- these steps tell its entries, and behind them no mark stands
 record Asks (p : Source) (plans : Plans) (x : Own) : Type 0 where
   part : IsPart p plans x
-  stop : IsStop (led p plans x part.steps) part.ahead
+  stop : IsStop (walk_of p plans x part.steps) part.ahead
 
 one_point : (p : Source) (plans : Plans) (x : Own) (a b : Asks p plans x) → a.part.steps ≡ b.part.steps
 one_point p plans x a b =
@@ -116,7 +116,7 @@ one_point p plans x a b =
     let h : IsPart p plans x = a.part in
     let k : IsPart p plans x = b.part in
     let c : SameSteps x h.steps k.steps = one_made p plans x h k in
-    let m : Walk = walked p plans z c.made in
+    let m : Walk = walk_from p plans z c.made in
     let agree : Agree (items h.steps ++ h.ahead) h.outcome (items k.steps ++ k.ahead) k.outcome = traces_agree p x.func x.args _ _ _ _ h.trace k.trace in
     let left : items h.steps ++ h.ahead ≡ items c.made ++ (items c.behind ++ h.ahead) = ap (λ ss. items ss ++ h.ahead) c.first ∙ items_ahead c.made c.behind h.ahead in
     let right : items k.steps ++ k.ahead ≡ items c.made ++ (items c.behind' ++ k.ahead) = ap (λ ss. items ss ++ k.ahead) c.second ∙ items_ahead c.made c.behind' k.ahead in
@@ -126,10 +126,10 @@ one_point p plans x a b =
     woven_behind p plans z c.made c.behind h.ahead (subst (λ ss. AreWoven p plans z ss h.ahead) c.first h.woven) in
     let second : AreWoven p plans m c.behind' k.ahead =
     woven_behind p plans z c.made c.behind' k.ahead (subst (λ ss. AreWoven p plans z ss k.ahead) c.second k.woven) in
-    let stop : IsStop (walked p plans m c.behind) h.ahead =
-    subst (λ y. IsStop y h.ahead) (ap (walked p plans z) c.first ∙ walked_append p plans z c.made c.behind) a.stop in
-    let stop' : IsStop (walked p plans m c.behind') k.ahead =
-    subst (λ y. IsStop y k.ahead) (ap (walked p plans z) c.second ∙ walked_append p plans z c.made c.behind') b.stop in
+    let stop : IsStop (walk_from p plans m c.behind) h.ahead =
+    subst (λ y. IsStop y h.ahead) (ap (walk_from p plans z) c.first ∙ walk_append p plans z c.made c.behind) a.stop in
+    let stop' : IsStop (walk_from p plans m c.behind') k.ahead =
+    subst (λ y. IsStop y k.ahead) (ap (walk_from p plans z) c.second ∙ walk_append p plans z c.made c.behind') b.stop in
     let same : c.behind ≡ c.behind' =
     one_stop p plans t m c.behind c.behind' h.ahead k.ahead h.outcome k.outcome c.marks c.marks' first second (agree_behind (items c.made) _ _ _ _ both) stop stop' in
     c.first ∙ (ap (λ ss. c.made ++ ss) same ∙ sym c.second)
@@ -137,7 +137,7 @@ one_point p plans x a b =
 -- with what comes next, which is an act
 record ActPoint (p : Source) (plans : Plans) (x : Own) (d : Deed) : Type 0 where
   asks : Asks p plans x
-  rests : Walk.owed (led p plans x asks.part.steps) ≡ []
+  rests : Walk.owed (walk_of p plans x asks.part.steps) ≡ []
   trace : IsTrace p x.func x.args (items asks.part.steps ++ made d.line d.act ∷ []) Open
 
 act_point : (p : Source) (plans : Plans) (x : Own) (q : Request) (d : Deed) → AsksToAct p plans x q → IsAnswered q d → ActPoint p plans x d
@@ -186,7 +186,7 @@ none_owed (x ∷ os) l o h is = cc
 -- with the operation that it owes there
 record OpPoint (p : Source) (plans : Plans) (x : Own) (l : ℕ) (o : Operation) : Type 0 where
   asks : Asks p plans x
-  owes : Owes (Walk.owed (led p plans x asks.part.steps)) l o
+  owes : Owes (Walk.owed (walk_of p plans x asks.part.steps)) l o
 
 op_point : (p : Source) (plans : Plans) (x : Own) (l : ℕ) (o : Operation) → is_owed o ≡ true → AsksToMake p plans x l o → OpPoint p plans x l o
 op_point p plans x l o is h =
@@ -194,15 +194,15 @@ op_point p plans x l o is h =
     let y : Own = with_entry x (entry_of_operation t l o) in
     let c : OpPart p plans y l o = cut_part p plans y x.entries l o refl h in
     let part : IsPart p plans y = c.part in
-    let before : List Step = c.before in
-    let last : List Step = makes l o ∷ [] in
+    let before : List PartStep = c.before in
+    let last : List PartStep = makes l o ∷ [] in
     let trace : IsTrace p x.func x.args (items (before ++ last) ++ part.ahead) part.outcome =
     subst (λ ss. IsTrace p x.func x.args (items ss ++ part.ahead) part.outcome) c.last part.trace in
     let woven : AreWoven p plans (unborn x.versions) (before ++ last) part.ahead = subst (λ ss. AreWoven p plans (unborn x.versions) ss part.ahead) c.last part.woven in
     let tells : told t before ++ entry_of_operation t l o ∷ [] ≡ x.entries ++ entry_of_operation t l o ∷ [] =
     sym (told_append t before last) ∙ (ap (told t) (sym c.last) ∙ part.tells) in
-    let owes : Owes (Walk.owed (walked p plans (unborn x.versions) before)) l o =
-    op_owes p (walked p plans (unborn x.versions) before) l o part.ahead is (stands_there p plans (unborn x.versions) before (makes l o) [] part.ahead woven) in
+    let owes : Owes (Walk.owed (walk_from p plans (unborn x.versions) before)) l o =
+    op_owes p (walk_from p plans (unborn x.versions) before) l o part.ahead is (stands_there p plans (unborn x.versions) before (makes l o) [] part.ahead woven) in
     record {
       asks = record {
         part = record {
@@ -212,10 +212,10 @@ op_point p plans x l o is h =
           trace = subst (λ us. IsTrace p x.func x.args us part.outcome) (items_ahead before last part.ahead) trace;
           woven = woven_front p plans (unborn x.versions) before last part.ahead woven;
           tells = same_front (told t before) x.entries (entry_of_operation t l o) (entry_of_operation t l o) tells;
-          taken = sym (op_coming p plans (walked p plans (unborn x.versions) before) o is)
-              ∙ (ap (λ z. Walk.coming z) (sym (walked_append p plans (unborn x.versions) before last) ∙ ap (walked p plans (unborn x.versions)) (sym c.last)) ∙ part.taken);
+          taken = sym (op_coming p plans (walk_from p plans (unborn x.versions) before) o is)
+              ∙ (ap (λ z. Walk.coming z) (sym (walk_append p plans (unborn x.versions) before last) ∙ ap (walk_from p plans (unborn x.versions)) (sym c.last)) ∙ part.taken);
         };
-        stop = inl (none_owed (Walk.owed (walked p plans (unborn x.versions) before)) l o owes);
+        stop = inl (none_owed (Walk.owed (walk_from p plans (unborn x.versions) before)) l o owes);
       };
       owes = owes;
     }
@@ -235,7 +235,7 @@ no_split p plans x q d l o h answer is k =
     let a : ActPoint p plans x d = act_point p plans x q d h answer in
     let b : OpPoint p plans x l o = op_point p plans x l o is k in
     let same : a.asks.part.steps ≡ b.asks.part.steps = one_point p plans x a.asks b.asks in
-    none_owed (Walk.owed (led p plans x b.asks.part.steps)) l o b.owes (ap (λ ss. Walk.owed (led p plans x ss)) (sym same) ∙ a.rests)
+    none_owed (Walk.owed (walk_of p plans x b.asks.part.steps)) l o b.owes (ap (λ ss. Walk.owed (walk_of p plans x ss)) (sym same) ∙ a.rests)
 
 both_owed : (os : Queue) (l m : ℕ) (o q : Operation) → Owes os l o → Owes os m q → (l ≡ m) × (o ≡ q)
 both_owed [] l m o q h k = absurd h
@@ -246,4 +246,4 @@ one_operation p plans x l l' o o' is is' h k =
     let a : OpPoint p plans x l o = op_point p plans x l o is h in
     let b : OpPoint p plans x l' o' = op_point p plans x l' o' is' k in
     let same : a.asks.part.steps ≡ b.asks.part.steps = one_point p plans x a.asks b.asks in
-    both_owed (Walk.owed (led p plans x b.asks.part.steps)) l l' o o' (subst (λ ss. Owes (Walk.owed (led p plans x ss)) l o) same a.owes) b.owes
+    both_owed (Walk.owed (walk_of p plans x b.asks.part.steps)) l l' o o' (subst (λ ss. Owes (Walk.owed (walk_of p plans x ss)) l o) same a.owes) b.owes

@@ -15,7 +15,7 @@ use Rattle.loom_event.proofs.Runs.{next, given, threads_traced, does}
 use Rattle.loom_event.proofs.Runs as runs
 use Rattle.loom_event.proofs.Stops as stops
 use Rattle.loom_event.proofs.Shown.{event, adds, locks}
-use Rattle.loom_law.specs.Walk.{blocked, Step, goes, makes, items}
+use Rattle.loom_law.specs.Walk.{blocked, PartStep, goes, makes, items}
 use Rattle.loom_law.specs.Lawful.{Setting, HasPart, Lives, IsBlocked, IsHeldOff, IsStalled, front_at, IsLawful}
 use Rattle.loom_law.proofs.Fronts.{Each, behind, each_one, FollowsBehind, nothing_made}
 use Rattle.loom_law.proofs.Journals.{not_due, moves}
@@ -41,7 +41,7 @@ lost_ended (suc zero) x h = cc
 lost_ended (suc (suc zero)) x h = cc
 lost_ended (suc (suc (suc t))) x h = cc
 
-abbrev lost_steps_1 : List Step
+abbrev lost_steps_1 : List PartStep
 lost_steps_1 =
     goes (made 5 begin) ∷ goes (enter 1 ((codes "a", pos 0) ∷ [])) ∷ goes (begins 6 ((codes "a", pos 0) ∷ [])) ∷ goes (made 6 (spawn 2 0 []))
     ∷ goes (done 6) ∷ goes (begins 7 ((codes "a", pos 2) ∷ [])) ∷ goes (made 7 (read 0 (pos 0))) ∷ goes (made 7 (write 0 (pos 1))) ∷ goes (done 7)
@@ -63,7 +63,7 @@ lost_part_1 = record {
   taken = refl;
 }
 
-abbrev lost_steps_2 : List Step
+abbrev lost_steps_2 : List PartStep
 lost_steps_2 =
     goes (made 2 begin) ∷ goes (enter 0 []) ∷ goes (begins 3 []) ∷ goes (made 3 (read 0 (pos 0))) ∷ goes (made 3 (write 0 (pos 1))) ∷ goes (done 3)
     ∷ goes (out 0) ∷ goes (made 2 end) ∷ []
@@ -126,7 +126,7 @@ abbrev limit_events : List Event
 limit_events =
     event 1 5 begin ∷ event 1 6 (spawn 2 0 []) ∷ event 2 2 begin ∷ []
 
-abbrev limit_steps_1 : List Step
+abbrev limit_steps_1 : List PartStep
 limit_steps_1 =
     goes (made 5 begin) ∷ goes (enter 1 ((codes "a", pos 0) ∷ [])) ∷ goes (begins 6 ((codes "a", pos 0) ∷ [])) ∷ goes (made 6 (spawn 2 0 [])) ∷ []
 
@@ -144,7 +144,7 @@ limit_part_1 = record {
   taken = refl;
 }
 
-abbrev limit_steps_2 : List Step
+abbrev limit_steps_2 : List PartStep
 limit_steps_2 =
     goes (made 2 begin) ∷ []
 
@@ -212,7 +212,7 @@ stuck_lives (suc (suc t)) h = let no : None ≡ Some h.state = h.is in cc
 stuck_stalled : IsStalled stuck_setting (front_at stuck_setting stuck_events (e.Begin 1 2 ∷ e.Lock 1 3 0 ∷ e.Blocked 1 4 (w.Lock 0) ∷ []))
 stuck_stalled = record { live = 1; lives = record { state = _; is = refl; not_ended = refl }; stuck = stuck_lives }
 
-abbrev stuck_steps_1 : List Step
+abbrev stuck_steps_1 : List PartStep
 stuck_steps_1 =
     goes (made 2 begin) ∷ goes (enter 0 []) ∷ goes (begins 3 []) ∷ goes (made 3 (lock 0)) ∷ goes (done 3) ∷ goes (begins 4 [])
     ∷ makes 4 (blocked (w.Lock 0)) ∷ []
@@ -291,7 +291,7 @@ trap_ended zero x h = cc
 trap_ended (suc zero) x h = cc
 trap_ended (suc (suc t)) x h = cc
 
-abbrev trap_steps_1 : List Step
+abbrev trap_steps_1 : List PartStep
 trap_steps_1 =
     goes (made 2 begin) ∷ goes (enter 0 []) ∷ goes (begins 3 []) ∷ goes (made 3 (read 0 (pos 0))) ∷ goes (made 3 (trap division)) ∷ goes (made 2 end) ∷ []
 

@@ -3,7 +3,7 @@ use Rattle.std.proofs.Common.{◌≡◌, ℕ, Some, List, [], ◌∷◌, ◌++�
 use Rattle.loom_trace.specs.declared.entry.Entry.{Entry}
 use Rattle.loom_trace.specs.declared.entry.Entry.TheVariants as e
 use Rattle.loom_event.specs.Entries.{thread_of}
-use Rattle.loom_law.specs.Control.{Command, Control, first_control, after_entry, controlled, control, listing, listed_from, listed}
+use Rattle.loom_law.specs.Control.{Command, Control, first_control, after_entry, control_after, control, listed_places_after, listed_places_from, listed_places}
 use Rattle.loom_law.specs.Lawful.{Setting, Front, front_at, IsHeldOff, Permits, MayFollowBy, MayFollow, IsLawful}
 use Rattle.loom_law.specs.Promises.{FollowsOrders, InstallsOutside, HasOneHolder, StaysAsItWas, ChangesNothing, AlwaysPromises}
 use Rattle.loom_law.proofs.Balance.{IsSound, first_sound, sound_along}
@@ -21,23 +21,23 @@ outside s f (e.Installed k v row) rest h =
     record { command = m.command; is = m.is; plan = m.plan; installs = m.installs; lists = m.lists; outside = m.outside }
 outside s f _ rest h = tt
 
-controlled_last : (cs : List Command) (c : Control) (xs : List Entry) (y : Entry) → controlled cs c (xs ++ y ∷ []) ≡ after_entry cs (controlled cs c xs) y
-controlled_last cs c [] y = refl
-controlled_last cs c (x ∷ xs) y = controlled_last cs (after_entry cs c x) xs y
+control_after_last : (cs : List Command) (c : Control) (xs : List Entry) (y : Entry) → control_after cs c (xs ++ y ∷ []) ≡ after_entry cs (control_after cs c xs) y
+control_after_last cs c [] y = refl
+control_after_last cs c (x ∷ xs) y = control_after_last cs (after_entry cs c x) xs y
 
-listed_last : (t : ℕ) (so_far : List ℕ) (xs : List Entry) (y : Entry) → listed_from t so_far (xs ++ y ∷ []) ≡ listing t (listed_from t so_far xs) y
+listed_last : (t : ℕ) (so_far : List ℕ) (xs : List Entry) (y : Entry) → listed_places_from t so_far (xs ++ y ∷ []) ≡ listed_places_after t (listed_places_from t so_far xs) y
 listed_last t so_far [] y = refl
-listed_last t so_far (x ∷ xs) y = listed_last t (listing t so_far x) xs y
+listed_last t so_far (x ∷ xs) y = listed_last t (listed_places_after t so_far x) xs y
 
 -- an entry behind which the version and the holders are as before, and that lists nothing
 stays : (s : Setting) (f : Front) (x : Entry) → f.control ≡ control s.commands f.entries
     → (after_entry s.commands (control s.commands f.entries) x).version ≡ (control s.commands f.entries).version
     → (after_entry s.commands (control s.commands f.entries) x).holders ≡ (control s.commands f.entries).holders
-    → ((t : ℕ) (so_far : List ℕ) → listing t so_far x ≡ so_far) → StaysAsItWas s f x
+    → ((t : ℕ) (so_far : List ℕ) → listed_places_after t so_far x ≡ so_far) → StaysAsItWas s f x
 stays s f x is version holders lists =
-    let last = controlled_last s.commands first_control f.entries x in (
+    let last = control_after_last s.commands first_control f.entries x in (
       ap (λ (d : Control). d.version) last ∙ version ∙ ap (λ (d : Control). d.version) (sym is),
-      (ap (λ (d : Control). d.holders) last ∙ holders ∙ ap (λ (d : Control). d.holders) (sym is), λ t. listed_last t [] f.entries x ∙ lists t (listed t f.entries)),
+      (ap (λ (d : Control). d.holders) last ∙ holders ∙ ap (λ (d : Control). d.holders) (sym is), λ t. listed_last t [] f.entries x ∙ lists t (listed_places t f.entries)),
     )
 
 unchanged : (s : Setting) (f : Front) (x : Entry) → f.control ≡ control s.commands f.entries → ChangesNothing s f x

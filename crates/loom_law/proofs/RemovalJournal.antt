@@ -20,10 +20,10 @@ use Rattle.loom_event.proofs.Runs as runs
 use Rattle.loom_event.proofs.Stops as stops
 use Rattle.loom_event.proofs.Shown.{event}
 use Rattle.loom_law.specs.Filter.{plan_of}
-use Rattle.loom_law.specs.Walk.{enters, past, leave, cross, blocked, Step, goes, makes, items}
+use Rattle.loom_law.specs.Walk.{enters, past, leave, cross, blocked, PartStep, goes, makes, items}
 use Rattle.loom_law.specs.Walk as walk
 use Rattle.loom_law.specs.Control.{means, install, remove, Command}
-use Rattle.loom_law.specs.Lawful.{Setting, HasPart, StandsAt, running, IsOutside, MayInstall, MayRemove, front_at, IsLawful}
+use Rattle.loom_law.specs.Lawful.{Setting, HasPart, StandsAt, running_thread, IsOutside, MayInstall, MayRemove, front_at, IsLawful}
 use Rattle.loom_law.proofs.Fronts.{Each, behind, each_one, FollowsBehind, nothing_made}
 use Rattle.loom_law.proofs.Journals.{not_due, moves}
 
@@ -85,7 +85,7 @@ removal_nowhere zero = refl
 removal_nowhere (suc zero) = refl
 removal_nowhere (suc (suc t)) = refl
 
-removal_outside : (t : ℕ) → IsOutside removal_setting (e.Asked 1 ∷ []) t (running (thread_at (start removal_program) t)) (plan_of removal_program ((Clause.exclusive ((Region.between (record { file = (codes "hold.lm"); line = 3; test = None } ∷ []) (record { file = (codes "hold.lm"); line = 3; test = None } ∷ [])) ∷ [])) ∷ [])) nowhere
+removal_outside : (t : ℕ) → IsOutside removal_setting (e.Asked 1 ∷ []) t (running_thread (thread_at (start removal_program) t)) (plan_of removal_program ((Clause.exclusive ((Region.between (record { file = (codes "hold.lm"); line = 3; test = None } ∷ []) (record { file = (codes "hold.lm"); line = 3; test = None } ∷ [])) ∷ [])) ∷ [])) nowhere
 removal_outside zero = tt
 removal_outside (suc zero) = tt
 removal_outside (suc (suc t)) = tt
@@ -103,7 +103,7 @@ removal_installs = record {
   outside = removal_outside;
 }
 
-abbrev removal_before_1 : List Step
+abbrev removal_before_1 : List PartStep
 removal_before_1 =
     goes (made 9 begin) ∷ goes (enter 2 (((codes "t"), (pos 0)) ∷ ((codes "u"), (pos 0)) ∷ []))
     ∷ goes (begins 10 (((codes "t"), (pos 0)) ∷ ((codes "u"), (pos 0)) ∷ [])) ∷ goes (made 10 (spawn 2 0 [])) ∷ goes (done 10)
@@ -124,7 +124,7 @@ removal_at_1 = record {
   place = refl;
 }
 
-abbrev removal_before_2 : List Step
+abbrev removal_before_2 : List PartStep
 removal_before_2 =
     goes (made 2 begin) ∷ goes (enter 0 []) ∷ goes (begins 3 []) ∷ makes 3 (enters 1 1) ∷ makes 3 (walk.at 1 (1 ∷ 2 ∷ [])) ∷ makes 3 (blocked (w.Down 0)) ∷ []
 
@@ -141,7 +141,7 @@ removal_at_2 = record {
   place = refl;
 }
 
-abbrev removal_before_3 : List Step
+abbrev removal_before_3 : List PartStep
 removal_before_3 =
     goes (made 2 begin) ∷ goes (enter 0 []) ∷ goes (begins 3 []) ∷ makes 3 (blocked (w.Enter 1 1)) ∷ []
 
@@ -183,7 +183,7 @@ removal_removes = record {
   lists = record { count = refl; place = removal_place; are = refl; stands = removal_stood; flagged = λ t. tt };
 }
 
-abbrev removal_steps_1 : List Step
+abbrev removal_steps_1 : List PartStep
 removal_steps_1 =
     goes (made 9 begin) ∷ goes (enter 2 (((codes "t"), (pos 0)) ∷ ((codes "u"), (pos 0)) ∷ []))
     ∷ goes (begins 10 (((codes "t"), (pos 0)) ∷ ((codes "u"), (pos 0)) ∷ [])) ∷ goes (made 10 (spawn 2 0 [])) ∷ goes (done 10)
@@ -209,7 +209,7 @@ removal_part_1 = record {
   taken = refl;
 }
 
-abbrev removal_steps_2 : List Step
+abbrev removal_steps_2 : List PartStep
 removal_steps_2 =
     goes (made 2 begin) ∷ goes (enter 0 []) ∷ goes (begins 3 []) ∷ makes 3 (enters 1 1) ∷ makes 3 (walk.at 1 (1 ∷ 2 ∷ [])) ∷ makes 3 (blocked (w.Down 0))
     ∷ makes 3 (cross 2 2 0) ∷ goes (made 3 (down 0)) ∷ goes (done 3) ∷ goes (out 0) ∷ goes (made 2 end) ∷ []
@@ -228,7 +228,7 @@ removal_part_2 = record {
   taken = refl;
 }
 
-abbrev removal_steps_3 : List Step
+abbrev removal_steps_3 : List PartStep
 removal_steps_3 =
     goes (made 2 begin) ∷ goes (enter 0 []) ∷ goes (begins 3 []) ∷ makes 3 (blocked (w.Enter 1 1)) ∷ makes 3 (cross 2 2 0) ∷ makes 3 (blocked (w.Down 0))
     ∷ goes (made 3 (down 0)) ∷ goes (done 3) ∷ goes (out 0) ∷ goes (made 2 end) ∷ []

@@ -10,26 +10,26 @@ use Rattle.loom_event.proofs.Runs.{next, given}
 use Rattle.loom_command.specs.Filter.{Region, Clause, Filter}
 use Rattle.loom_law.specs.Filter.{plan_of}
 use Rattle.loom_command.specs.Filter as filters
-use Rattle.loom_law.specs.Walk.{Version, Operation, enters, past, leave, blocked, Step, goes, makes, items, told}
+use Rattle.loom_law.specs.Walk.{Version, Operation, enters, past, leave, blocked, PartStep, goes, makes, items, told}
 use Rattle.loom_law.specs.Walk as walk
 use Rattle.loom_command.specs.Script as script
 use Rattle.loom_law.specs.Control.{means, install, Command}
-use Rattle.loom_law.specs.Part.{Own, IsPart}
+use Rattle.loom_law.specs.ThreadPart.{Own, IsPart}
 use Rattle.loom_lang.specs.Places.{nowhere}
 use Rattle.loom_event.specs.Event.{Event}
 use Rattle.loom_event.specs.Replay.{start, thread_at, replay}
 use Rattle.loom_event.specs.Run.{AreRun}
 use Rattle.loom_event.proofs.Shown.{event}
 use Rattle.loom_law.specs.Filter.{is_alone}
-use Rattle.loom_law.specs.Control.{Control, command_at, listed}
-use Rattle.loom_law.specs.Lawful.{Setting, Front, plans, over, owes_cross, is_cross, IsDue, IsParked, MayMove, MayInstall, HasPart, StandsAt, running, front_at, IsOutside, HasCompletions, HasPosts, IsLawful}
+use Rattle.loom_law.specs.Control.{Control, command_at, listed_places}
+use Rattle.loom_law.specs.Lawful.{Setting, Front, plans, over, owes_cross, is_cross, IsDue, IsParked, MayMove, MayInstall, HasPart, StandsAt, running_thread, front_at, IsOutside, HasCompletions, HasPosts, IsLawful}
 use Rattle.loom_event.proofs.Runs.{threads_traced, does, events_told, event_of}
 use Rattle.loom_event.proofs.Runs as runs
 use Rattle.loom_event.proofs.Stops as stops
 use Rattle.loom_event.specs.Run.{IsTraced}
 use Rattle.loom_event.proofs.Shown.{deed}
 use Rattle.loom_law.specs.Filter.{clauses}
-use Rattle.loom_law.specs.Walk.{unborn, holds, walked}
+use Rattle.loom_law.specs.Walk.{unborn, holds, walk_from}
 use Rattle.loom_tree.specs.Tree.{Source}
 use Rattle.loom_trace.specs.declared.entry.What.{What}
 use Rattle.loom_lang.specs.Trace.{Item}
@@ -75,7 +75,7 @@ add_own = record {
       ∷ e.Past 2 3 1 (1 ∷ 2 ∷ []) ∷ e.Leave 2 3 1 1 ∷ e.End 2 2 ∷ [];
 }
 
-abbrev pub add_steps : List Step
+abbrev pub add_steps : List PartStep
 add_steps =
     goes (made 2 begin) ∷ goes (enter 0 []) ∷ goes (begins 3 []) ∷ makes 3 (blocked (w.Enter 1 1)) ∷ makes 3 (enters 1 1)
     ∷ makes 3 (walk.at 1 (1 ∷ 2 ∷ [])) ∷ goes (made 3 (read 0 (pos 1))) ∷ goes (made 3 (write 0 (pos 2))) ∷ goes (done 3)
@@ -118,7 +118,7 @@ before_spawn = (codes "a", pos 0) ∷ []
 abbrev pub behind_spawn : Locals
 behind_spawn = (codes "a", pos 2) ∷ []
 
-abbrev pub main_steps : List Step
+abbrev pub main_steps : List PartStep
 main_steps =
     goes (made 5 begin) ∷ goes (enter 1 before_spawn) ∷ goes (begins 6 before_spawn) ∷ goes (made 6 (spawn 2 0 [])) ∷ goes (done 6)
     ∷ goes (begins 7 behind_spawn) ∷ makes 7 (enters 1 1) ∷ makes 7 (walk.at 1 (3 ∷ 4 ∷ [])) ∷ goes (made 7 (read 0 (pos 0)))
@@ -234,7 +234,7 @@ none_alone (suc zero) c h = never (1 == c) h
 none_alone (suc (suc k)) c h = cc
 
 moves : {f : Front} {t : ℕ} {x : Entry} → over setting f ≡ false → Control.closing f.control ≡ false → Control.next f.control ≡ 2
-    → Control.asked f.control ≡ None → is_cross x ≡ owes_cross x (listed t f.entries) → IsParked setting f t x (Control.asked f.control)
+    → Control.asked f.control ≡ None → is_cross x ≡ owes_cross x (listed_places t f.entries) → IsParked setting f t x (Control.asked f.control)
     → MayMove setting f t x
 moves {f = f} runs closing next asked crosses parked = record {
   goes_on = record {
@@ -253,7 +253,7 @@ stands_nowhere zero = refl
 stands_nowhere (suc zero) = refl
 stands_nowhere (suc (suc t)) = refl
 
-outside_first : (t : ℕ) → IsOutside setting (e.Asked 1 ∷ []) t (running (thread_at (start adds) t)) (plan_of adds fix) nowhere
+outside_first : (t : ℕ) → IsOutside setting (e.Asked 1 ∷ []) t (running_thread (thread_at (start adds) t)) (plan_of adds fix) nowhere
 outside_first zero = tt
 outside_first (suc zero) = tt
 outside_first (suc (suc t)) = tt

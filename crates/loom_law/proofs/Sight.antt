@@ -7,7 +7,7 @@ use Rattle.loom_tree.specs.Tree.{Body, simple, if_, while_, Function, Source}
 use Rattle.loom_tree.specs.Tree as tree
 use Rattle.loom_lang.specs.Trace.{Locals}
 use Rattle.loom_law.specs.Filter.{Site, statement, function, Watch, Range, between, whole, Plan, matching, share, entry_events, exit_events}
-use Rattle.loom_law.specs.View.{FrameView, View, all_ranges, with_events, with_begun, with_complete, with_all_complete, with_statement, first_frame, other_frames, is_empty}
+use Rattle.loom_law.specs.FilterView.{FrameView, FilterView, all_ranges, with_events, with_begun, with_complete, with_all_complete, with_statement, first_frame, other_frames, is_empty}
 use Rattle.loom_law.specs.Paths.{Node, links_of, statements, others, Begins, watch_at, IsExit, Halts, Comes, here, goes}
 use Rattle.loom_law.specs.Paths as path
 use Rattle.loom_law.proofs.Course.{Level, Course, AreNone, OnFirst, Follows, IsNested, AllReturn, IsLoop, IsCalledFrom, moved, at_level, no_member, contains_cases}
@@ -129,7 +129,7 @@ AreLeaving f gone [] = Unit {0}
 AreLeaving f [] (y ∷ ys) = ⊥
 AreLeaving f (x ∷ xs) (y ∷ ys) = Fits f x y × (ys ≡ [])
 
-pub record Sees (f : Plan) (s : Course) (w : View) : Type 0 where
+pub record Sees (f : Plan) (s : Course) (w : FilterView) : Type 0 where
   pub fits : AreFit f s.levels w.frames
   pub here : AreHere f s.levels w.here
   pub knows : AreKnown f s.levels (with_begun f w.here w.frames)

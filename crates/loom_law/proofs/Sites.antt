@@ -6,14 +6,14 @@ use Rattle.loom_tree.specs.Tree.{Source, Body, simple, if_, while_, Function}
 use Rattle.loom_tree.specs.Tree as tree
 use Rattle.loom_command.specs.Filter.{LineEvent, OrderStep, Region, Clause, Filter}
 use Rattle.loom_law.specs.Filter.{statement, function, Watch, Range, Plan, watch_of, watches_of_region, watches_of_clause, numbers, range_from, ranges_from, ruling_from, rulings_from, plan_of, ranges_of}
-use Rattle.loom_law.specs.View.{all_ranges}
+use Rattle.loom_law.specs.FilterView.{all_ranges}
 use Rattle.loom_law.specs.Paths.{watch_at, Node, node_places, places_in, places_of, IsReached, IsReachedAt, IsUnsafe}
 use Rattle.loom_law.specs.Paths as path
 use Rattle.loom_lang.specs.Places.{Place, nowhere, entry, inside, back_edge, out, body_places}
 use Rattle.loom_law.specs.Laws.{HasSoundPlaces, IsOutsideWhereFlagged}
 use Rattle.loom_event.specs.Replay.{ThreadState, thread_at}
 use Rattle.loom_law.specs.Control.{Command, Action, install, means, command_at}
-use Rattle.loom_law.specs.Lawful.{Setting, Front, plans, own, IsFlaggedBy, IsOutside, Lists, running}
+use Rattle.loom_law.specs.Lawful.{Setting, Front, plans, own, IsFlaggedBy, IsOutside, ListsPlaces, running_thread}
 use Rattle.loom_law.proofs.Course.{contains_first, contains_later, no_member, contains_cases}
 use Rattle.loom_law.proofs.Sight.{IsSited, IsWellSited}
 use Rattle.loom_law.proofs.Sound.{sound_of_sites}
@@ -370,12 +370,12 @@ flagged_safe p t o c y is installs h =
     subst Q installs (subst P is h)
 
 pub all_outside : (s : Setting) (f : Front) (k : ℕ) (row : List ℕ) (t : Filter) (c : Command) → command_at s.commands k ≡ Some c
-    → c.action ≡ install (means (plan_of s.program t)) → (ls : Lists s f k row) → (u : ℕ)
-    → IsOutside s f.entries u (running (thread_at f.store u)) (plan_of s.program t) (Lists.place ls u)
-all_outside s f k row t c is installs ls u = by_state (running (thread_at f.store u))
+    → c.action ≡ install (means (plan_of s.program t)) → (ls : ListsPlaces s f k row) → (u : ℕ)
+    → IsOutside s f.entries u (running_thread (thread_at f.store u)) (plan_of s.program t) (ListsPlaces.place ls u)
+all_outside s f k row t c is installs ls u = by_state (running_thread (thread_at f.store u))
   where
-    by_state : (o : Option ThreadState) → IsOutside s f.entries u o (plan_of s.program t) (Lists.place ls u)
+    by_state : (o : Option ThreadState) → IsOutside s f.entries u o (plan_of s.program t) (ListsPlaces.place ls u)
     by_state None = tt
     by_state (Some x) =
-        outside_where_flagged s (own s f.entries u x) t (Lists.place ls u)
-        (flagged_safe s.program t (command_at s.commands k) c (Lists.place ls u) is installs (Lists.flagged ls u))
+        outside_where_flagged s (own s f.entries u x) t (ListsPlaces.place ls u)
+        (flagged_safe s.program t (command_at s.commands k) c (ListsPlaces.place ls u) is installs (ListsPlaces.flagged ls u))

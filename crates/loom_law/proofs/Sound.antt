@@ -7,12 +7,12 @@ use Rattle.loom_lang.specs.Places.{Place, body_places}
 use Rattle.loom_lang.specs.Places as place
 use Rattle.loom_lang.specs.Trace.{Locals, begin, end, trap, read, write, lock, unlock, down, up, spawn, join, print, Item, made, begins, done, edge, enter, out}
 use Rattle.loom_law.specs.Filter.{Plan, statement, matching}
-use Rattle.loom_law.specs.Walk.{Version, Plans, Operation, wait, enters, at, past, post, leave, back, tick, cross, blocked, Step, goes, makes, items, OpenStatement, OpenFrame, Spot, elsewhere, beginning, entered, complete, left, trapped, Queue, Walk, unborn, in_frame, opened, closed, completed, without_first, taking, behind_entry, after_item, noted, noted_at, begun_at, left_behind, frames_without, spot_without, crossing, after_operation, walked, innermost, place_of_request, place_of_next}
-use Rattle.loom_law.specs.View as view
-use Rattle.loom_law.specs.View.{FrameView, View, nothing_seen, settled, seen_item, seen_step, seen_from, IsClear}
+use Rattle.loom_law.specs.Walk.{Version, Plans, Operation, wait, enters, at, past, post, leave, back, tick, cross, blocked, PartStep, goes, makes, items, OpenStatement, OpenFrame, Spot, elsewhere, beginning, entered, complete, left, trapped, Queue, Walk, unborn, in_frame, opened, closed, completed, without_first, taking, behind_entry, after_item, noted, noted_at, begun_at, left_behind, frames_without, spot_without, crossing, after_operation, walk_from, innermost, place_of_request, place_of_next}
+use Rattle.loom_law.specs.FilterView as view
+use Rattle.loom_law.specs.FilterView.{FrameView, FilterView, nothing_seen, settled, seen_item, seen_step, seen_from, IsClear}
 use Rattle.loom_law.specs.Paths.{Node, statements, Begins, places_in, places_of, IsUnsafe, Halts, node_places}
 use Rattle.loom_law.specs.Paths as path
-use Rattle.loom_law.specs.Part.{led}
+use Rattle.loom_law.specs.ThreadPart.{walk_of}
 use Rattle.loom_law.specs.Laws.{IsSound}
 use Rattle.loom_law.proofs.Course.{Level, Course, no_frames, AreNone, OnFirst, Follows, IsWithin, Acts, IsNested, AllReturn, IsLoop, moved, at_level, Runs, IsCourse, contains_first, contains_later, trace_is_course}
 use Rattle.loom_law.proofs.Sight.{IsWellSited, FitsNode, IsGood, AreGood, AreGone, AreFit, AreKnown, IsFresh, AreLeaving, Sees, begun_fits, none_here, known_again, one_line, loop_begins, begins_seen, done_seen, edge_seen, enter_seen, out_seen}
@@ -45,7 +45,7 @@ FitsSpot ls gone (left h is) = OnFirst gone (λ (x : Level) xs. h ≡ x.func)
 FitsSpot ls gone (trapped l) = AreNone ls × AreNone gone
 
 -- the thread is there in the tree, and the filter sees of it what fits
-pub record Is (p : Source) (f : Plan) (s : Course) (z : Walk) (w : View) : Type 0 where
+pub record Is (p : Source) (f : Plan) (s : Course) (z : Walk) (w : FilterView) : Type 0 where
   pub good : AreGood p s.levels
   pub gone : AreGone p s.levels s.gone
   pub sees : Sees f s w
@@ -86,10 +86,10 @@ acts_top : (ls : List Level) (l : ℕ) → Acts ls l → TopActs ls
 acts_top [] l a = tt
 acts_top (x ∷ xs) l a = (l, a.0)
 
-abbrev now : Plan → View → List FrameView
+abbrev now : Plan → FilterView → List FrameView
 now f w = view.with_begun f w.here w.frames
 
-act_keeps : (p : Source) (f : Plan) (s : Course) (z : Walk) (w : View) (l : ℕ) → IsWellSited f → Is p f s z w → Acts s.levels l
+act_keeps : (p : Source) (f : Plan) (s : Course) (z : Walk) (w : FilterView) (l : ℕ) → IsWellSited f → Is p f s z w → Acts s.levels l
     → Is p f (record s { gone = [] }) (behind_entry z) (settled f w)
 act_keeps p f s z w l well is a =
     let fit : AreFit f s.levels (now f w) = begun_fits p f s.levels w.here w.frames well is.good is.sees.here is.sees.fits in
@@ -133,7 +133,7 @@ same_out x xs [] h = absurd h
 same_out x xs (z ∷ zs) h = h.1.1
 
 -- where an item leads to
-abbrev Leads : Source → Plan → (Course → Type 0) → Walk → View → Type 0
+abbrev Leads : Source → Plan → (Course → Type 0) → Walk → FilterView → Type 0
 Leads p f P z w = (s : Course) × (P s × Is p f s z w)
 
 begins_keeps : (p : Source) (plans : Plans) (f : Plan) (ls : List Level) (z : Walk) (ys : List FrameView) (l : ℕ) (env : Locals) (P : Course → Type 0) → AreGood p ls
@@ -213,7 +213,7 @@ nothing_gone : {A : Type 0} (xs : List A) → AreNone xs → xs ≡ []
 nothing_gone [] h = refl
 nothing_gone (x ∷ xs) h = absurd h
 
-begin_keeps : (p : Source) (f : Plan) (s : Course) (z : Walk) (w : View) → IsWellSited f → Is p f s z w → AreNone s.levels
+begin_keeps : (p : Source) (f : Plan) (s : Course) (z : Walk) (w : FilterView) → IsWellSited f → Is p f s z w → AreNone s.levels
     → Is p f no_frames (taking (behind_entry z) z.coming) (settled f w)
 begin_keeps p f s z w well is n =
     let fit : AreFit f [] (now f w) = none_fit f s.levels (now f w) n (begun_fits p f s.levels w.here w.frames well is.good is.sees.here is.sees.fits) in
@@ -225,10 +225,10 @@ begin_keeps p f s z w well is n =
       spot = taking_spot (behind_entry z) z.coming (tt, tt);
     }
 
-fitted : (p : Source) (f : Plan) (s : Course) (z : Walk) (w : View) → IsWellSited f → Is p f s z w → AreFit f s.levels (now f w)
+fitted : (p : Source) (f : Plan) (s : Course) (z : Walk) (w : FilterView) → IsWellSited f → Is p f s z w → AreFit f s.levels (now f w)
 fitted p f s z w well is = begun_fits p f s.levels w.here w.frames well is.good is.sees.here is.sees.fits
 
-pub item_keeps : (p : Source) (plans : Plans) (f : Plan) (s : Course) (z : Walk) (w : View) (i : Item) (P : Course → Type 0) → IsWellSited f → Is p f s z w → Runs p s i P
+pub item_keeps : (p : Source) (plans : Plans) (f : Plan) (s : Course) (z : Walk) (w : FilterView) (i : Item) (P : Course → Type 0) → IsWellSited f → Is p f s z w → Runs p s i P
     → Leads p f P (after_item p plans z i) (seen_item f (after_item p plans z i) (settled f w) i)
 item_keeps p plans f s z w (made l begin) P well is r = (no_frames, (r.1.1, begin_keeps p f s z w well is r.0))
 item_keeps p plans f s z w (made l end) P well is r =
@@ -332,7 +332,7 @@ without_spot ks ls gone (complete l) h = h
 without_spot ks ls gone (left g is) h = h
 without_spot ks ls gone (trapped l) h = h
 
-crossing_keeps : (p : Source) (plans : Plans) (f : Plan) (s : Course) (z : Walk) (w : View) (vs : List Version) → Is p f s z w → Is p f s (crossing p plans z vs) w
+crossing_keeps : (p : Source) (plans : Plans) (f : Plan) (s : Course) (z : Walk) (w : FilterView) (vs : List Version) → Is p f s z w → Is p f s (crossing p plans z vs) w
 crossing_keeps p plans f s z w [] is = is
 crossing_keeps p plans f s z w (v ∷ vs) is = record {
   good = is.good;
@@ -342,7 +342,7 @@ crossing_keeps p plans f s z w (v ∷ vs) is = record {
   spot = without_spot v.active s.levels s.gone z.spot is.spot;
 }
 
-pub op_keeps : (p : Source) (plans : Plans) (f : Plan) (s : Course) (z z' : Walk) (w : View) (l : ℕ) (o : Operation) → Is p f s z w
+pub op_keeps : (p : Source) (plans : Plans) (f : Plan) (s : Course) (z z' : Walk) (w : FilterView) (l : ℕ) (o : Operation) → Is p f s z w
     → Is p f s (after_operation p plans z o) (seen_step f z' w (makes l o))
 op_keeps p plans f s z z' w l (wait k n) is = record { good = is.good; gone = is.gone; sees = is.sees; frames = is.frames; spot = is.spot }
 op_keeps p plans f s z z' w l (enters k n) is = record { good = is.good; gone = is.gone; sees = is.sees; frames = is.frames; spot = is.spot }
@@ -375,8 +375,8 @@ op_keeps p plans f s z z' w l (blocked what) is = record { good = is.good; gone 
 
 -- Along the steps
 
-pub walk_keeps : (p : Source) (plans : Plans) (f : Plan) (s : Course) (z : Walk) (w : View) (ss : List Step) (ahead : List Item) → IsWellSited f → Is p f s z w
-    → IsCourse p s (items ss ++ ahead) → Leads p f (λ s'. IsCourse p s' ahead) (walked p plans z ss) (seen_from p plans f z w ss)
+pub walk_keeps : (p : Source) (plans : Plans) (f : Plan) (s : Course) (z : Walk) (w : FilterView) (ss : List PartStep) (ahead : List Item) → IsWellSited f → Is p f s z w
+    → IsCourse p s (items ss ++ ahead) → Leads p f (λ s'. IsCourse p s' ahead) (walk_from p plans z ss) (seen_from p plans f z w ss)
 walk_keeps p plans f s z w [] ahead well is c = (s, (c, is))
 walk_keeps p plans f s z w (goes i ∷ ss) ahead well is c =
     let r = item_keeps p plans f s z w i (λ s'. IsCourse p s' (items ss ++ ahead)) well is c in
@@ -509,7 +509,7 @@ safe_at p f x y e safe =
     let P : Place → Type 0 = λ z. IsUnsafe p f z → ⊥ in
     subst P (sym e) safe
 
-clear : (frames leaving : List FrameView) (w : View) → w.frames ≡ frames → w.leaving ≡ leaving → AreClear frames → AreClear leaving → IsClear w
+clear : (frames leaving : List FrameView) (w : FilterView) → w.frames ≡ frames → w.leaving ≡ leaving → AreClear frames → AreClear leaving → IsClear w
 clear fs lv' w a b h k =
     let same : w.frames ++ w.leaving ≡ fs ++ lv' = ap (λ z. z ++ w.leaving) a ∙ ap (λ z. fs ++ z) b in
     let all : AreClear (fs ++ lv') = clear_append fs lv' h k in
@@ -546,13 +546,13 @@ acts_clear p f [] ws l well good fit a safe = absurd a
 acts_clear p f (x ∷ xs) ws l well good fit a safe =
     all_clear p f x xs ws (place.inside l) well good fit (acting_here p x.func x.function x.node x.opened l good.0 a.0 a.1) safe
 
-act_clear : (p : Source) (f : Plan) (s : Course) (z : Walk) (w : View) (y : Place) (l : ℕ) → IsWellSited f → Is p f s z w → Acts s.levels l
+act_clear : (p : Source) (f : Plan) (s : Course) (z : Walk) (w : FilterView) (y : Place) (l : ℕ) → IsWellSited f → Is p f s z w → Acts s.levels l
     → place_of_request z.spot [] z.frames ≡ y → (IsUnsafe p f y → ⊥) → AreClear (now f w)
 act_clear p f s z w y l well is a e safe =
     let there : place.inside l ≡ y = sym (act_place s.levels s.gone z.frames z.spot l a is.frames is.spot) ∙ e in
     acts_clear p f s.levels (now f w) l well is.good (fitted p f s z w well is) a (safe_at p f (place.inside l) y there safe)
 
-over_clear : (p : Source) (f : Plan) (s : Course) (z : Walk) (w : View) → IsWellSited f → Is p f s z w → AreNone s.levels → AreClear (now f w)
+over_clear : (p : Source) (f : Plan) (s : Course) (z : Walk) (w : FilterView) → IsWellSited f → Is p f s z w → AreNone s.levels → AreClear (now f w)
 over_clear p f s z w well is n = none_clear f s.levels (now f w) n (fitted p f s z w well is)
 
 edges_clear : (p : Source) (f : Plan) (ls : List Level) (ws : List FrameView) (l : ℕ) → IsWellSited f → AreGood p ls → AreFit f ls ws
@@ -635,7 +635,7 @@ gone_clear p f ls (x ∷ xs) ws lvs h well good g fit lea k safe =
         none_left [] e = tt
         none_left (u ∷ us) e = cc
 
-owed_clear : (p : Source) (f : Plan) (s : Course) (z : Walk) (w : View) (y : Place) (o : ℕ × Operation) (os : Queue) (t : Spot) → IsWellSited f → Is p f s z w
+owed_clear : (p : Source) (f : Plan) (s : Course) (z : Walk) (w : FilterView) (y : Place) (o : ℕ × Operation) (os : Queue) (t : Spot) → IsWellSited f → Is p f s z w
     → FitsSpot s.levels s.gone t → place_of_request t (o ∷ os) z.frames ≡ y → (IsUnsafe p f y → ⊥) → AreClear w.frames × AreClear w.leaving
 owed_clear p f s z w y o os elsewhere well is k e safe = by_cases (top_cases p s.levels is.good k.1)
   where
@@ -662,7 +662,7 @@ owed_clear p f s z w y o os (trapped l) well is k e safe =
     (none_clear f s.levels w.frames k.0 is.sees.fits, none_leaving f s.gone w.leaving k.1 is.sees.leaving)
 
 -- nothing is owed
-item_clear : (p : Source) (f : Plan) (s : Course) (z : Walk) (w : View) (y : Place) (i : Item) → IsWellSited f → Is p f s z w → Runs p s i (λ s'. Unit {0}) → z.owed ≡ []
+item_clear : (p : Source) (f : Plan) (s : Course) (z : Walk) (w : FilterView) (y : Place) (i : Item) → IsWellSited f → Is p f s z w → Runs p s i (λ s'. Unit {0}) → z.owed ≡ []
     → place_of_next z [] (i ∷ []) ≡ Some y → (IsUnsafe p f y → ⊥) → AreClear (now f w)
 item_clear p f s z w y (made l begin) well is r o e safe = over_clear p f s z w well is r.0
 item_clear p f s z w y (made l end) well is r o e safe = over_clear p f s z w well is r.0
@@ -686,10 +686,10 @@ item_clear p f s z w y (enter h env) well is r o e safe =
 item_clear p f s z w y (out h) well is r o e safe = none_some y e
 
 -- what is seen, with what is owed
-abbrev seen_where : Plan → Queue → View → View
+abbrev seen_where : Plan → Queue → FilterView → FilterView
 seen_where f os w = if view.is_empty os then settled f w else w
 
-point_clear : (p : Source) (f : Plan) (s : Course) (z : Walk) (w : View) (y : Place) (i : Item) (os : Queue) → IsWellSited f → Is p f s z w
+point_clear : (p : Source) (f : Plan) (s : Course) (z : Walk) (w : FilterView) (y : Place) (i : Item) (os : Queue) → IsWellSited f → Is p f s z w
     → Runs p s i (λ s'. Unit {0}) → z.owed ≡ os → place_of_next z os (i ∷ []) ≡ Some y → (IsUnsafe p f y → ⊥) → IsClear (seen_where f os w)
 point_clear p f s z w y i [] well is r o e safe = clear (now f w) [] (settled f w) refl refl (item_clear p f s z w y i well is r o e safe) tt
 point_clear p f s z w y i (o ∷ os) well is r q e safe =
@@ -705,4 +705,4 @@ pub sound_of_sites : (p : Source) (f : Plan) → IsWellSited f → IsSound p f
 sound_of_sites p f well plans x h y there safe =
     let c : IsCourse p no_frames (items h.steps ++ h.next ∷ []) = trace_is_course p x.func x.args _ _ h.trace in
     let r = walk_keeps p plans f no_frames (unborn x.versions) nothing_seen h.steps (h.next ∷ []) well (start p f x.versions) c in
-    point_clear p f r.0 (led p plans x h.steps) _ y h.next (led p plans x h.steps).owed well r.1.1 r.1.0 refl there safe
+    point_clear p f r.0 (walk_of p plans x h.steps) _ y h.next (walk_of p plans x h.steps).owed well r.1.1 r.1.0 refl there safe

@@ -20,7 +20,7 @@ use Rattle.loom_event.proofs.Runs as runs
 use Rattle.loom_event.proofs.Stops as stops
 use Rattle.loom_event.proofs.Shown.{event}
 use Rattle.loom_law.specs.Filter.{Watch, statement, Range, between, Plan, plan_of}
-use Rattle.loom_law.specs.Walk.{blocked, Step, goes, makes, items}
+use Rattle.loom_law.specs.Walk.{blocked, PartStep, goes, makes, items}
 use Rattle.loom_law.specs.Paths.{Node, leaves, complete, turns, links_of, statements, has_return, called_by, Begins, IsStatement, statements_of, places_of, Calls, Reaches, IsReached, IsReachedAt, watch_at, node_places, IsExit, Halts, Comes, IsUnsafeByEvent, IsUnsafeByPath, IsUnsafeByFunction, IsUnsafe}
 use Rattle.loom_law.specs.Paths as paths
 use Rattle.loom_law.specs.Control.{means, install, Command}
@@ -311,7 +311,7 @@ abbrev stall_front : List Entry
 stall_front =
     e.Begin 1 8 ∷ e.Lock 1 9 0 ∷ e.Spawn 1 10 2 0 [] ∷ e.Begin 2 3 ∷ e.Print 1 11 (pos 0) ∷ e.Blocked 2 4 (w.Lock 0) ∷ e.Asked 1 ∷ []
 
-abbrev stall_before_1 : List Step
+abbrev stall_before_1 : List PartStep
 stall_before_1 =
     goes (made 8 begin) ∷ goes (enter 1 ((codes "t", pos 0) ∷ [])) ∷ goes (begins 9 ((codes "t", pos 0) ∷ [])) ∷ goes (made 9 (lock 0)) ∷ goes (done 9)
     ∷ goes (begins 10 ((codes "t", pos 0) ∷ [])) ∷ goes (made 10 (spawn 2 0 [])) ∷ goes (done 10) ∷ goes (begins 11 ((codes "t", pos 2) ∷ []))
@@ -330,7 +330,7 @@ stall_at_1 = record {
   place = refl;
 }
 
-abbrev stall_before_2 : List Step
+abbrev stall_before_2 : List PartStep
 stall_before_2 =
     goes (made 3 begin) ∷ goes (enter 0 []) ∷ goes (begins 4 []) ∷ makes 4 (blocked (w.Lock 0)) ∷ []
 
@@ -388,7 +388,7 @@ stall_stalls = record {
   line = refl;
 }
 
-abbrev stall_steps_1 : List Step
+abbrev stall_steps_1 : List PartStep
 stall_steps_1 =
     goes (made 8 begin) ∷ goes (enter 1 ((codes "t", pos 0) ∷ [])) ∷ goes (begins 9 ((codes "t", pos 0) ∷ [])) ∷ goes (made 9 (lock 0)) ∷ goes (done 9)
     ∷ goes (begins 10 ((codes "t", pos 0) ∷ [])) ∷ goes (made 10 (spawn 2 0 [])) ∷ goes (done 10) ∷ goes (begins 11 ((codes "t", pos 2) ∷ []))
@@ -410,7 +410,7 @@ stall_part_1 = record {
   taken = refl;
 }
 
-abbrev stall_steps_2 : List Step
+abbrev stall_steps_2 : List PartStep
 stall_steps_2 =
     goes (made 3 begin) ∷ goes (enter 0 []) ∷ goes (begins 4 []) ∷ makes 4 (blocked (w.Lock 0)) ∷ goes (made 4 (lock 0)) ∷ goes (done 4)
     ∷ goes (begins 5 []) ∷ goes (made 5 (write 0 (pos 1))) ∷ goes (done 5) ∷ goes (begins 6 []) ∷ goes (made 6 (unlock 0)) ∷ goes (done 6) ∷ goes (out 0)

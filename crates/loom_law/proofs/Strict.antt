@@ -9,13 +9,13 @@ use Rattle.loom_event.specs.Replay.{start, thread_at, replay}
 use Rattle.loom_event.specs.Run.{AreRun}
 use Rattle.loom_law.specs.Filter.{Plan, before_in}
 use Rattle.loom_law.specs.Walk.{Version}
-use Rattle.loom_law.specs.Control.{Holder, listed}
+use Rattle.loom_law.specs.Control.{Holder, listed_places}
 use Rattle.loom_law.specs.Lawful.{Setting, Front, front_at, plans, HasPart, IsDisabledFor, MayMove, HasCompletions, HasPosts, is_held_by, is_installed, Permits, MayControl, MayFollowBy, IsLawful}
 use Rattle.loom_law.specs.Laws.{Balances}
 
 -- what is permitted and what balances, as one
 abbrev pub Keeps : Setting → Front → Entry → Type 0
-Keeps s f (e.Cross t l x v n) = (v ≡ Version.number f.control.version) × AllByRecursion (λ y. y ≡ x) (listed t f.entries)
+Keeps s f (e.Cross t l x v n) = (v ≡ Version.number f.control.version) × AllByRecursion (λ y. y ≡ x) (listed_places t f.entries)
 Keeps s f (e.Blocked t l what) = IsDisabledFor s f t what
 Keeps s f (e.Enter t l k c) =
     (is_installed f.control k ≡ true) × (list_any (λ (h : Holder). (h.filter == k) && (h.clause == c)) f.control.holders ≡ false)

@@ -18,7 +18,7 @@ use Rattle.loom_event.proofs.Runs.{next, threads_traced}
 use Rattle.loom_event.proofs.Runs as runs
 use Rattle.loom_event.proofs.Stops as stops
 use Rattle.loom_event.proofs.Shown.{event}
-use Rattle.loom_law.specs.Walk.{Plans, tick, Step, goes, makes, items, told, Spot, beginning, elsewhere, Queue, Walk, with_tick, after, walked, AreWoven}
+use Rattle.loom_law.specs.Walk.{Plans, tick, PartStep, goes, makes, items, told, Spot, beginning, elsewhere, Queue, Walk, with_tick, after, walk_from, AreWoven}
 use Rattle.loom_law.specs.Control.{Command, remove}
 use Rattle.loom_law.specs.Lawful.{Setting, plans, HasPart, IsLawful}
 use Rattle.loom_law.proofs.Earlier.{if_true, if_false}
@@ -54,7 +54,7 @@ tick_events = event 1 1 begin ∷ []
 -- Rounds
 
 -- so many turns of the loop
-rounds : ℕ → List Step → List Step
+rounds : ℕ → List PartStep → List PartStep
 rounds zero more = more
 rounds (suc n) more = goes (begins 3 []) ∷ goes (done 3) ∷ goes (edge 2) ∷ rounds n more
 
@@ -63,7 +63,7 @@ unfolding rounds
 round_acts zero = refl
 round_acts (suc n) = round_acts n
 
-round_told : (n : ℕ) (more : List Step) → told 1 (rounds n more) ≡ told 1 more
+round_told : (n : ℕ) (more : List PartStep) → told 1 (rounds n more) ≡ told 1 more
 unfolding rounds
 round_told zero more = refl
 round_told (suc n) more = round_told n more
@@ -97,7 +97,7 @@ in_loop s ys = record {
 no_tick : (n : ℕ) → suc n < 1000 → with_tick endless (place.back_edge 2) (suc n) [] ≡ []
 no_tick n h = if_false (suc n == 1000) _ [] (ne_eqb (suc n) 1000 (λ e. omega arith))
 
-rounds_woven : (ps : Plans) (n : ℕ) (s : Spot) (ys : List Place) → length ys + n < 1000 → (more : List Step) (ahead : List Item)
+rounds_woven : (ps : Plans) (n : ℕ) (s : Spot) (ys : List Place) → length ys + n < 1000 → (more : List PartStep) (ahead : List Item)
     → ((t : Spot) (zs : List Place) → length zs ≡ length ys + n → AreWoven endless ps (in_loop t zs) more ahead)
     → AreWoven endless ps (in_loop s ys) (rounds n more) ahead
 unfolding rounds
@@ -111,7 +111,7 @@ rounds_woven ps (suc n) s ys few more ahead h =
     (refl, (refl, (refl, subst P (sym none) ih)))
 
 -- the last round, with the tick
-abbrev at_last : List Step
+abbrev at_last : List PartStep
 at_last = makes 2 (tick 3) ∷ []
 
 last_woven : (ps : Plans) (s : Spot) (ys : List Place) → length ys ≡ 999 → AreWoven endless ps (in_loop s ys) (rounds 1 at_last) []
@@ -128,14 +128,14 @@ unfolding rounds
 last_items zero = refl
 last_items (suc n) = ap (λ is. begins 3 [] ∷ done 3 ∷ edge 2 ∷ is) (last_items n)
 
-last_coming : (ps : Plans) (n : ℕ) (z : Walk) → Walk.coming (walked endless ps z (rounds n (rounds 1 at_last))) ≡ z.coming
+last_coming : (ps : Plans) (n : ℕ) (z : Walk) → Walk.coming (walk_from endless ps z (rounds n (rounds 1 at_last))) ≡ z.coming
 unfolding rounds
 last_coming ps zero z = refl
 last_coming ps (suc n) z = last_coming ps n (after endless ps (after endless ps (after endless ps z (goes (begins 3 []))) (goes (done 3))) (goes (edge 2)))
 
 -- The journal
 
-abbrev tick_steps : List Step
+abbrev tick_steps : List PartStep
 tick_steps = goes (made 1 begin) ∷ goes (enter 0 []) ∷ goes (begins 2 []) ∷ rounds 998 (rounds 1 at_last)
 
 tick_items : items tick_steps ≡ made 1 begin ∷ enter 0 [] ∷ begins 2 [] ∷ items (rounds 999 [])

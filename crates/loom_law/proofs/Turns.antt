@@ -15,9 +15,9 @@ use Rattle.loom_event.specs.Entries.{thread_of, is_thread}
 use Rattle.loom_event.specs.Replay.{ThreadState, Store, new_thread, main_thread, start, thread_at, IsAllowedAct, IsAllowed, with_thread, after_act, replay, AreAllowed, thread_limit}
 use Rattle.loom_event.specs.Replay as law
 use Rattle.loom_event.specs.Run.{IsTraced, IsThreadTraced, AreRun}
-use Rattle.loom_law.specs.Walk.{Version, Plans, Operation, wait, enters, at, past, post, leave, back, tick, cross, blocked, Step, goes, makes, items, told, entry_of_operation, Walk, unborn, holds, without_first, taking, behind_entry, crossing, filter_of, after, walked, Owes, first_number, MayCross, MayStand, AreWoven}
-use Rattle.loom_law.specs.Part.{Own, led, IsPart, HasMoved}
-use Rattle.loom_law.specs.Control.{Holder, Control, control, first_control, taken, entries_of, listed}
+use Rattle.loom_law.specs.Walk.{Version, Plans, Operation, wait, enters, at, past, post, leave, back, tick, cross, blocked, PartStep, goes, makes, items, told, entry_of_operation, Walk, unborn, holds, without_first, taking, behind_entry, crossing, filter_of, after, walk_from, Owes, first_number, MayCross, MayStand, AreWoven}
+use Rattle.loom_law.specs.ThreadPart.{Own, walk_of, IsPart, HasMoved}
+use Rattle.loom_law.specs.Control.{Holder, Control, control, first_control, versions_of, entries_of, listed_places}
 use Rattle.loom_law.specs.Lawful.{Setting, Front, front_of, plans, own, HasPart, owes_cross, StaysAway, Parks, IsParked, MayMove, is_held_by, is_installed, Permits}
 use Rattle.loom_law.proofs.Strict.{Stands, IsStrict}
 use Rattle.loom_law.specs.Laws.{IsUnfinished, own_with, MayTurn, HasEmptyEnds}
@@ -89,7 +89,7 @@ act_target t l (spawn c f vs) = refl
 act_target t l (join c) = refl
 act_target t l (print v) = refl
 
-told_targets : (t : ℕ) (ss : List Step) → targets (told t ss) ≡ map (entry_of_deed t) (acts (items ss))
+told_targets : (t : ℕ) (ss : List PartStep) → targets (told t ss) ≡ map (entry_of_deed t) (acts (items ss))
 told_targets t [] = refl
 told_targets t (makes l o ∷ ss) =
     if_false (is_target (entry_of_operation t l o)) (entry_of_operation t l o ∷ targets (told t ss)) (targets (told t ss)) (op_no_target t l o) ∙ told_targets t ss
@@ -160,13 +160,13 @@ acts_append (out f ∷ is) js = acts_append is js
 -- Runs with one more event
 
 own_traced : (s : Setting) (es : List Entry) (h : IsStrict s es) (y : Event) (z : ThreadState) → thread_at (replay (start s.program) h.events) y.thread ≡ Some z
-    → (part : IsPart s.program (plans s) (own_with s es y.thread z (entry_of y))) (before : List Step) → part.steps ≡ before ++ goes (made y.line y.act) ∷ []
+    → (part : IsPart s.program (plans s) (own_with s es y.thread z (entry_of y))) (before : List PartStep) → part.steps ≡ before ++ goes (made y.line y.act) ∷ []
     → IsTraced s.program z.func z.args (deeds y.thread h.events ++ record { line = y.line; act = y.act } ∷ [])
 own_traced s es h y z there part before is =
     let p : Source = s.program in
     let t : ℕ = y.thread in
     let d : Deed = record { line = y.line; act = y.act } in
-    let last : List Step = goes (made y.line y.act) ∷ [] in
+    let last : List PartStep = goes (made y.line y.act) ∷ [] in
     let old : IsTraced p z.func z.args (deeds t h.events) = subst (IsThreadTraced p h.events t) there (h.run.traced t) in
     let tells : told t before ++ entry_of y ∷ [] ≡ entries_of t es ++ entry_of y ∷ [] = sym (told_append t before last) ∙ (ap (told t) (sym is) ∙ part.tells) in
     let front : told t before ≡ entries_of t es = same_front (told t before) (entries_of t es) (entry_of y) (entry_of y) tells in
@@ -187,7 +187,7 @@ own_traced s es h y z there part before is =
 
 allowed_append : (s : Store) (xs : List Event) (y : Event) → AreAllowed s xs → IsAllowed (replay s xs) y → AreAllowed s (xs ++ y ∷ [])
 allowed_append s [] y h g = (g, tt)
-allowed_append s (x ∷ xs) y h g = (h.0, allowed_append (law.after s x) xs y h.1 g)
+allowed_append s (x ∷ xs) y h g = (h.0, allowed_append (law.after_event s x) xs y h.1 g)
 
 same_traced : (p : Source) (xs : List Event) (t : ℕ) (ds : List Deed) (z : ThreadState) (o : Option ThreadState) → IsOf (Some z) o → deeds t xs ≡ ds → IsTraced p z.func z.args ds
     → IsThreadTraced p xs t o
@@ -245,39 +245,39 @@ drop_whole zero (x ∷ xs) ys h = let bad : ⊥ = omega arith in absurd bad
 drop_whole (suc n) [] ys h = let bad : ⊥ = omega arith in absurd bad
 drop_whole (suc n) (x ∷ xs) ys h = drop_whole n xs ys (omega arith)
 
-pub walked_coming : (p : Source) (plans : Plans) (t : ℕ) (z : Walk) (ss : List Step) → Walk.coming (walked p plans z ss) ≡ drop (takings (told t ss)) z.coming
-walked_coming p plans t z [] = refl
-walked_coming p plans t z (goes (made l begin) ∷ ss) =
-    walked_coming p plans t (taking (behind_entry z) z.coming) ss
+pub walk_coming : (p : Source) (plans : Plans) (t : ℕ) (z : Walk) (ss : List PartStep) → Walk.coming (walk_from p plans z ss) ≡ drop (takings (told t ss)) z.coming
+walk_coming p plans t z [] = refl
+walk_coming p plans t z (goes (made l begin) ∷ ss) =
+    walk_coming p plans t (taking (behind_entry z) z.coming) ss
     ∙ drop_first (takings (told t ss)) z.coming (Walk.coming (taking (behind_entry z) z.coming)) (taking_coming (behind_entry z) z.coming refl)
-walked_coming p plans t z (makes l (cross x v n) ∷ ss) =
-    walked_coming p plans t (crossing p plans z z.coming) ss
+walk_coming p plans t z (makes l (cross x v n) ∷ ss) =
+    walk_coming p plans t (crossing p plans z z.coming) ss
     ∙ drop_first (takings (told t ss)) z.coming (Walk.coming (crossing p plans z z.coming)) (crossing_coming p plans z z.coming refl)
-walked_coming p plans t z (goes (made l end) ∷ ss) = walked_coming p plans t (after p plans z (goes (made l end))) ss
-walked_coming p plans t z (goes (made l (trap c)) ∷ ss) = walked_coming p plans t (after p plans z (goes (made l (trap c)))) ss
-walked_coming p plans t z (goes (made l (read x v)) ∷ ss) = walked_coming p plans t (after p plans z (goes (made l (read x v)))) ss
-walked_coming p plans t z (goes (made l (write x v)) ∷ ss) = walked_coming p plans t (after p plans z (goes (made l (write x v)))) ss
-walked_coming p plans t z (goes (made l (lock x)) ∷ ss) = walked_coming p plans t (after p plans z (goes (made l (lock x)))) ss
-walked_coming p plans t z (goes (made l (unlock x)) ∷ ss) = walked_coming p plans t (after p plans z (goes (made l (unlock x)))) ss
-walked_coming p plans t z (goes (made l (down x)) ∷ ss) = walked_coming p plans t (after p plans z (goes (made l (down x)))) ss
-walked_coming p plans t z (goes (made l (up x)) ∷ ss) = walked_coming p plans t (after p plans z (goes (made l (up x)))) ss
-walked_coming p plans t z (goes (made l (spawn c f ws)) ∷ ss) = walked_coming p plans t (after p plans z (goes (made l (spawn c f ws)))) ss
-walked_coming p plans t z (goes (made l (join c)) ∷ ss) = walked_coming p plans t (after p plans z (goes (made l (join c)))) ss
-walked_coming p plans t z (goes (made l (print v)) ∷ ss) = walked_coming p plans t (after p plans z (goes (made l (print v)))) ss
-walked_coming p plans t z (goes (begins l env) ∷ ss) = walked_coming p plans t (after p plans z (goes (begins l env))) ss
-walked_coming p plans t z (goes (done l) ∷ ss) = walked_coming p plans t (after p plans z (goes (done l))) ss
-walked_coming p plans t z (goes (edge l) ∷ ss) = walked_coming p plans t (after p plans z (goes (edge l))) ss
-walked_coming p plans t z (goes (enter f env) ∷ ss) = walked_coming p plans t (after p plans z (goes (enter f env))) ss
-walked_coming p plans t z (goes (out f) ∷ ss) = walked_coming p plans t (after p plans z (goes (out f))) ss
-walked_coming p plans t z (makes l (wait k n) ∷ ss) = walked_coming p plans t (after p plans z (makes l (wait k n))) ss
-walked_coming p plans t z (makes l (enters k c) ∷ ss) = walked_coming p plans t (after p plans z (makes l (enters k c))) ss
-walked_coming p plans t z (makes l (at k ns) ∷ ss) = walked_coming p plans t (after p plans z (makes l (at k ns))) ss
-walked_coming p plans t z (makes l (past k ns) ∷ ss) = walked_coming p plans t (after p plans z (makes l (past k ns))) ss
-walked_coming p plans t z (makes l (post k n) ∷ ss) = walked_coming p plans t (after p plans z (makes l (post k n))) ss
-walked_coming p plans t z (makes l (leave k c) ∷ ss) = walked_coming p plans t (after p plans z (makes l (leave k c))) ss
-walked_coming p plans t z (makes l back ∷ ss) = walked_coming p plans t (after p plans z (makes l back)) ss
-walked_coming p plans t z (makes l (tick x) ∷ ss) = walked_coming p plans t (after p plans z (makes l (tick x))) ss
-walked_coming p plans t z (makes l (blocked what) ∷ ss) = walked_coming p plans t (after p plans z (makes l (blocked what))) ss
+walk_coming p plans t z (goes (made l end) ∷ ss) = walk_coming p plans t (after p plans z (goes (made l end))) ss
+walk_coming p plans t z (goes (made l (trap c)) ∷ ss) = walk_coming p plans t (after p plans z (goes (made l (trap c)))) ss
+walk_coming p plans t z (goes (made l (read x v)) ∷ ss) = walk_coming p plans t (after p plans z (goes (made l (read x v)))) ss
+walk_coming p plans t z (goes (made l (write x v)) ∷ ss) = walk_coming p plans t (after p plans z (goes (made l (write x v)))) ss
+walk_coming p plans t z (goes (made l (lock x)) ∷ ss) = walk_coming p plans t (after p plans z (goes (made l (lock x)))) ss
+walk_coming p plans t z (goes (made l (unlock x)) ∷ ss) = walk_coming p plans t (after p plans z (goes (made l (unlock x)))) ss
+walk_coming p plans t z (goes (made l (down x)) ∷ ss) = walk_coming p plans t (after p plans z (goes (made l (down x)))) ss
+walk_coming p plans t z (goes (made l (up x)) ∷ ss) = walk_coming p plans t (after p plans z (goes (made l (up x)))) ss
+walk_coming p plans t z (goes (made l (spawn c f ws)) ∷ ss) = walk_coming p plans t (after p plans z (goes (made l (spawn c f ws)))) ss
+walk_coming p plans t z (goes (made l (join c)) ∷ ss) = walk_coming p plans t (after p plans z (goes (made l (join c)))) ss
+walk_coming p plans t z (goes (made l (print v)) ∷ ss) = walk_coming p plans t (after p plans z (goes (made l (print v)))) ss
+walk_coming p plans t z (goes (begins l env) ∷ ss) = walk_coming p plans t (after p plans z (goes (begins l env))) ss
+walk_coming p plans t z (goes (done l) ∷ ss) = walk_coming p plans t (after p plans z (goes (done l))) ss
+walk_coming p plans t z (goes (edge l) ∷ ss) = walk_coming p plans t (after p plans z (goes (edge l))) ss
+walk_coming p plans t z (goes (enter f env) ∷ ss) = walk_coming p plans t (after p plans z (goes (enter f env))) ss
+walk_coming p plans t z (goes (out f) ∷ ss) = walk_coming p plans t (after p plans z (goes (out f))) ss
+walk_coming p plans t z (makes l (wait k n) ∷ ss) = walk_coming p plans t (after p plans z (makes l (wait k n))) ss
+walk_coming p plans t z (makes l (enters k c) ∷ ss) = walk_coming p plans t (after p plans z (makes l (enters k c))) ss
+walk_coming p plans t z (makes l (at k ns) ∷ ss) = walk_coming p plans t (after p plans z (makes l (at k ns))) ss
+walk_coming p plans t z (makes l (past k ns) ∷ ss) = walk_coming p plans t (after p plans z (makes l (past k ns))) ss
+walk_coming p plans t z (makes l (post k n) ∷ ss) = walk_coming p plans t (after p plans z (makes l (post k n))) ss
+walk_coming p plans t z (makes l (leave k c) ∷ ss) = walk_coming p plans t (after p plans z (makes l (leave k c))) ss
+walk_coming p plans t z (makes l back ∷ ss) = walk_coming p plans t (after p plans z (makes l back)) ss
+walk_coming p plans t z (makes l (tick x) ∷ ss) = walk_coming p plans t (after p plans z (makes l (tick x))) ss
+walk_coming p plans t z (makes l (blocked what) ∷ ss) = walk_coming p plans t (after p plans z (makes l (blocked what))) ss
 
 -- A thread that ends holds nothing, so the journal says that nobody with its number holds anything
 
@@ -305,16 +305,16 @@ holder_found (g ∷ hs) t h =
     let ih = holder_found hs t (or_rest (g.thread == t) (list_any (λ (h : Holder). h.thread == t) hs) b h) in
     (ih.0, (ih.1.0, or_right ((g.filter == ih.0) && ((g.clause == ih.1.0) && (g.thread == t))) _ ih.1.1)))
 
-end_free : (s : Setting) (es : List Entry) (h : IsStrict s es) (t l : ℕ) (z : ThreadState) (part : IsPart s.program (plans s) (own_with s es t z (e.End t l))) (before : List Step)
+end_free : (s : Setting) (es : List Entry) (h : IsStrict s es) (t l : ℕ) (z : ThreadState) (part : IsPart s.program (plans s) (own_with s es t z (e.End t l))) (before : List PartStep)
     → part.steps ≡ before ++ goes (made l end) ∷ [] → list_any (λ (g : Holder). g.thread == t) (Control.holders (control s.commands es)) ≡ false
 end_free s es h t l z part before is =
     let p : Source = s.program in
-    let vs : List Version = taken s.commands t es in
-    let last : List Step = goes (made l end) ∷ [] in
+    let vs : List Version = versions_of s.commands t es in
+    let last : List PartStep = goes (made l end) ∷ [] in
     let trace : IsTrace p z.func z.args (items (before ++ last) ++ part.ahead) part.outcome =
     subst (λ ss. IsTrace p z.func z.args (items ss ++ part.ahead) part.outcome) is part.trace in
     let woven : AreWoven p (plans s) (unborn vs) (before ++ last) part.ahead = subst (λ ss. AreWoven p (plans s) (unborn vs) ss part.ahead) is part.woven in
-    let none : Walk.held (walked p (plans s) (unborn vs) before) ≡ [] = end_holds p (plans s) z.func z.args vs before l part.ahead part.outcome trace woven in
+    let none : Walk.held (walk_from p (plans s) (unborn vs) before) ≡ [] = end_holds p (plans s) z.func z.args vs before l part.ahead part.outcome trace woven in
     let tells : told t before ++ e.End t l ∷ [] ≡ entries_of t es ++ e.End t l ∷ [] = sym (told_append t before last) ∙ (ap (told t) (sym is) ∙ part.tells) in
     let same : told t before ≡ entries_of t es = same_front (told t before) (entries_of t es) (e.End t l) (e.End t l) tells in
     let front : IsPart p (plans s) (own s es t z) = record {
@@ -324,7 +324,7 @@ end_free s es h t l z part before is =
       trace = subst (λ us. IsTrace p z.func z.args us part.outcome) (items_ahead before last part.ahead) trace;
       woven = woven_front p (plans s) (unborn vs) before last part.ahead woven;
       tells = same;
-      taken = walked_coming p (plans s) t (unborn vs) before
+      taken = walk_coming p (plans s) t (unborn vs) before
           ∙ drop_all (takings (told t before)) vs (ap takings same ∙ takings_taken s.commands t first_control es);
     } in
     let h' : IsStrict s (es ++ []) = subst (IsStrict s) (sym (append_none es)) h in
@@ -333,14 +333,14 @@ end_free s es h t l z part before is =
     (list_any (λ (g : Holder). g.thread == t) (Control.holders (control s.commands es)) ≡ false)
     (λ b.
     let found = holder_found (Control.holders (control s.commands es)) t b in
-    let balanced : holds (Walk.held (walked p (plans s) (unborn vs) before)) found.0 found.1.0 ≡ is_held_by (control s.commands es) found.0 found.1.0 t =
+    let balanced : holds (Walk.held (walk_from p (plans s) (unborn vs) before)) found.0 found.1.0 ≡ is_held_by (control s.commands es) found.0 found.1.0 t =
     balance s es [] h' t z front found.0 found.1.0 (sound.installed found.0 found.1.0 t found.1.1) in
     let bad : false ≡ true = ap (λ hs. holds hs found.0 found.1.0) (sym none) ∙ (balanced ∙ found.1.1) in
     cc)
     (λ b. b)
 
 pub act_free : (s : Setting) (es : List Entry) (h : IsStrict s es) (t l : ℕ) (a : Act) (z : ThreadState) (part : IsPart s.program (plans s) (own_with s es t z (entry_by t l a)))
-    (before : List Step) → part.steps ≡ before ++ goes (made l a) ∷ [] → a ≡ end
+    (before : List PartStep) → part.steps ≡ before ++ goes (made l a) ∷ [] → a ≡ end
     → list_any (λ (g : Holder). g.thread == t) (Control.holders (control s.commands es)) ≡ false
 act_free s es h t l begin z part before is e = cc
 act_free s es h t l end z part before is e = end_free s es h t l z part before is
@@ -375,9 +375,9 @@ event_stands s f t l (print v) m free = (m, tt)
 pub own_same : (s : Setting) (es : List Entry) (x : Entry) (t : ℕ) (z : ThreadState) → is_thread t (thread_of x) ≡ true → own_with s es t z x ≡ own s (es ++ x ∷ []) t z
 own_same s es x t z self =
     ap (λ vs. an_own t z.func z.args vs (entries_of t es ++ x ∷ [])) (sym (newest_taken s.commands t x es self))
-    ∙ ap (λ us. an_own t z.func z.args (taken s.commands t (es ++ x ∷ [])) us) (sym (mine t x es self))
+    ∙ ap (λ us. an_own t z.func z.args (versions_of s.commands t (es ++ x ∷ [])) us) (sym (mine t x es self))
 
-pub moved : (p : Source) (plans : Plans) (x : Own) (h : IsPart p plans x) (before : List Step) (step : Step) (y : Entry) → h.steps ≡ before ++ step ∷ []
+pub moved : (p : Source) (plans : Plans) (x : Own) (h : IsPart p plans x) (before : List PartStep) (step : PartStep) (y : Entry) → h.steps ≡ before ++ step ∷ []
     → told x.thread (step ∷ []) ≡ y ∷ [] → HasMoved p plans x before
 moved p plans x h before step y is tells = record {
   last = step;
@@ -390,7 +390,7 @@ moved p plans x h before step y is tells = record {
   tells = ap (told x.thread) (sym is) ∙ h.tells;
 }
 
-turn_parked : (s : Setting) (es : List Entry) (xs : List Event) (t : ℕ) (x : Entry) (step : Step) (m : MayTurn s es xs t x step) → is_thread t (thread_of x) ≡ true
+turn_parked : (s : Setting) (es : List Entry) (xs : List Event) (t : ℕ) (x : Entry) (step : PartStep) (m : MayTurn s es xs t x step) → is_thread t (thread_of x) ≡ true
     → told t (step ∷ []) ≡ x ∷ [] → (o : Option ℕ) → Control.asked (control s.commands es) ≡ o → IsParked s (front_of s es xs) t x o
 turn_parked s es xs t x step m self tells None is = tt
 turn_parked s es xs t x step m self tells (Some k) is = (
@@ -404,7 +404,7 @@ turn_parked s es xs t x step m self tells (Some k) is = (
   (λ b. m.no_begin k is b),
 )
 
-turn_moves : (s : Setting) (es : List Entry) (xs : List Event) (t : ℕ) (x : Entry) (step : Step) → MayTurn s es xs t x step → thread_of x ≡ Some t → told t (step ∷ []) ≡ x ∷ []
+turn_moves : (s : Setting) (es : List Entry) (xs : List Event) (t : ℕ) (x : Entry) (step : PartStep) → MayTurn s es xs t x step → thread_of x ≡ Some t → told t (step ∷ []) ≡ x ∷ []
     → MayMove s (front_of s es xs) t x
 turn_moves s es xs t x step m of tells = record {
   goes_on = m.goes_on;
@@ -429,22 +429,22 @@ event_turns s es h open_ y m ok =
 -- Before an operation
 
 -- these steps stand before the operation
-pub record BeforeOp (t : ℕ) (ss : List Step) (es : List Entry) (l : ℕ) (o : Operation) : Type 0 where
-  pub before : List Step
-  pub behind : List Step
+pub record BeforeOp (t : ℕ) (ss : List PartStep) (es : List Entry) (l : ℕ) (o : Operation) : Type 0 where
+  pub before : List PartStep
+  pub behind : List PartStep
   pub whole : ss ≡ before ++ makes l o ∷ behind
   pub same : told t before ≡ es
 
-op_here : (t m : ℕ) (q : Operation) (l : ℕ) (o : Operation) (ss : List Step) → entry_of_operation t m q ∷ told t ss ≡ entry_of_operation t l o ∷ [] → BeforeOp t (makes m q ∷ ss) [] l o
+op_here : (t m : ℕ) (q : Operation) (l : ℕ) (o : Operation) (ss : List PartStep) → entry_of_operation t m q ∷ told t ss ≡ entry_of_operation t l o ∷ [] → BeforeOp t (makes m q ∷ ss) [] l o
 op_here t m q l o ss h =
     let first : entry_of_operation t m q ≡ entry_of_operation t l o = cc in
     let both = same_op t m l q o first in
     record { before = []; behind = ss; whole = ap (λ n. makes n q ∷ ss) both.0 ∙ ap (λ r. makes l r ∷ ss) both.1; same = refl }
 
-with_mark : (t : ℕ) (s : Step) (ss : List Step) (es : List Entry) (l : ℕ) (o : Operation) → ((us : List Step) → told t (s ∷ us) ≡ told t us) → BeforeOp t ss es l o → BeforeOp t (s ∷ ss) es l o
+with_mark : (t : ℕ) (s : PartStep) (ss : List PartStep) (es : List Entry) (l : ℕ) (o : Operation) → ((us : List PartStep) → told t (s ∷ us) ≡ told t us) → BeforeOp t ss es l o → BeforeOp t (s ∷ ss) es l o
 with_mark t s ss es l o skips h = record { before = s ∷ h.before; behind = h.behind; whole = ap (◌∷◌ s) h.whole; same = skips h.before ∙ h.same }
 
-with_told : (t : ℕ) (s : Step) (ss : List Step) (x y : Entry) (es fs : List Entry) (l : ℕ) (o : Operation) → ((us : List Step) → told t (s ∷ us) ≡ x ∷ told t us)
+with_told : (t : ℕ) (s : PartStep) (ss : List PartStep) (x y : Entry) (es fs : List Entry) (l : ℕ) (o : Operation) → ((us : List PartStep) → told t (s ∷ us) ≡ x ∷ told t us)
     → x ∷ told t ss ≡ (y ∷ es) ++ fs → (told t ss ≡ es ++ fs → BeforeOp t ss es l o) → BeforeOp t (s ∷ ss) (y ∷ es) l o
 with_told t s ss x y es fs l o tells h go =
     let first : x ≡ y = cc in
@@ -452,7 +452,7 @@ with_told t s ss x y es fs l o tells h go =
     let c : BeforeOp t ss es l o = go others in
     record { before = s ∷ c.before; behind = c.behind; whole = ap (◌∷◌ s) c.whole; same = tells c.before ∙ (ap (λ z. z ∷ told t c.before) first ∙ ap (◌∷◌ y) c.same) }
 
-pub before_op : (t : ℕ) (ss : List Step) (es : List Entry) (l : ℕ) (o : Operation) → told t ss ≡ es ++ entry_of_operation t l o ∷ [] → BeforeOp t ss es l o
+pub before_op : (t : ℕ) (ss : List PartStep) (es : List Entry) (l : ℕ) (o : Operation) → told t ss ≡ es ++ entry_of_operation t l o ∷ [] → BeforeOp t ss es l o
 before_op t [] es l o h = absurd (never_empty es (entry_of_operation t l o) h)
 before_op t (makes m q ∷ ss) [] l o h = op_here t m q l o ss h
 before_op t (goes (made m a) ∷ ss) [] l o h = let first : entry_by t m a ≡ entry_of_operation t l o = cc in absurd (act_is_no_op t m l a o first)
@@ -466,8 +466,8 @@ before_op t (goes (edge m) ∷ ss) es l o h = with_mark t (goes (edge m)) ss es 
 before_op t (goes (enter f env) ∷ ss) es l o h = with_mark t (goes (enter f env)) ss es l o (λ us. refl) (before_op t ss es l o h)
 before_op t (goes (out f) ∷ ss) es l o h = with_mark t (goes (out f)) ss es l o (λ us. refl) (before_op t ss es l o h)
 
-pub stands_there : (p : Source) (plans : Plans) (z : Walk) (before : List Step) (s : Step) (behind : List Step) (ahead : List Item) → AreWoven p plans z (before ++ s ∷ behind) ahead
-    → MayStand p (walked p plans z before) s (items behind ++ ahead)
+pub stands_there : (p : Source) (plans : Plans) (z : Walk) (before : List PartStep) (s : PartStep) (behind : List PartStep) (ahead : List Item) → AreWoven p plans z (before ++ s ∷ behind) ahead
+    → MayStand p (walk_from p plans z before) s (items behind ++ ahead)
 stands_there p plans z [] s behind ahead h = h.0
 stands_there p plans z (u ∷ before) s behind ahead h = stands_there p plans (after p plans z u) before s behind ahead h.1
 
@@ -475,7 +475,7 @@ stands_there p plans z (u ∷ before) s behind ahead h = stands_there p plans (a
 record FrontPart (p : Source) (plans : Plans) (x : Own) (l : ℕ) (o : Operation) : Type 0 where
   part : IsPart p plans x
   rest : List Item
-  stands : MayStand p (led p plans x part.steps) (makes l o) rest
+  stands : MayStand p (walk_of p plans x part.steps) (makes l o) rest
 
 front_part : (p : Source) (plans : Plans) (t f : ℕ) (args : List ℤ) (vs : List Version) (es : List Entry) (l : ℕ) (o : Operation) → takings es ≡ length vs
     → IsPart p plans (an_own t f args vs (es ++ entry_of_operation t l o ∷ [])) → FrontPart p plans (an_own t f args vs es) l o
@@ -551,7 +551,7 @@ few_behind s u (print v) h n = n
 
 few_along : (s : Store) (xs : List Event) → AreAllowed s xs → length s.spawned ≤ thread_limit → length (Store.spawned (replay s xs)) ≤ thread_limit
 few_along s [] h n = n
-few_along s (x ∷ xs) h n = few_along (law.after s x) xs h.1 (few_behind s x.thread x.act h.0 n)
+few_along s (x ∷ xs) h n = few_along (law.after_event s x) xs h.1 (few_behind s x.thread x.act h.0 n)
 
 few_first : (o : Option ℕ) → length (main_thread o) ≤ thread_limit
 few_first None = omega arith
@@ -580,32 +580,32 @@ op_owes t l (blocked what) (y ∷ ys) h = cc
 
 -- the thread's part with the operation, where it takes no version
 abbrev MakesOp : Setting → List Entry → ℕ → ThreadState → ℕ → Operation → Type 0
-MakesOp s es t z l o = IsPart s.program (plans s) (an_own t z.func z.args (taken s.commands t es) (entries_of t es ++ entry_of_operation t l o ∷ []))
+MakesOp s es t z l o = IsPart s.program (plans s) (an_own t z.func z.args (versions_of s.commands t es) (entries_of t es ++ entry_of_operation t l o ∷ []))
 
 abbrev IsOwed : ℕ → Operation → Type 0
 IsOwed l o = (p : Source) (z : Walk) (rest : List Item) → MayStand p z (makes l o) rest → Owes z.owed l o
 
 op_installed : (s : Setting) (es : List Entry) (h : IsStrict s es) (i l : ℕ) (o : Operation) (z : ThreadState) (k : ℕ) → thread_at (replay (start s.program) h.events) (suc i) ≡ Some z
-    → MakesOp s es (suc i) z l o → owes_cross (entry_of_operation (suc i) l o) (listed (suc i) es) ≡ false → filter_of o ≡ Some k → IsOwed l o
+    → MakesOp s es (suc i) z l o → owes_cross (entry_of_operation (suc i) l o) (listed_places (suc i) es) ≡ false → filter_of o ≡ Some k → IsOwed l o
     → is_installed (control s.commands es) k ≡ true
 op_installed s es h i l o z k there part none f owed =
     let t : ℕ = suc i in
-    let n : takings (entries_of t es) ≡ length (taken s.commands t es) = takings_taken s.commands t first_control es in
-    let b : FrontPart s.program (plans s) (own s es t z) l o = front_part s.program (plans s) t z.func z.args (taken s.commands t es) (entries_of t es) l o n part in
-    let begun = has_begun s.program (plans s) t z.func z.args (taken s.commands t es) (entries_of t es) l o part in
+    let n : takings (entries_of t es) ≡ length (versions_of s.commands t es) = takings_taken s.commands t first_control es in
+    let b : FrontPart s.program (plans s) (own s es t z) l o = front_part s.program (plans s) t z.func z.args (versions_of s.commands t es) (entries_of t es) l o n part in
+    let begun = has_begun s.program (plans s) t z.func z.args (versions_of s.commands t es) (entries_of t es) l o part in
     owed_installed s es [] (subst (IsStrict s) (sym (append_none es)) h) i (thread_small s.program h.events i z h.run.allowed there) z b.part begun.0 begun.1.0 begun.1.1
-    (op_owes t l o (listed t es) none) l o k (owed s.program (led s.program (plans s) (own s es t z) b.part.steps) b.rest b.stands) f
+    (op_owes t l o (listed_places t es) none) l o k (owed s.program (walk_of s.program (plans s) (own s es t z) b.part.steps) b.rest b.stands) f
 
 leave_held : (s : Setting) (es : List Entry) (h : IsStrict s es) (i l k c : ℕ) (z : ThreadState) → thread_at (replay (start s.program) h.events) (suc i) ≡ Some z
-    → MakesOp s es (suc i) z l (leave k c) → owes_cross (e.Leave (suc i) l k c) (listed (suc i) es) ≡ false → is_held_by (control s.commands es) k c (suc i) ≡ true
+    → MakesOp s es (suc i) z l (leave k c) → owes_cross (e.Leave (suc i) l k c) (listed_places (suc i) es) ≡ false → is_held_by (control s.commands es) k c (suc i) ≡ true
 leave_held s es h i l k c z there part none =
     let t : ℕ = suc i in
-    let n : takings (entries_of t es) ≡ length (taken s.commands t es) = takings_taken s.commands t first_control es in
+    let n : takings (entries_of t es) ≡ length (versions_of s.commands t es) = takings_taken s.commands t first_control es in
     let b : FrontPart s.program (plans s) (own s es t z) l (leave k c) =
-    front_part s.program (plans s) t z.func z.args (taken s.commands t es) (entries_of t es) l (leave k c) n part in
-    let begun = has_begun s.program (plans s) t z.func z.args (taken s.commands t es) (entries_of t es) l (leave k c) part in
+    front_part s.program (plans s) t z.func z.args (versions_of s.commands t es) (entries_of t es) l (leave k c) n part in
+    let begun = has_begun s.program (plans s) t z.func z.args (versions_of s.commands t es) (entries_of t es) l (leave k c) part in
     right_leaves s es [] (subst (IsStrict s) (sym (append_none es)) h) i (thread_small s.program h.events i z h.run.allowed there) z b.part begun.0 begun.1.0 begun.1.1
-    (op_owes t l (leave k c) (listed t es) none) l k c b.stands
+    (op_owes t l (leave k c) (listed_places t es) none) l k c b.stands
 
 -- The version of a `Cross`
 
@@ -615,10 +615,10 @@ cross_version p plans t f args vs v es l x n m few h =
     let ws : List Version = vs ++ v ∷ [] in
     let c : BeforeOp t h.steps es l (cross x n m) = before_op t h.steps es l (cross x n m) h.tells in
     let woven : AreWoven p plans (unborn ws) (c.before ++ makes l (cross x n m) ∷ c.behind) h.ahead = subst (λ ss. AreWoven p plans (unborn ws) ss h.ahead) c.whole h.woven in
-    let stands : MayCross p (walked p plans (unborn ws) c.before) (items c.behind ++ h.ahead) l x n m =
+    let stands : MayCross p (walk_from p plans (unborn ws) c.before) (items c.behind ++ h.ahead) l x n m =
     stands_there p plans (unborn ws) c.before (makes l (cross x n m)) c.behind h.ahead woven in
-    let coming : Walk.coming (walked p plans (unborn ws) c.before) ≡ v ∷ [] =
-    walked_coming p plans t (unborn ws) c.before ∙ drop_whole (takings (told t c.before)) vs (v ∷ []) (ap takings c.same ∙ few) in
+    let coming : Walk.coming (walk_from p plans (unborn ws) c.before) ≡ v ∷ [] =
+    walk_coming p plans t (unborn ws) c.before ∙ drop_whole (takings (told t c.before)) vs (v ∷ []) (ap takings c.same ∙ few) in
     let same : Some v.number ≡ Some n = ap first_number (sym coming) ∙ stands.version in
     cc
 
@@ -636,7 +636,7 @@ op_stands s es h i l (tick x) z there part m needs = (m, tt)
 op_stands s es h i l (cross x v n) z there part m needs = (
   m,
   (
-    cross_version s.program (plans s) (suc i) z.func z.args (taken s.commands (suc i) es) (Control.version (control s.commands es)) (entries_of (suc i) es) l x v n
+    cross_version s.program (plans s) (suc i) z.func z.args (versions_of s.commands (suc i) es) (Control.version (control s.commands es)) (entries_of (suc i) es) l x v n
         (takings_taken s.commands (suc i) first_control es) part,
     needs,
   ),

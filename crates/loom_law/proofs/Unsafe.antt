@@ -8,7 +8,7 @@ use Rattle.loom_lang.specs.Numbers.{function_number}
 use Rattle.loom_lang.specs.Places.{Place, body_places}
 use Rattle.loom_lang.specs.Places as place
 use Rattle.loom_law.specs.Filter.{statement, function, Range, between, whole, Plan}
-use Rattle.loom_law.specs.View.{FrameView, all_of, all_under_way}
+use Rattle.loom_law.specs.FilterView.{FrameView, all_of, all_under_way}
 use Rattle.loom_law.specs.Paths.{Node, links_of, statements, others, has_return, Begins, IsStatement, called_by, Calls, statements_in, statements_of, Reaches, calls, through, places_in, places_of, IsReached, watch_at, IsUnsafeByEvent, Halts, Comes, here, goes, node_places, IsReachedAt, IsUnsafeByPath, IsUnsafeByFunction, IsUnsafe}
 use Rattle.loom_law.specs.Paths as path
 use Rattle.loom_law.proofs.Course.{Level, OnFirst, Follows, IsNested, IsLoop, IsCaller, IsCalledFrom, Sub, contains_first, contains_later, no_member, contains_cases}

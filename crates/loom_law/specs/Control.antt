@@ -94,28 +94,28 @@ after_entry cs c (e.Cut k) = record c { asked = None; closing = true }
 after_entry cs c (e.Unreached k) = record c { next = suc k; closing = true }
 after_entry cs c _ = c
 
-abbrev pub controlled : List Command → Control → List Entry → Control
-controlled cs c [] = c
-controlled cs c (x ∷ xs) = controlled cs (after_entry cs c x) xs
+abbrev pub control_after : List Command → Control → List Entry → Control
+control_after cs c [] = c
+control_after cs c (x ∷ xs) = control_after cs (after_entry cs c x) xs
 
 abbrev pub control : List Command → List Entry → Control
-control cs es = controlled cs first_control es
+control cs es = control_after cs first_control es
 
 -- What the journal says of one thread
 
--- it takes the newest version with this entry
-abbrev pub takes : ℕ → Entry → Bool
-takes t (e.Begin u l) = u == t
-takes t (e.Cross u l x v n) = u == t
-takes t _ = false
+-- with this entry the thread goes over to the newest version
+abbrev pub takes_version : ℕ → Entry → Bool
+takes_version t (e.Begin u l) = u == t
+takes_version t (e.Cross u l x v n) = u == t
+takes_version t _ = false
 
-abbrev pub taken_from : List Command → ℕ → Control → List Entry → List Version
-taken_from cs t c [] = []
-taken_from cs t c (x ∷ xs) = if takes t x then c.version ∷ taken_from cs t (after_entry cs c x) xs else taken_from cs t (after_entry cs c x) xs
+abbrev pub versions_from : List Command → ℕ → Control → List Entry → List Version
+versions_from cs t c [] = []
+versions_from cs t c (x ∷ xs) = if takes_version t x then c.version ∷ versions_from cs t (after_entry cs c x) xs else versions_from cs t (after_entry cs c x) xs
 
--- the versions that it has taken, in order
-abbrev pub taken : List Command → ℕ → List Entry → List Version
-taken cs t es = taken_from cs t first_control es
+-- each version that it went over to, the first one first
+abbrev pub versions_of : List Command → ℕ → List Entry → List Version
+versions_of cs t es = versions_from cs t first_control es
 
 abbrev pub entries_of : ℕ → List Entry → List Entry
 entries_of t es = filter (λ x. is_thread t (thread_of x)) es
@@ -128,17 +128,17 @@ row_at (x ∷ xs) (suc zero) = x ∷ []
 row_at (x ∷ xs) (suc (suc t)) = row_at xs (suc t)
 
 -- the places that `Installed` and `Removed` list for it, those behind its last entry
-abbrev pub listing : ℕ → List ℕ → Entry → List ℕ
-listing t so_far (e.Installed k v ps) = so_far ++ row_at ps t
-listing t so_far (e.Removed k v ps) = so_far ++ row_at ps t
-listing t so_far x = if is_thread t (thread_of x) then [] else so_far
+abbrev pub listed_places_after : ℕ → List ℕ → Entry → List ℕ
+listed_places_after t so_far (e.Installed k v ps) = so_far ++ row_at ps t
+listed_places_after t so_far (e.Removed k v ps) = so_far ++ row_at ps t
+listed_places_after t so_far x = if is_thread t (thread_of x) then [] else so_far
 
-abbrev pub listed_from : ℕ → List ℕ → List Entry → List ℕ
-listed_from t so_far [] = so_far
-listed_from t so_far (x ∷ xs) = listed_from t (listing t so_far x) xs
+abbrev pub listed_places_from : ℕ → List ℕ → List Entry → List ℕ
+listed_places_from t so_far [] = so_far
+listed_places_from t so_far (x ∷ xs) = listed_places_from t (listed_places_after t so_far x) xs
 
-abbrev pub listed : ℕ → List Entry → List ℕ
-listed t es = listed_from t [] es
+abbrev pub listed_places : ℕ → List Entry → List ℕ
+listed_places t es = listed_places_from t [] es
 
 -- what stands behind the last `Asked`
 abbrev pub since_asked_from : List Entry → List Entry → List Entry

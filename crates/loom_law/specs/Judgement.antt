@@ -2,23 +2,23 @@
 use Rattle.std.specs.Prelude.{ℕ, ◌≡◌, ◌==◌, ◌⊎◌, List, [], ◌∷◌, if◌then◌else◌}
 use Rattle.loom_tree.specs.Tree.{Source}
 use Rattle.loom_command.specs.Filter.{Filter}
-use Rattle.loom_command.specs.FilterFault.{Fault, IsBefore, IsRefusedText, IsFilter}
+use Rattle.loom_command.specs.FilterFault.{FilterFault, IsBefore, IsRefusedText, IsFilter}
 use Rattle.loom_command.specs.Script.{ScriptAction, ScriptCommand, IsScript}
 use Rattle.loom_command.specs.Script as script
 use Rattle.loom_law.specs.Filter.{Plan, plan_of}
-use Rattle.loom_law.specs.Refusal.{IsNameFault, IsPathFault}
+use Rattle.loom_law.specs.FilterRefusal.{IsNameFault, IsPathFault}
 use Rattle.loom_law.specs.Control.{Judgement, refused, means, Action, install, remove, Command}
 
 -- It is the first of such faults: the least clause counts, and in it the least number.
-pub record IsFirst (Q : Fault → Type 0) (x : Fault) : Type 0 where
+pub record IsFirst (Q : FilterFault → Type 0) (x : FilterFault) : Type 0 where
   pub is : Q x
-  pub least : (y : Fault) → Q y → IsBefore x y
+  pub least : (y : FilterFault) → Q y → IsBefore x y
 
-abbrev pub HasNone : (Fault → Type 0) → Type 0
-HasNone Q = (x : Fault) → Q x → ⊥
+abbrev pub HasNone : (FilterFault → Type 0) → Type 0
+HasNone Q = (x : FilterFault) → Q x → ⊥
 
 -- The text is a filter that is refused for what it names, and if not for that, for its paths.
-pub record IsRefusedFilter (p : Source) (file text : List ℕ) (x : Fault) : Type 0 where
+pub record IsRefusedFilter (p : Source) (file text : List ℕ) (x : FilterFault) : Type 0 where
   pub filter : Filter
   pub is : IsFilter text filter
   pub fault : IsFirst (IsNameFault p file filter) x ⊎ (HasNone (IsNameFault p file filter) × IsFirst (IsPathFault p (plan_of p filter)) x)

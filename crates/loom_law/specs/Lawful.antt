@@ -14,12 +14,12 @@ use Rattle.loom_event.specs.Replay.{ThreadState, Store, start, thread_at, replay
 use Rattle.loom_event.specs.Run.{AreRun}
 use Rattle.loom_event.specs.Entries.{thread_of, thread_entries, last_of_thread, is_stopped, is_over, is_at_limit}
 use Rattle.loom_law.specs.Filter.{Plan, numbers, is_alone, before_in, has}
-use Rattle.loom_law.specs.Walk.{Version, Plans, Step, place_number}
-use Rattle.loom_law.specs.Part.{Own, led, IsPart, Point, IsPlaceOf, ComesTo, HasMoved, KeepsAway, IsInside}
-use Rattle.loom_law.specs.View.{IsClear, view_behind}
+use Rattle.loom_law.specs.Walk.{Version, Plans, PartStep, place_number}
+use Rattle.loom_law.specs.ThreadPart.{Own, walk_of, IsPart, Point, IsPlaceOf, ComesTo, HasMoved, KeepsAway, IsInside}
+use Rattle.loom_law.specs.FilterView.{IsClear, view_behind}
 use Rattle.loom_law.specs.Paths.{IsUnsafe}
 use Rattle.loom_command.specs.Script.{Trigger, at, stall}
-use Rattle.loom_law.specs.Control.{Judgement, refused, means, Action, install, remove, Command, command_at, plans_of, have_one_name, Holder, Control, control, taken, entries_of, listed, since_asked, is_post, is_past}
+use Rattle.loom_law.specs.Control.{Judgement, refused, means, Action, install, remove, Command, command_at, plans_of, have_one_name, Holder, Control, control, versions_of, entries_of, listed_places, since_asked, is_post, is_past}
 
 -- what a run is judged by
 pub record Setting : Type 0 where
@@ -51,7 +51,7 @@ plans s = plans_of s.commands
 
 -- what is the thread's own behind these entries
 abbrev pub own : Setting → List Entry → ℕ → ThreadState → Own
-own s es t x = record { thread = t; func = x.func; args = x.args; versions = taken s.commands t es; entries = entries_of t es }
+own s es t x = record { thread = t; func = x.func; args = x.args; versions = versions_of s.commands t es; entries = entries_of t es }
 
 -- its entries are those of a full part; a thread that wasn't spawned has none
 abbrev pub HasPart : Setting → List Entry → ℕ → Option ThreadState → Type 0
@@ -59,9 +59,9 @@ HasPart s es t None = entries_of t es ≡ []
 HasPart s es t (Some x) = IsPart s.program (plans s) (own s es t x)
 
 -- the thread, if it has begun and not ended
-abbrev pub running : Option ThreadState → Option ThreadState
-running None = None
-running (Some x) = if x.begun && not x.ended then Some x else None
+abbrev pub running_thread : Option ThreadState → Option ThreadState
+running_thread None = None
+running_thread (Some x) = if x.begun && not x.ended then Some x else None
 
 -- where a thread stands: at place 0 before its begin and behind its end
 abbrev pub StandsAs : Setting → List Entry → ℕ → Option ThreadState → Place → Type 0
@@ -69,7 +69,7 @@ StandsAs s es t None y = y ≡ nowhere
 StandsAs s es t (Some x) y = ComesTo s.program (plans s) (own s es t x) y
 
 abbrev pub StandsAt : Setting → Front → ℕ → Place → Type 0
-StandsAt s f t y = StandsAs s f.entries t (running (thread_at f.store t)) y
+StandsAt s f t y = StandsAs s f.entries t (running_thread (thread_at f.store t)) y
 
 -- the thread was spawned and hasn't ended
 pub record Lives (s : Store) (t : ℕ) : Type 0 where
@@ -105,7 +105,7 @@ pub record IsHeldOff (s : Setting) (f : Front) (t : ℕ) : Type 0 where
 
 -- its last entry is `Blocked`, for what is still disabled, and it owes no `Cross`
 abbrev pub IsBlockedBy : Setting → Front → ℕ → Option Entry → Type 0
-IsBlockedBy s f t (Some (e.Blocked u l what)) = IsDisabledFor s f t what × (listed t f.entries ≡ [])
+IsBlockedBy s f t (Some (e.Blocked u l what)) = IsDisabledFor s f t what × (listed_places t f.entries ≡ [])
 IsBlockedBy s f t _ = ⊥
 
 abbrev pub IsBlocked : Setting → Front → ℕ → Type 0
@@ -124,14 +124,14 @@ abbrev pub filter_limit : ℕ
 filter_limit = 16
 
 -- why a filter's text is refused, with its clause
-abbrev pub judged : Judgement → Option (ℕ × ℕ)
-judged (refused n c) = Some (n, c)
-judged (means f) = None
+abbrev pub text_refusal : Judgement → Option (ℕ × ℕ)
+text_refusal (refused n c) = Some (n, c)
+text_refusal (means f) = None
 
 -- Why a command is refused, tested in this order. For an install: its name is in use (11), as many filters are installed as may be (14), its text. For
 -- a removal: no filter has the name (12). `n` filters are installed.
 abbrev pub refusal_of : Action → Bool → ℕ → Option (ℕ × ℕ)
-refusal_of (install j) used n = if used then Some (11, 0) else (if n == filter_limit then Some (14, 0) else judged j)
+refusal_of (install j) used n = if used then Some (11, 0) else (if n == filter_limit then Some (14, 0) else text_refusal j)
 refusal_of remove used n = if used then None else Some (12, 0)
 
 -- an installed filter has the name in the command
@@ -187,7 +187,7 @@ IsOutside s es t None g y = Unit {0}
 IsOutside s es t (Some x) g y = SeesNothing s (own s es t x) g y
 
 -- the row lists for each thread a flagged place at which it stands
-pub record Lists (s : Setting) (f : Front) (k : ℕ) (row : List ℕ) : Type 0 where
+pub record ListsPlaces (s : Setting) (f : Front) (k : ℕ) (row : List ℕ) : Type 0 where
   pub count : length row ≡ thread_limit
   pub place : ℕ → Place
   pub are : row ≡ map (λ t. place_number s.program (place t)) (numbers 1 row)
@@ -203,8 +203,8 @@ pub record MayInstall (s : Setting) (f : Front) (k v : ℕ) (row : List ℕ) : T
   pub asked : f.control.asked ≡ Some k
   pub not_refused : refusal s f.control k ≡ None
   pub version : v ≡ suc (Version.number f.control.version)
-  pub lists : Lists s f k row
-  pub outside : (t : ℕ) → IsOutside s f.entries t (running (thread_at f.store t)) plan (lists.place t)
+  pub lists : ListsPlaces s f k row
+  pub outside : (t : ℕ) → IsOutside s f.entries t (running_thread (thread_at f.store t)) plan (lists.place t)
 
 -- the command that was asked removes the filter of its name
 pub record MayRemove (s : Setting) (f : Front) (k v : ℕ) (row : List ℕ) : Type 0 where
@@ -214,7 +214,7 @@ pub record MayRemove (s : Setting) (f : Front) (k v : ℕ) (row : List ℕ) : Ty
   pub asked : f.control.asked ≡ Some k
   pub not_refused : refusal s f.control k ≡ None
   pub version : v ≡ suc (Version.number f.control.version)
-  pub lists : Lists s f k row
+  pub lists : ListsPlaces s f k row
 
 -- Each live thread stands at a place that is flagged, or is blocked or held off; thread t is the lowest one at a place that isn't flagged.
 pub record MayStall (s : Setting) (f : Front) (k t l : ℕ) : Type 0 where
@@ -267,9 +267,9 @@ owes_cross x (y ∷ ys) = true
 -- Between a command that is asked and its answer the thread keeps away from flagged places: it passed none of them since its last entry, and isn't
 -- blocked at one.
 pub record StaysAway (s : Setting) (x : Own) (k : ℕ) : Type 0 where
-  pub steps : List Step
+  pub steps : List PartStep
   pub moved : HasMoved s.program (plans s) x steps
-  pub away : KeepsAway (IsFlagged s k) (led s.program (plans s) x steps)
+  pub away : KeepsAway (IsFlagged s k) (walk_of s.program (plans s) x steps)
 
 abbrev pub Parks : Setting → List Entry → ℕ → ℕ → Option ThreadState → Type 0
 Parks s es k t None = ⊥
@@ -296,7 +296,7 @@ IsParked s f t x (Some k) =
 pub record MayMove (s : Setting) (f : Front) (t : ℕ) (x : Entry) : Type 0 where
   pub goes_on : IsOpen s f
   pub not_held_off : IsHeldOff s f t → ⊥
-  pub crosses : is_cross x ≡ owes_cross x (listed t f.entries)
+  pub crosses : is_cross x ≡ owes_cross x (listed_places t f.entries)
   pub parked : IsParked s f t x f.control.asked
 
 -- An event of an order begins where the one before it was complete often enough, and a wait is over where it was posted so often.
@@ -318,7 +318,7 @@ is_installed c k = has c.version.active k
 -- What an entry of a thread asks of the entries before it: the place of a `Cross` is the one that was listed, what blocks a thread is disabled, a
 -- clause that is entered is free, and orders are kept. Nothing else is asked: the thread's part gives the rest.
 abbrev pub Permits : Setting → Front → Entry → Type 0
-Permits s f (e.Cross t l x v n) = AllByRecursion (λ y. y ≡ x) (listed t f.entries)
+Permits s f (e.Cross t l x v n) = AllByRecursion (λ y. y ≡ x) (listed_places t f.entries)
 Permits s f (e.Blocked t l what) = IsDisabledFor s f t what
 Permits s f (e.Enter t l k c) = list_any (λ (h : Holder). (h.filter == k) && (h.clause == c)) f.control.holders ≡ false
 Permits s f (e.Wait t l k n) = HasPosts f.entries k (before_in n (Plan.rulings (plans s k)))

@@ -10,23 +10,23 @@ use Rattle.loom_lang.specs.Rules as rules
 use Rattle.loom_lang.specs.Trace.{end, made}
 use Rattle.loom_command.specs.Filter.{Filter}
 use Rattle.loom_law.specs.Filter.{Plan, has, plan_of}
-use Rattle.loom_law.specs.Walk.{Version, Plans, place_number, Operation, leave, entry_of_operation, Step, goes, makes, holds, told, filter_of, Owes}
-use Rattle.loom_law.specs.Part.{Own, led, IsPart, Point, IsPlaceOf, HasMoved, KeepsAway, IsInside}
-use Rattle.loom_law.specs.View.{IsClear, view_behind}
+use Rattle.loom_law.specs.Walk.{Version, Plans, place_number, Operation, leave, entry_of_operation, PartStep, goes, makes, holds, told, filter_of, Owes}
+use Rattle.loom_law.specs.ThreadPart.{Own, walk_of, IsPart, Point, IsPlaceOf, HasMoved, KeepsAway, IsInside}
+use Rattle.loom_law.specs.FilterView.{IsClear, view_behind}
 use Rattle.loom_law.specs.Paths.{IsUnsafe}
 use Rattle.loom_event.specs.Event.{Event, entry_of}
 use Rattle.loom_event.specs.Replay.{ThreadState, start, thread_at, replay, IsAllowed, thread_limit}
 use Rattle.loom_event.specs.Entries.{thread_of, IsFinished}
-use Rattle.loom_law.specs.Control.{Holder, Control, control, taken, entries_of, listed, since_asked, is_post, is_past}
+use Rattle.loom_law.specs.Control.{Holder, Control, control, versions_of, entries_of, listed_places, since_asked, is_post, is_past}
 use Rattle.loom_law.specs.Lawful.{Setting, Front, front_of, front_at, plans, own, is_held_by, is_installed, IsHeldOff, IsFlagged, IsOpen, is_cross, is_begin, owes_cross, is_spawn_of, has_any, Permits, MayFollow, IsObeyed, IsLawful, SeesNothing}
 
 -- At each point of a full part a thread holds each clause whose regions it is inside.
 abbrev pub HasHeldRegions : Type 0
-HasHeldRegions = (p : Source) (plans : Plans) (x : Own) (k c : ℕ) (h : IsInside p plans x k c) → holds (led p plans x h.part.steps).held k c ≡ true
+HasHeldRegions = (p : Source) (plans : Plans) (x : Own) (k c : ℕ) (h : IsInside p plans x k c) → holds (walk_of p plans x h.part.steps).held k c ≡ true
 
 -- the last of these steps tells an entry
-abbrev pub EndsWithEntry : Own → List Step → Type 0
-EndsWithEntry x steps = (front : List Step) × ((last : Step) × ((steps ≡ front ++ last ∷ []) × ((y : Entry) × (told x.thread (last ∷ []) ≡ y ∷ []))))
+abbrev pub EndsWithEntry : Own → List PartStep → Type 0
+EndsWithEntry x steps = (front : List PartStep) × ((last : PartStep) × ((steps ≡ front ++ last ∷ []) × ((y : Entry) × (told x.thread (last ∷ []) ≡ y ∷ []))))
 
 -- A thread has at most one full part: two whose last steps tell an entry are the same.
 abbrev pub HasOnePart : Type 0
@@ -34,13 +34,13 @@ HasOnePart = (p : Source) (plans : Plans) (x : Own) (a b : IsPart p plans x) →
 
 -- So there is one list of steps before its last entry.
 abbrev pub HasOneMove : Type 0
-HasOneMove = (p : Source) (plans : Plans) (x : Own) (before before' : List Step) → HasMoved p plans x before → HasMoved p plans x before' → before ≡ before'
+HasOneMove = (p : Source) (plans : Plans) (x : Own) (before before' : List PartStep) → HasMoved p plans x before → HasMoved p plans x before' → before ≡ before'
 
 -- Of two parts of a thread each is the steps up to its last entry, the same for both, and marks behind.
-pub record SameSteps (x : Own) (a b : List Step) : Type 0 where
-  pub made : List Step
-  pub behind : List Step
-  pub behind' : List Step
+pub record SameSteps (x : Own) (a b : List PartStep) : Type 0 where
+  pub made : List PartStep
+  pub behind : List PartStep
+  pub behind' : List PartStep
   pub first : a ≡ made ++ behind
   pub second : b ≡ made ++ behind'
   pub marks : told x.thread behind ≡ []
@@ -67,7 +67,7 @@ IsOutsideWhereFlagged = (s : Setting) (x : Own) (t : Filter) (y : Place) → (y 
 abbrev pub HasBalance : Type 0
 HasBalance = (s : Setting) (front rest : List Entry) → IsLawful s (front ++ rest) → (t : ℕ) (x : ThreadState) (h : IsPart s.program (plans s) (own s front t x)) (k c : ℕ)
     → is_installed (control s.commands front) k ≡ true
-    → holds (led s.program (plans s) (own s front t x) h.steps).held k c ≡ is_held_by (control s.commands front) k c t
+    → holds (walk_of s.program (plans s) (own s front t x) h.steps).held k c ≡ is_held_by (control s.commands front) k c t
 
 -- An install begins anew: its filter wasn't installed before, nobody holds a clause of it, and none of its events was posted or complete.
 pub record BeginsAnew (front : List Entry) (c : Control) (k : ℕ) : Type 0 where
@@ -111,19 +111,19 @@ IsAlwaysBalanced = (s : Setting) (es : List Entry) (h : IsLawful s es) (front : 
 -- A thread that made an entry, and for which no new version is listed behind its last one, has the newest version.
 abbrev pub HasNewest : Type 0
 HasNewest = (s : Setting) (front rest : List Entry) → IsLawful s (front ++ rest) → (i : ℕ) → i < thread_limit → (x : ThreadState)
-    (h : IsPart s.program (plans s) (own s front (suc i) x)) (y : Entry) (ys : List Entry) → entries_of (suc i) front ≡ y ∷ ys → listed (suc i) front ≡ []
-    → (led s.program (plans s) (own s front (suc i) x) h.steps).active ≡ Version.active (control s.commands front).version
+    (h : IsPart s.program (plans s) (own s front (suc i) x)) (y : Entry) (ys : List Entry) → entries_of (suc i) front ≡ y ∷ ys → listed_places (suc i) front ≡ []
+    → (walk_of s.program (plans s) (own s front (suc i) x) h.steps).active ≡ Version.active (control s.commands front).version
 
 -- What a thread owes first is of a filter of its version.
 abbrev pub HasOwedActive : Type 0
-HasOwedActive = (p : Source) (plans : Plans) (x : Own) (h : IsPart p plans x) (l : ℕ) (o : Operation) (k : ℕ) → Owes (led p plans x h.steps).owed l o → filter_of o ≡ Some k
-    → has (led p plans x h.steps).active k ≡ true
+HasOwedActive = (p : Source) (plans : Plans) (x : Own) (h : IsPart p plans x) (l : ℕ) (o : Operation) (k : ℕ) → Owes (walk_of p plans x h.steps).owed l o → filter_of o ≡ Some k
+    → has (walk_of p plans x h.steps).active k ≡ true
 
 -- So it is of an installed filter, where no new version is listed for the thread.
 abbrev pub HasOwedInstalled : Type 0
 HasOwedInstalled = (s : Setting) (front rest : List Entry) → IsLawful s (front ++ rest) → (i : ℕ) → i < thread_limit → (x : ThreadState)
-    (h : IsPart s.program (plans s) (own s front (suc i) x)) (y : Entry) (ys : List Entry) → entries_of (suc i) front ≡ y ∷ ys → listed (suc i) front ≡ []
-    → (l : ℕ) (o : Operation) (k : ℕ) → Owes (led s.program (plans s) (own s front (suc i) x) h.steps).owed l o → filter_of o ≡ Some k
+    (h : IsPart s.program (plans s) (own s front (suc i) x)) (y : Entry) (ys : List Entry) → entries_of (suc i) front ≡ y ∷ ys → listed_places (suc i) front ≡ []
+    → (l : ℕ) (o : Operation) (k : ℕ) → Owes (walk_of s.program (plans s) (own s front (suc i) x) h.steps).owed l o → filter_of o ≡ Some k
     → is_installed (control s.commands front) k ≡ true
 
 -- no number stands twice, in no version a filter
@@ -137,14 +137,14 @@ HaveOnce (v ∷ vs) = AreOnce v.active × HaveOnce vs
 
 -- A thread that owes a leave holds the clause.
 abbrev pub HasHeldLeaves : Type 0
-HasHeldLeaves = (p : Source) (plans : Plans) (x : Own) (h : IsPart p plans x) → HaveOnce x.versions → (l k c : ℕ) → Owes (led p plans x h.steps).owed l (leave k c)
-    → holds (led p plans x h.steps).held k c ≡ true
+HasHeldLeaves = (p : Source) (plans : Plans) (x : Own) (h : IsPart p plans x) → HaveOnce x.versions → (l k c : ℕ) → Owes (walk_of p plans x h.steps).owed l (leave k c)
+    → holds (walk_of p plans x h.steps).held k c ≡ true
 
 -- The journal says so too, where no new version is listed for the thread.
 abbrev pub HasRightLeaves : Type 0
 HasRightLeaves = (s : Setting) (front rest : List Entry) → IsLawful s (front ++ rest) → (i : ℕ) → i < thread_limit → (x : ThreadState)
-    (h : IsPart s.program (plans s) (own s front (suc i) x)) (y : Entry) (ys : List Entry) → entries_of (suc i) front ≡ y ∷ ys → listed (suc i) front ≡ []
-    → (l k c : ℕ) → Owes (led s.program (plans s) (own s front (suc i) x) h.steps).owed l (leave k c)
+    (h : IsPart s.program (plans s) (own s front (suc i) x)) (y : Entry) (ys : List Entry) → entries_of (suc i) front ≡ y ∷ ys → listed_places (suc i) front ≡ []
+    → (l k c : ℕ) → Owes (walk_of s.program (plans s) (own s front (suc i) x) h.steps).owed l (leave k c)
     → is_held_by (control s.commands front) k c (suc i) ≡ true
 
 -- What stands before the last entry of a lawful journal is lawful.
@@ -153,8 +153,8 @@ HasFronts = (s : Setting) (front rest : List Entry) → IsLawful s (front ++ res
 
 -- A thread that ends holds nothing.
 abbrev pub HasEmptyEnds : Type 0
-HasEmptyEnds = (p : Source) (plans : Plans) (x : Own) (h : IsPart p plans x) (before : List Step) (l : ℕ) → h.steps ≡ before ++ goes (made l end) ∷ []
-    → (led p plans x before).held ≡ []
+HasEmptyEnds = (p : Source) (plans : Plans) (x : Own) (h : IsPart p plans x) (before : List PartStep) (l : ℕ) → h.steps ≡ before ++ goes (made l end) ∷ []
+    → (walk_of p plans x before).held ≡ []
 
 -- One more entry
 
@@ -174,7 +174,7 @@ own_with s es t z x = record {
   thread = t;
   func = z.func;
   args = z.args;
-  versions = with_newest x (Control.version (control s.commands es)) (taken s.commands t es);
+  versions = with_newest x (Control.version (control s.commands es)) (versions_of s.commands t es);
   entries = entries_of t es ++ x ∷ [];
 }
 
@@ -183,19 +183,19 @@ abbrev pub HasBeginning : Type 0
 HasBeginning = (s : Setting) → (h : IsLawful s []) × (h.events ≡ [])
 
 -- Behind the entries and events so far thread t may make this entry, with this step of its part.
-pub record MayTurn (s : Setting) (es : List Entry) (xs : List Event) (t : ℕ) (x : Entry) (step : Step) : Type 0 where
+pub record MayTurn (s : Setting) (es : List Entry) (xs : List Event) (t : ℕ) (x : Entry) (step : PartStep) : Type 0 where
   pub state : ThreadState
   pub there : thread_at (replay (start s.program) xs) t ≡ Some state
   -- with it the thread's own entries are a part
   pub part : IsPart s.program (plans s) (own_with s es t state x)
-  pub before : List Step
+  pub before : List PartStep
   pub last : part.steps ≡ before ++ step ∷ []
   pub goes_on : IsOpen s (front_of s es xs)
   pub not_held_off : IsHeldOff s (front_of s es xs) t → ⊥
-  pub crosses : is_cross x ≡ owes_cross x (listed t es)
+  pub crosses : is_cross x ≡ owes_cross x (listed_places t es)
   -- the thread keeps away from the places that are flagged for the command that was asked
   pub away : (k : ℕ) → Control.asked (control s.commands es) ≡ Some k → has_any (entries_of t (since_asked es)) ≡ true
-      → KeepsAway (IsFlagged s k) (led s.program (plans s) (own_with s es t state x) before)
+      → KeepsAway (IsFlagged s k) (walk_of s.program (plans s) (own_with s es t state x) before)
   pub no_begin : (k : ℕ) → Control.asked (control s.commands es) ≡ Some k → is_begin x ≡ true → list_any (is_spawn_of t) (since_asked es) ≡ false
   pub permits : Permits s (front_of s es xs) x
 

@@ -6,7 +6,7 @@ use Rattle.loom_tree.specs.Tree as tree
 use Rattle.loom_lang.specs.Numbers.{function_number}
 use Rattle.loom_lang.specs.Places.{Place, entry, inside, back_edge, out, body_places}
 use Rattle.loom_law.specs.Filter.{Watch, statement, function, between, whole, Plan}
-use Rattle.loom_law.specs.View.{all_ranges}
+use Rattle.loom_law.specs.FilterView.{all_ranges}
 
 -- The successors of a body's beginnings, completions and back edges; calls are stepped over, and tests are ignored
 

@@ -8,9 +8,9 @@ use Rattle.loom_event.specs.Event.{targets}
 use Rattle.loom_event.specs.Replay.{ThreadState, thread_at}
 use Rattle.loom_event.specs.Run.{IsRun}
 use Rattle.loom_law.specs.Filter.{Plan, before_in}
-use Rattle.loom_law.specs.Control.{install, means, Command, command_at, Control, control, listed}
-use Rattle.loom_law.specs.Part.{IsInside}
-use Rattle.loom_law.specs.Lawful.{Setting, Front, front_at, plans, own, running, IsHeldOff, Lists, IsOutside, HasCompletions, is_held_by, is_installed, Permits, IsObeyed, IsLawful}
+use Rattle.loom_law.specs.Control.{install, means, Command, command_at, Control, control, listed_places}
+use Rattle.loom_law.specs.ThreadPart.{IsInside}
+use Rattle.loom_law.specs.Lawful.{Setting, Front, front_at, plans, own, running_thread, IsHeldOff, ListsPlaces, IsOutside, HasCompletions, is_held_by, is_installed, Permits, IsObeyed, IsLawful}
 use Rattle.loom_law.specs.Laws.{Balances}
 
 -- An event of an order begins behind as many completions of the one before it as the order asks for.
@@ -30,8 +30,8 @@ pub record FindsNobodyInside (s : Setting) (f : Front) (k : ℕ) (row : List ℕ
   pub is : command_at s.commands k ≡ Some command
   pub plan : Plan
   pub installs : command.action ≡ install (means plan)
-  pub lists : Lists s f k row
-  pub outside : (t : ℕ) → IsOutside s f.entries t (running (thread_at f.store t)) plan (lists.place t)
+  pub lists : ListsPlaces s f k row
+  pub outside : (t : ℕ) → IsOutside s f.entries t (running_thread (thread_at f.store t)) plan (lists.place t)
 
 abbrev pub InstallsOutside : Setting → Front → Entry → Type 0
 InstallsOutside s f (e.Installed k v row) = FindsNobodyInside s f k row
@@ -45,7 +45,7 @@ HasOneHolder c = (k n t u : ℕ) → is_held_by c k n t ≡ true → is_held_by 
 abbrev pub StaysAsItWas : Setting → Front → Entry → Type 0
 StaysAsItWas s f x =
     ((control s.commands (f.entries ++ x ∷ [])).version ≡ f.control.version)
-    × (((control s.commands (f.entries ++ x ∷ [])).holders ≡ f.control.holders) × ((t : ℕ) → listed t (f.entries ++ x ∷ []) ≡ listed t f.entries))
+    × (((control s.commands (f.entries ++ x ∷ [])).holders ≡ f.control.holders) × ((t : ℕ) → listed_places t (f.entries ++ x ∷ []) ≡ listed_places t f.entries))
 
 -- What is refused, stalls, is cut or isn't reached changes neither the version nor its filters.
 abbrev pub ChangesNothing : Setting → Front → Entry → Type 0

@@ -15,8 +15,8 @@ use Rattle.loom_event.specs.Event.{Event, entry_by}
 use Rattle.loom_event.specs.Replay.{ThreadState, start, thread_at, replay, IsAllowed}
 use Rattle.loom_law.specs.Walk.{Plans, Operation, cross, blocked, goes, makes, entry_of_operation}
 use Rattle.loom_law.specs.Walk as walk
-use Rattle.loom_law.specs.Part.{Own, led, KeepsAway, AsksToMake, AsksToCross, AsksToAct}
-use Rattle.loom_law.specs.Control.{Control, control, listed, since_asked, entries_of}
+use Rattle.loom_law.specs.ThreadPart.{Own, walk_of, KeepsAway, AsksToMake, AsksToCross, AsksToAct}
+use Rattle.loom_law.specs.Control.{Control, control, listed_places, since_asked, entries_of}
 use Rattle.loom_law.specs.Lawful.{Setting, front_of, plans, own, IsFlagged, IsHeldOff, IsOpen, is_cross, owes_cross, is_begin, is_spawn_of, has_any, StaysAway, Permits, IsLawful}
 use Rattle.loom_law.specs.Laws.{IsUnfinished, own_with, MayTurn}
 
@@ -36,10 +36,10 @@ pub record MayAnswer (s : Setting) (es : List Entry) (xs : List Event) (t : ℕ)
   pub allowed : IsAllowed (replay (start s.program) xs) (event_of_deed t d)
   pub goes_on : IsOpen s (front_of s es xs)
   pub not_held_off : IsHeldOff s (front_of s es xs) t → ⊥
-  pub no_cross : owes_cross (entry_by t d.line d.act) (listed t es) ≡ false
+  pub no_cross : owes_cross (entry_by t d.line d.act) (listed_places t es) ≡ false
   -- the thread keeps away from the places that are flagged for the command that was asked
   pub away : (k : ℕ) → Control.asked (control s.commands es) ≡ Some k → has_any (entries_of t (since_asked es)) ≡ true
-      → KeepsAway (IsFlagged s k) (led s.program (plans s) (own s es t state) asks.steps)
+      → KeepsAway (IsFlagged s k) (walk_of s.program (plans s) (own s es t state) asks.steps)
   pub no_begin : (k : ℕ) → Control.asked (control s.commands es) ≡ Some k → is_begin (entry_by t d.line d.act) ≡ true
       → list_any (is_spawn_of t) (since_asked es) ≡ false
 
@@ -67,7 +67,7 @@ pub record MayMake (s : Setting) (es : List Entry) (xs : List Event) (t l : ℕ)
   pub asks : AsksToDo s es (own s es t state) l o
   pub goes_on : IsOpen s (front_of s es xs)
   pub not_held_off : IsHeldOff s (front_of s es xs) t → ⊥
-  pub crosses : is_cross (entry_of_operation t l o) ≡ owes_cross (entry_of_operation t l o) (listed t es)
+  pub crosses : is_cross (entry_of_operation t l o) ≡ owes_cross (entry_of_operation t l o) (listed_places t es)
   pub away : (k : ℕ) → Control.asked (control s.commands es) ≡ Some k → has_any (entries_of t (since_asked es)) ≡ true
       → StaysAway s (own_with s es t state (entry_of_operation t l o)) k
   pub permits : Permits s (front_of s es xs) (entry_of_operation t l o)

@@ -42,11 +42,11 @@ pub data Operation : Type 0 where
   blocked : What → Operation
 
 -- an item of the trace, or an operation with its line
-pub data Step : Type 0 where
-  goes : Item → Step
-  makes : ℕ → Operation → Step
+pub data PartStep : Type 0 where
+  goes : Item → PartStep
+  makes : ℕ → Operation → PartStep
 
-abbrev pub items : List Step → List Item
+abbrev pub items : List PartStep → List Item
 items [] = []
 items (goes i ∷ ss) = i ∷ items ss
 items (makes l o ∷ ss) = items ss
@@ -68,7 +68,7 @@ abbrev pub told_item : ℕ → Item → List Entry → List Entry
 told_item t (made l a) es = entry_by t l a ∷ es
 told_item t _ es = es
 
-abbrev pub told : ℕ → List Step → List Entry
+abbrev pub told : ℕ → List PartStep → List Entry
 told t [] = []
 told t (goes i ∷ ss) = told_item t i (told t ss)
 told t (makes l o ∷ ss) = entry_of_operation t l o ∷ told t ss
@@ -132,7 +132,7 @@ unborn vs = record { coming = vs; active = []; held = []; frames = []; spot = el
 abbrev pub holds : List (ℕ × ℕ) → ℕ → ℕ → Bool
 holds hs k c = list_any (λ (h : ℕ × ℕ). (h.0 == k) && (h.1 == c)) hs
 
--- a wait for each event that stands in an order and isn't its first
+-- a wait for each event that an order puts behind another one
 abbrev pub owed_waits : Plan → ℕ → ℕ → List ℕ → Queue → Queue
 owed_waits f k l [] more = more
 owed_waits f k l (n ∷ ns) more = if waits f n then (l, wait k n) ∷ owed_waits f k l ns more else owed_waits f k l ns more
@@ -140,7 +140,7 @@ owed_waits f k l (n ∷ ns) more = if waits f n then (l, wait k n) ∷ owed_wait
 abbrev pub begins_in : Ruling → List ℕ → Bool
 begins_in r ns = list_any (λ (x : Range). share (entry_events x) ns) (ranges_of r)
 
--- an enter for each clause of which one is an entry event, and which the thread doesn't hold
+-- an enter for each clause that these events enter, unless the thread holds it already
 abbrev pub owed_enters : List (ℕ × ℕ) → ℕ → ℕ → List ℕ → List (ℕ × Ruling) → Queue → Queue
 owed_enters hs k l ns [] more = more
 owed_enters hs k l ns (c ∷ cs) more =
@@ -340,14 +340,14 @@ filter_of (leave k c) = Some k
 filter_of _ = None
 
 -- What is still owed where these filters alone stay: their operations, a tick, and `Back` where a leave stands behind it.
-abbrev pub is_kept : List ℕ → Option ℕ → Bool
-is_kept ks None = true
-is_kept ks (Some k) = has ks k
+abbrev pub stays : List ℕ → Option ℕ → Bool
+stays ks None = true
+stays ks (Some k) = has ks k
 
 abbrev pub still_owed : List ℕ → Queue → Queue
 still_owed ks [] = []
 still_owed ks ((l, back) ∷ os) = with_back l (still_owed ks os)
-still_owed ks ((l, o) ∷ os) = if is_kept ks (filter_of o) then (l, o) ∷ still_owed ks os else still_owed ks os
+still_owed ks ((l, o) ∷ os) = if stays ks (filter_of o) then (l, o) ∷ still_owed ks os else still_owed ks os
 
 -- the filters that are new in a version, and what they owe at the same beginning, where the thread holds nothing of them
 abbrev pub new_filters : List ℕ → List ℕ → List ℕ
@@ -405,13 +405,13 @@ after_operation p plans z (tick x) = made_one z
 after_operation p plans z (cross x v n) = crossing p plans z z.coming
 after_operation p plans z (blocked what) = record z { passed = []; is_blocked = true }
 
-abbrev pub after : Source → Plans → Walk → Step → Walk
+abbrev pub after : Source → Plans → Walk → PartStep → Walk
 after p plans z (goes i) = after_item p plans z i
 after p plans z (makes l o) = after_operation p plans z o
 
-abbrev pub walked : Source → Plans → Walk → List Step → Walk
-walked p plans z [] = z
-walked p plans z (s ∷ ss) = walked p plans (after p plans z s) ss
+abbrev pub walk_from : Source → Plans → Walk → List PartStep → Walk
+walk_from p plans z [] = z
+walk_from p plans z (s ∷ ss) = walk_from p plans (after p plans z s) ss
 
 -- What comes next
 
@@ -495,7 +495,7 @@ HasVersion [] = ⊥
 HasVersion (v ∷ vs) = Unit {0}
 
 -- An item stands where nothing is owed, and operations stand as they are owed.
-abbrev pub MayStand : Source → Walk → Step → List Item → Type 0
+abbrev pub MayStand : Source → Walk → PartStep → List Item → Type 0
 MayStand p z (goes (made l begin)) rest = (z.owed ≡ []) × HasVersion z.coming
 MayStand p z (goes i) rest = z.owed ≡ []
 MayStand p z (makes l (cross x v n)) rest = MayCross p z rest l x v n
@@ -503,6 +503,6 @@ MayStand p z (makes l (blocked what)) rest = MayBlock z rest l what
 MayStand p z (makes l o) rest = Owes z.owed l o
 
 -- Each step stands rightly behind those before it. `ahead` is what the tree gives behind the last one.
-abbrev pub AreWoven : Source → Plans → Walk → List Step → List Item → Type 0
+abbrev pub AreWoven : Source → Plans → Walk → List PartStep → List Item → Type 0
 AreWoven p plans z [] ahead = Unit {0}
 AreWoven p plans z (s ∷ ss) ahead = MayStand p z s (items ss ++ ahead) × AreWoven p plans (after p plans z s) ss ahead

@@ -4,7 +4,7 @@ use Rattle.loom_tree.specs.Token.{Token, name, num, word, op, sign, bad}
 use Rattle.loom_lexer.specs.Lexeme.{is_letter, is_part, Each}
 use Rattle.loom_lexer.specs.Tokens.{keyword_of, largest_number}
 
--- a letter or `_`, then letters, digits and `_`, and no word of the language
+-- letters, digits and `_`, of which the first is no digit, and no word of the language
 abbrev pub IsName : List ℕ → Type 0
 IsName [] = ⊥
 IsName (b ∷ bs) = (is_letter b ≡ true) × Each is_part bs × (keyword_of (b ∷ bs) ≡ None)

@@ -5,7 +5,7 @@ use Rattle.loom_flow.specs.declared.code.Array.{Array}
 use Rattle.loom_flow.specs.Progress.{Progress, traps, in_array}
 use Rattle.loom_trace.specs.declared.request.Request.{Request}
 use Rattle.loom_strand.specs.Operator.{cell_at}
-use Rattle.loom_strand.specs.Question.{IsAskedBy, cell_request}
+use Rattle.loom_strand.specs.PositionRequest.{IsAskedBy, cell_request}
 
 asked_if : (b : Bool) (line w : ℕ) (ask : ℕ → Request) (more : ℕ → Progress) (q : Request) → IsAskedBy (ask w) (more w) → q ≡ cell_request line ask (if b then Some w else None)
     → IsAskedBy q (if b then more w else traps line index)

@@ -13,11 +13,11 @@ use Rattle.loom_trace.specs.declared.entry.Entry.TheVariants as e
 use Rattle.loom_trace.specs.declared.request.Request.{Request}
 use Rattle.loom_trace.specs.declared.request.Request.TheVariants as r
 use Rattle.loom_event.specs.Answer.{granted, trapped, cause_of, trap_at}
-use Rattle.loom_law.specs.Walk.{Plans, tick, Step, makes, items, Queue}
-use Rattle.loom_law.specs.Part.{Own, IsPart, AsksToMake, AsksToAct, GoesOn}
+use Rattle.loom_law.specs.Walk.{Plans, tick, PartStep, makes, items, Queue}
+use Rattle.loom_law.specs.ThreadPart.{Own, IsPart, AsksToMake, AsksToAct, GoesOn}
 use Rattle.loom_strand.specs.PlainWalk.{first_version, IsPlainWalk}
-use Rattle.loom_strand.specs.Entries.{has_none, versions_with}
-use Rattle.loom_strand.specs.Question.{request_of}
+use Rattle.loom_strand.specs.Life.{has_none, versions_with}
+use Rattle.loom_strand.specs.PositionRequest.{question_request}
 use Rattle.loom_strand.specs.Strand.{AsksNext, IsWholePart}
 use Rattle.loom_strand.specs.StrandInvariant.{GoesOnFrom, end_line, thread_with}
 use Rattle.loom_strand.proofs.Walks.{items_append, walk_tick}
@@ -36,7 +36,7 @@ begun_own t f vs (x ∷ es) h = refl
 
 -- Parts
 
-pub plain_part : (p : Source) (plans : Plans) (t f : ℕ) (vs : List ℤ) (steps : List Step) (es : List Entry) (os : Queue) (n : ℕ) → has_none es ≡ false → IsPlainWalk p t steps es os n
+pub plain_part : (p : Source) (plans : Plans) (t f : ℕ) (vs : List ℤ) (steps : List PartStep) (es : List Entry) (os : Queue) (n : ℕ) → has_none es ≡ false → IsPlainWalk p t steps es os n
     → (o : Outcome) → IsTrace p f vs (items steps) o → IsPart p plans (own_with t f vs es)
 plain_part p plans t f vs steps es os n some w o trace = subst (IsPart p plans) (begun_own t f vs es some) (record {
   steps = steps;
@@ -48,7 +48,7 @@ plain_part p plans t f vs steps es os n some w o trace = subst (IsPart p plans) 
   taken = (w.plain plans).coming;
 })
 
-pub whole_part : (p : Source) (plans : Plans) (t f : ℕ) (vs : List ℤ) (steps : List Step) (es : List Entry) (os : Queue) (n : ℕ) → has_none es ≡ false → IsPlainWalk p t steps es os n
+pub whole_part : (p : Source) (plans : Plans) (t f : ℕ) (vs : List ℤ) (steps : List PartStep) (es : List Entry) (os : Queue) (n : ℕ) → has_none es ≡ false → IsPlainWalk p t steps es os n
     → IsTrace p f vs (items steps) Finished → IsWholePart p plans (own_with t f vs es)
 whole_part p plans t f vs steps es os n some w trace = subst (IsWholePart p plans) (begun_own t f vs es some) (record {
   steps = steps;
@@ -64,7 +64,7 @@ some_more (y ∷ es) x = refl
 
 -- What it asks for
 
-pub asks_tick : (p : Source) (plans : Plans) (t f : ℕ) (vs : List ℤ) (steps : List Step) (es : List Entry) (line place n : ℕ) → has_none es ≡ false
+pub asks_tick : (p : Source) (plans : Plans) (t f : ℕ) (vs : List ℤ) (steps : List PartStep) (es : List Entry) (line place n : ℕ) → has_none es ≡ false
     → IsPlainWalk p t steps es ((line, tick place) ∷ []) n → IsTrace p f vs (items steps) Open → AsksToMake p plans (own_with t f vs es) line (tick place)
 asks_tick p plans t f vs steps es line place n some w trace =
     let more : IsPlainWalk p t (steps ++ makes line (tick place) ∷ []) (es ++ e.Tick t line place ∷ []) [] 0 = walk_tick p t steps es n line place w in
@@ -86,11 +86,11 @@ pub record Acts (p : Source) (f : ℕ) (vs : List ℤ) (is : List Item) (q : Req
   pub granted : (v : ℤ) (d : Deed) → granted q v ≡ Some d → IsTrace p f vs (is ++ made d.line d.act ∷ []) Open
   pub trapped : (d : Deed) → trapped q ≡ Some d → IsTrace p f vs (is ++ made d.line d.act ∷ []) Open
 
-goes_on : (p : Source) (x : Own) (steps : List Step) (o : Option Deed) → ((d : Deed) → o ≡ Some d → IsTrace p x.func x.args (items steps ++ made d.line d.act ∷ []) Open) → GoesOn p x steps o
+goes_on : (p : Source) (x : Own) (steps : List PartStep) (o : Option Deed) → ((d : Deed) → o ≡ Some d → IsTrace p x.func x.args (items steps ++ made d.line d.act ∷ []) Open) → GoesOn p x steps o
 goes_on p x steps None h = tt
 goes_on p x steps (Some d) h = h d refl
 
-pub asks_act : (p : Source) (plans : Plans) (t f : ℕ) (vs : List ℤ) (steps : List Step) (es : List Entry) (n : ℕ) (q : Request) → has_none es ≡ false → IsPlainWalk p t steps es [] n
+pub asks_act : (p : Source) (plans : Plans) (t f : ℕ) (vs : List ℤ) (steps : List PartStep) (es : List Entry) (n : ℕ) (q : Request) → has_none es ≡ false → IsPlainWalk p t steps es [] n
     → Acts p f vs (items steps) q → AsksToAct p plans (own_with t f vs es) q
 asks_act p plans t f vs steps es n q some w a = subst (λ x. AsksToAct p plans x q) (begun_own t f vs es some) (record {
   steps = steps;
@@ -105,7 +105,7 @@ asks_act p plans t f vs steps es n q some w a = subst (λ x. AsksToAct p plans x
 })
 
 pub question_acts : (p : Source) → KeepsRules p → (f : ℕ) (vs : List ℤ) (is : List Item) (z : Position) (line : ℕ) (q : Question) (behind : ℤ → Position)
-    → progress (lowered p) z ≡ asks line q behind → GoesOnFrom (lowered p) (thread_with p f) f vs is z → Acts p f vs is (request_of line q)
+    → progress (lowered p) z ≡ asks line q behind → GoesOnFrom (lowered p) (thread_with p f) f vs is z → Acts p f vs is (question_request line q)
 question_acts p l f vs is z line q behind e h =
     let one = one_open (lowered p) p f line q behind in record {
       next = one.0;
@@ -154,7 +154,7 @@ end_acts p l f vs is z e h = record {
     opens = tree_trace p l f vs _ Open (ends_open (lowered p) p f vs is z e h)
 
 -- A question asks for an act.
-pub question_next : (p : Source) (x : Own) (line : ℕ) (q : Question) → ((plans : Plans) → AsksToAct p plans x (request_of line q)) → AsksNext p x (request_of line q)
+pub question_next : (p : Source) (x : Own) (line : ℕ) (q : Question) → ((plans : Plans) → AsksToAct p plans x (question_request line q)) → AsksNext p x (question_request line q)
 question_next p x line (read w) h = h
 question_next p x line (write w v) h = h
 question_next p x line (lock m) h = h

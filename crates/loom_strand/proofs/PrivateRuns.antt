@@ -3,7 +3,7 @@ use Rattle.std.proofs.Common.{ℕ, ◌≡◌, ◌<◌, ◌⊎◌, false, List, [
 use Rattle.std.specs.Prelude.{is_some}
 use Rattle.std.proofs.lemmas.Option.{slice_get_within}
 use Rattle.loom_tree.specs.Tree.{Source}
-use Rattle.loom_flow.specs.Flat.{Flat}
+use Rattle.loom_flow.specs.Flow.{Flow}
 use Rattle.loom_flow.specs.Position.{Position}
 use Rattle.loom_flow.specs.FlatCode.{lowered}
 use Rattle.loom_flow.specs.Code.{IsLowered}
@@ -15,18 +15,18 @@ use Rattle.loom_law.specs.Walk.{tick, items, Queue}
 use Rattle.loom_strand.specs.declared.stage.Birth.{Birth}
 use Rattle.loom_strand.specs.declared.stage.Stage.{Stage}
 use Rattle.loom_strand.specs.declared.stage.Stage.TheVariants as stage
-use Rattle.loom_strand.specs.declared.turn.Stop.TheVariants as stop
+use Rattle.loom_strand.specs.declared.step_result.Stop.TheVariants as stop
 use Rattle.loom_strand.specs.Machine.{Machine, position}
-use Rattle.loom_strand.specs.Question.{request_at}
+use Rattle.loom_strand.specs.PositionRequest.{request_at}
 use Rattle.loom_strand.specs.Strand.{Strand}
 use Rattle.loom_strand.specs.PlainWalk.{IsPlainWalk}
-use Rattle.loom_strand.specs.StrandInvariant.{IsSound, HasRoom, GoesOnFrom, end_line, thread_with, IsIdle, AsksTick, AsksHere, IsWaiting, IsRunning, IsAt, IsBlank, IsKept}
+use Rattle.loom_strand.specs.StrandInvariant.{IsSoundPosition, HasRoom, GoesOnFrom, end_line, thread_with, IsIdle, AsksTick, AsksHere, WaitingInvariant, RunningInvariant, StageInvariant, IsBlank, StrandInvariant}
 use Rattle.loom_strand.specs.PrivateRun.{HasGone, Stops}
 use Rattle.loom_strand.proofs.Walks.{items_append}
 use Rattle.loom_strand.proofs.RequestLaws.{no_request}
 
 -- The flat code is that of the thread's program.
-pub flat_is : (c : Flat) (p : Source) → IsLowered c → c.program ≡ p → c ≡ lowered p
+pub flat_is : (c : Flow) (p : Source) → IsLowered c → c.program ≡ p → c ≡ lowered p
 flat_is c p l e = l.is ∙ ap lowered e
 
 -- the thread with a request
@@ -38,7 +38,7 @@ resumed s q m st k = record {
   birth = s.birth;
   entries = s.entries;
   wanted = q;
-  inside = record { stage = st; passed = k; machine = m };
+  execution = record { stage = st; passed = k; machine = m };
 }
 
 pub nothing_wanted : (wanted : Option Request) → is_some wanted ≡ false → wanted ≡ None
@@ -46,21 +46,21 @@ nothing_wanted None e = refl
 nothing_wanted (Some q) e = cc
 
 -- A thread that has no request.
-pub record IsFree (c : Flat) (s : Strand) (b : Birth) (x : Stage) : Type 0 where
+pub record IsFree (c : Flow) (s : Strand) (b : Birth) (x : Stage) : Type 0 where
   pub lowered : IsLowered c
   pub program : c.program ≡ s.program
-  pub kept : IsKept s
+  pub kept : StrandInvariant s
   pub birth : s.birth ≡ Some b
-  pub stage : s.inside.stage ≡ x
+  pub stage : s.execution.stage ≡ x
   pub wanted : s.wanted ≡ None
 
-free_at : (c : Flat) (s : Strand) (b : Birth) (x : Stage) → IsFree c s b x → IsAt x s (Some b)
-free_at c s b x h = subst (λ y. IsAt y s (Some b)) h.stage (subst (IsAt s.inside.stage s) h.birth h.kept.stage)
+free_at : (c : Flow) (s : Strand) (b : Birth) (x : Stage) → IsFree c s b x → StageInvariant x s (Some b)
+free_at c s b x h = subst (λ y. StageInvariant y s (Some b)) h.stage (subst (StageInvariant s.execution.stage s) h.birth h.kept.stage)
 
-free_running : (c : Flat) (s : Strand) (b : Birth) → IsFree c s b stage.Runs → IsRunning s.program s.thread b s.entries None s.inside.passed (position s.inside.machine)
-free_running c s b h = subst (λ o. IsRunning s.program s.thread b s.entries o s.inside.passed (position s.inside.machine)) h.wanted (free_at c s b stage.Runs h)
+free_running : (c : Flow) (s : Strand) (b : Birth) → IsFree c s b stage.Runs → RunningInvariant s.program s.thread b s.entries None s.execution.passed (position s.execution.machine)
+free_running c s b h = subst (λ o. RunningInvariant s.program s.thread b s.entries o s.execution.passed (position s.execution.machine)) h.wanted (free_at c s b stage.Runs h)
 
-idle : (p : Source) (t n : ℕ) (b : Birth) (es : List Entry) (z : Position) → (h : IsRunning p t b es None n z) → IsIdle None h.owed n
+idle : (p : Source) (t n : ℕ) (b : Birth) (es : List Entry) (z : Position) → (h : RunningInvariant p t b es None n z) → IsIdle None h.owed n
 idle p t n b es z h = by_owed h.asks
   where
     by_owed : IsIdle None h.owed n ⊎ (AsksTick None h.owed ⊎ AsksHere (lowered p) (end_line p b.func) z None h.owed) → IsIdle None h.owed n
@@ -69,32 +69,32 @@ idle p t n b es z h = by_owed h.asks
     by_owed (inr (inr (q, is, at, owed))) = absurd (no_request q is)
 
 -- what a private run rests on
-pub free_sound : (c : Flat) (s : Strand) (b : Birth) → IsFree c s b stage.Runs → IsSound c (position s.inside.machine)
-free_sound c s b h = subst (λ d. IsSound d (position s.inside.machine)) (sym (flat_is c s.program h.lowered h.program)) (free_running c s b h).sound
+pub free_sound : (c : Flow) (s : Strand) (b : Birth) → IsFree c s b stage.Runs → IsSoundPosition c (position s.execution.machine)
+free_sound c s b h = subst (λ d. IsSoundPosition d (position s.execution.machine)) (sym (flat_is c s.program h.lowered h.program)) (free_running c s b h).sound
 
-pub free_room : (c : Flat) (s : Strand) (b : Birth) → IsFree c s b stage.Runs → HasRoom c s.inside.machine
-free_room c s b h = subst (λ d. HasRoom d s.inside.machine) (sym (flat_is c s.program h.lowered h.program)) h.kept.room
+pub free_room : (c : Flow) (s : Strand) (b : Birth) → IsFree c s b stage.Runs → HasRoom c s.execution.machine
+free_room c s b h = subst (λ d. HasRoom d s.execution.machine) (sym (flat_is c s.program h.lowered h.program)) h.kept.room
 
-pub free_few : (c : Flat) (s : Strand) (b : Birth) → IsFree c s b stage.Runs → s.inside.passed < 1000
-free_few c s b h = (idle s.program s.thread s.inside.passed b s.entries (position s.inside.machine) (free_running c s b h)).2
+pub free_few : (c : Flow) (s : Strand) (b : Birth) → IsFree c s b stage.Runs → s.execution.passed < 1000
+free_few c s b h = (idle s.program s.thread s.execution.passed b s.entries (position s.execution.machine) (free_running c s b h)).2
 
 -- the function of the thread is one of the program
 function_there : (p q : Source) (b : Birth) → p ≡ q → IsFunctionWith q b.func b.args → b.func < length p.funcs
 function_there p q b e f = slice_get_within p.funcs b.func f.0 (ap (λ (z : Source). slice_get z.funcs b.func) e ∙ f.1)
 
-function_at : (p : Source) (s : Strand) (b : Birth) (x : Stage) → p ≡ s.program → IsAt x s (Some b) → (x ≡ stage.Over → ⊥) → b.func < length p.funcs
+function_at : (p : Source) (s : Strand) (b : Birth) (x : Stage) → p ≡ s.program → StageInvariant x s (Some b) → (x ≡ stage.Over → ⊥) → b.func < length p.funcs
 function_at p s b stage.Waits e h lives = function_there p s.program b e h.function
 function_at p s b stage.Runs e h lives = function_there p s.program b e h.function
 function_at p s b stage.Over e h lives = absurd (lives refl)
 
-pub has_function : (p : Source) (s : Strand) (b : Birth) (x : Stage) → p ≡ s.program → IsKept s → s.birth ≡ Some b → s.inside.stage ≡ x → (x ≡ stage.Over → ⊥) → b.func < length p.funcs
-has_function p s b x e h birth is lives = function_at p s b x e (subst (λ y. IsAt y s (Some b)) is (subst (IsAt s.inside.stage s) birth h.stage)) lives
+pub has_function : (p : Source) (s : Strand) (b : Birth) (x : Stage) → p ≡ s.program → StrandInvariant s → s.birth ≡ Some b → s.execution.stage ≡ x → (x ≡ stage.Over → ⊥) → b.func < length p.funcs
+has_function p s b x e h birth is lives = function_at p s b x e (subst (λ y. StageInvariant y s (Some b)) is (subst (StageInvariant s.execution.stage s) birth h.stage)) lives
 
 -- Behind a private run
 
-gone_running : (p : Source) (t : ℕ) (b : Birth) (es : List Entry) (n k : ℕ) (old new : Machine) (wanted : Option Request) (os : Queue) → IsRunning p t b es None n (position old)
+gone_running : (p : Source) (t : ℕ) (b : Birth) (es : List Entry) (n k : ℕ) (old new : Machine) (wanted : Option Request) (os : Queue) → RunningInvariant p t b es None n (position old)
     → HasGone (lowered p) old new n k os → IsIdle wanted os k ⊎ (AsksTick wanted os ⊎ AsksHere (lowered p) (end_line p b.func) (position new) wanted os)
-    → IsRunning p t b es wanted k (position new)
+    → RunningInvariant p t b es wanted k (position new)
 gone_running p t b es n k old new wanted os h g asks = record {
   function = h.function;
   steps = h.steps ++ g.marks;
@@ -107,49 +107,49 @@ gone_running p t b es n k old new wanted os h g asks = record {
   lives = h.lives;
 }
 
-kept_as : (c : Flat) (s : Strand) (b : Birth) (q : Option Request) (m : Machine) (k : ℕ) → IsFree c s b stage.Runs → HasRoom (lowered s.program) m
-    → IsRunning s.program s.thread b s.entries q k (position m) → IsKept (resumed s q m s.inside.stage k)
-kept_as c s b q m k h room at = subst (λ x. IsKept (resumed s q m x k)) (sym h.stage) (record {
+kept_as : (c : Flow) (s : Strand) (b : Birth) (q : Option Request) (m : Machine) (k : ℕ) → IsFree c s b stage.Runs → HasRoom (lowered s.program) m
+    → RunningInvariant s.program s.thread b s.entries q k (position m) → StrandInvariant (resumed s q m s.execution.stage k)
+kept_as c s b q m k h room at = subst (λ x. StrandInvariant (resumed s q m x k)) (sym h.stage) (record {
   lawful = h.kept.lawful;
   room = room;
   blank = tt;
-  stage = subst (IsAt stage.Runs (resumed s q m stage.Runs k)) (sym h.birth) at;
+  stage = subst (StageInvariant stage.Runs (resumed s q m stage.Runs k)) (sym h.birth) at;
 })
 
-pub resumed_asks : (c : Flat) (s : Strand) (b : Birth) (q : Request) (m : Machine) (k : ℕ) → IsFree c s b stage.Runs → Stops c s.inside.machine m s.inside.passed k (stop.Asks q)
-    → IsKept (resumed s (Some q) m s.inside.stage k)
+pub resumed_asks : (c : Flow) (s : Strand) (b : Birth) (q : Request) (m : Machine) (k : ℕ) → IsFree c s b stage.Runs → Stops c s.execution.machine m s.execution.passed k (stop.Asks q)
+    → StrandInvariant (resumed s (Some q) m s.execution.stage k)
 resumed_asks c s b q m k h g =
-    let here : Stops (lowered s.program) s.inside.machine m s.inside.passed k (stop.Asks q) = subst (λ d. Stops d s.inside.machine m s.inside.passed k (stop.Asks q)) (flat_is c s.program h.lowered h.program) g in
+    let here : Stops (lowered s.program) s.execution.machine m s.execution.passed k (stop.Asks q) = subst (λ d. Stops d s.execution.machine m s.execution.passed k (stop.Asks q)) (flat_is c s.program h.lowered h.program) g in
     kept_as c s b (Some q) m k h here.0.room
-    (gone_running s.program s.thread b s.entries s.inside.passed k s.inside.machine m (Some q) [] (free_running c s b h) here.0 (inr (inr (q, refl, here.1 (end_line s.program b.func), refl))))
+    (gone_running s.program s.thread b s.entries s.execution.passed k s.execution.machine m (Some q) [] (free_running c s b h) here.0 (inr (inr (q, refl, here.1 (end_line s.program b.func), refl))))
 
-pub resumed_ticks : (c : Flat) (s : Strand) (b : Birth) (m : Machine) (k line place : ℕ) → IsFree c s b stage.Runs → Stops c s.inside.machine m s.inside.passed k (stop.Ticks line place)
-    → IsKept (resumed s (Some (r.Tick line place)) m s.inside.stage k)
+pub resumed_ticks : (c : Flow) (s : Strand) (b : Birth) (m : Machine) (k line place : ℕ) → IsFree c s b stage.Runs → Stops c s.execution.machine m s.execution.passed k (stop.Ticks line place)
+    → StrandInvariant (resumed s (Some (r.Tick line place)) m s.execution.stage k)
 resumed_ticks c s b m k line place h g =
-    let here : HasGone (lowered s.program) s.inside.machine m s.inside.passed k ((line, tick place) ∷ []) = subst (λ d. HasGone d s.inside.machine m s.inside.passed k ((line, tick place) ∷ [])) (flat_is c s.program h.lowered h.program) g in
+    let here : HasGone (lowered s.program) s.execution.machine m s.execution.passed k ((line, tick place) ∷ []) = subst (λ d. HasGone d s.execution.machine m s.execution.passed k ((line, tick place) ∷ [])) (flat_is c s.program h.lowered h.program) g in
     kept_as c s b (Some (r.Tick line place)) m k h here.room
-    (gone_running s.program s.thread b s.entries s.inside.passed k s.inside.machine m (Some (r.Tick line place)) ((line, tick place) ∷ []) (free_running c s b h) here (inr (inl (line, place, refl, refl))))
+    (gone_running s.program s.thread b s.entries s.execution.passed k s.execution.machine m (Some (r.Tick line place)) ((line, tick place) ∷ []) (free_running c s b h) here (inr (inl (line, place, refl, refl))))
 
-pub resumed_ends : (c : Flat) (s : Strand) (b : Birth) (m : Machine) (k line : ℕ) → IsFree c s b stage.Runs → Stops c s.inside.machine m s.inside.passed k stop.Ends
-    → line ≡ end_line c.program b.func → IsKept (resumed s (Some (r.End line)) m s.inside.stage k)
+pub resumed_ends : (c : Flow) (s : Strand) (b : Birth) (m : Machine) (k line : ℕ) → IsFree c s b stage.Runs → Stops c s.execution.machine m s.execution.passed k stop.Ends
+    → line ≡ end_line c.program b.func → StrandInvariant (resumed s (Some (r.End line)) m s.execution.stage k)
 resumed_ends c s b m k line h g is =
-    let here : Stops (lowered s.program) s.inside.machine m s.inside.passed k stop.Ends = subst (λ d. Stops d s.inside.machine m s.inside.passed k stop.Ends) (flat_is c s.program h.lowered h.program) g in
+    let here : Stops (lowered s.program) s.execution.machine m s.execution.passed k stop.Ends = subst (λ d. Stops d s.execution.machine m s.execution.passed k stop.Ends) (flat_is c s.program h.lowered h.program) g in
     let same : line ≡ end_line s.program b.func = is ∙ ap (λ p. end_line p b.func) h.program in
-    subst (λ n. IsKept (resumed s (Some (r.End n)) m s.inside.stage k)) (sym same)
+    subst (λ n. StrandInvariant (resumed s (Some (r.End n)) m s.execution.stage k)) (sym same)
     (kept_as c s b (Some (r.End (end_line s.program b.func))) m k h here.0.room
-    (gone_running s.program s.thread b s.entries s.inside.passed k s.inside.machine m (Some (r.End (end_line s.program b.func))) [] (free_running c s b h) here.0
+    (gone_running s.program s.thread b s.entries s.execution.passed k s.execution.machine m (Some (r.End (end_line s.program b.func))) [] (free_running c s b h) here.0
     (inr (inr (r.End (end_line s.program b.func), refl, ap (request_at (end_line s.program b.func)) here.1, refl)))))
 
 -- before the begin
-pub resumed_begins : (c : Flat) (s : Strand) (b : Birth) (line : ℕ) → IsFree c s b stage.Waits → line ≡ end_line c.program b.func
-    → IsKept (resumed s (Some (r.Begin line)) s.inside.machine s.inside.stage s.inside.passed)
+pub resumed_begins : (c : Flow) (s : Strand) (b : Birth) (line : ℕ) → IsFree c s b stage.Waits → line ≡ end_line c.program b.func
+    → StrandInvariant (resumed s (Some (r.Begin line)) s.execution.machine s.execution.stage s.execution.passed)
 resumed_begins c s b line h is =
-    let at : IsWaiting s.program b s.entries s.wanted = free_at c s b stage.Waits h in
+    let at : WaitingInvariant s.program b s.entries s.wanted = free_at c s b stage.Waits h in
     let same : line ≡ end_line s.program b.func = is ∙ ap (λ p. end_line p b.func) h.program in
-    subst (λ x. IsKept (resumed s (Some (r.Begin line)) s.inside.machine x s.inside.passed)) (sym h.stage) (record {
+    subst (λ x. StrandInvariant (resumed s (Some (r.Begin line)) s.execution.machine x s.execution.passed)) (sym h.stage) (record {
       lawful = h.kept.lawful;
       room = h.kept.room;
-      blank = subst (λ x. IsBlank x s.inside.machine) h.stage h.kept.blank;
-      stage = subst (IsAt stage.Waits (resumed s (Some (r.Begin line)) s.inside.machine stage.Waits s.inside.passed)) (sym h.birth)
+      blank = subst (λ x. IsBlank x s.execution.machine) h.stage h.kept.blank;
+      stage = subst (StageInvariant stage.Waits (resumed s (Some (r.Begin line)) s.execution.machine stage.Waits s.execution.passed)) (sym h.birth)
           (record { none = at.none; function = at.function; asks = inr (ap (λ n. Some (r.Begin n)) same) });
     })

@@ -13,7 +13,7 @@ use Rattle.loom_flow.specs.declared.code.Step.{Step}
 use Rattle.loom_flow.specs.declared.code.Step.TheVariants as s
 use Rattle.loom_flow.specs.declared.code.Instr.{Instr}
 use Rattle.loom_flow.specs.declared.code.Entrance.{Entrance}
-use Rattle.loom_flow.specs.Flat.{Flat}
+use Rattle.loom_flow.specs.Flow.{Flow}
 use Rattle.loom_flow.specs.State.{State, operand, without, given, jumped, arguments, without_arguments}
 use Rattle.loom_flow.specs.Position.{Position, before, leaves, over}
 use Rattle.loom_flow.specs.Question.{read, write}
@@ -25,15 +25,15 @@ use Rattle.loom_flow.proofs.ProgramNumbers.{lowered_numbers}
 use Rattle.loom_trace.specs.declared.request.Request.{Request}
 use Rattle.loom_trace.specs.declared.request.Request.TheVariants as r
 use Rattle.loom_event.specs.Answer.{HasNumbers}
-use Rattle.loom_strand.specs.Question.{request_of}
+use Rattle.loom_strand.specs.PositionRequest.{question_request}
 use Rattle.loom_strand.specs.Alone.{has_one_thread, NeedsNoOther}
-use Rattle.loom_strand.specs.StrandInvariant.{IsBefore, IsSound}
+use Rattle.loom_strand.specs.StrandInvariant.{IsBefore, IsSoundPosition}
 use Rattle.loom_strand.proofs.Soundness.{depth_at, instr_at}
 use Rattle.loom_strand.proofs.Lone.{IsLone, lone_code}
 
 -- What is asked for, if anything, is in `P`.
 abbrev pub Asked : (Request → Type 0) → Progress → Type 0
-Asked P (asks line q behind) = P (request_of line q)
+Asked P (asks line q behind) = P (question_request line q)
 Asked P (traps line cause) = P (r.Trap line (reason cause))
 Asked P _ = Unit {0}
 
@@ -64,11 +64,11 @@ Requests P z line (s.Ask (Spawn f n d)) = P (r.Spawn line f (arguments z n))
 Requests P z line (s.Control (Call f n)) = P (r.Trap line 6)
 Requests P z line _ = Unit {0}
 
-asked_calls : (P : Request → Type 0) (c : Flat) (z : State) (place f : ℕ) (vs : List ℤ) (e : Option Entrance) → Asked P (calls c z place f vs e)
+asked_calls : (P : Request → Type 0) (c : Flow) (z : State) (place f : ℕ) (vs : List ℤ) (e : Option Entrance) → Asked P (calls c z place f vs e)
 asked_calls P c z place f vs None = tt
 asked_calls P c z place f vs (Some e) = tt
 
-step_asked : (P : Request → Type 0) (c : Flat) (z : State) (i : Instr) (x : Step) → Requests P z i.line x → Asked P (of_step c z i x)
+step_asked : (P : Request → Type 0) (c : Flow) (z : State) (i : Instr) (x : Step) → Requests P z i.line x → Asked P (of_step c z i x)
 step_asked P c z i (s.Compute (Move a d)) h = tt
 step_asked P c z i (s.Compute (Negate a d)) h = tt
 step_asked P c z i (s.Compute (Invert a d)) h = tt
@@ -99,7 +99,7 @@ step_asked P c z i (s.Control (Return a)) h = tt
 step_asked P c z i (s.Control Out) h = tt
 
 -- so it is of each position, where it is so of its instruction
-asked_at : (P : Request → Type 0) (c : Flat) (z : Position) → IsSound c z
+asked_at : (P : Request → Type 0) (c : Flow) (z : Position) → IsSoundPosition c z
     → ((y : State) (i : Instr) → z ≡ before y → slice_get c.code y.at ≡ Some i → IsBefore c y → Requests P y i.line i.step) → Asked P (progress c z)
 asked_at P c (before z) h f =
     let here : (i : Instr) × (slice_get c.code z.at ≡ Some i) = instr_at c z h in
@@ -116,7 +116,7 @@ asked_at P c over h f = tt
 spawn_length : (z : State) (n : ℕ) → n ≤ length z.values → length (arguments z n) ≡ n
 spawn_length z n h = omega (arith, h, length-reverse (take n z.values), length-take n z.values)
 
-numbers_asked : (c : Flat) (z : State) (line : ℕ) (x : Step) → HasProgramNumbers c.program x → KeepsDepth c z.at (length z.values) x → Requests (HasNumbers c.program) z line x
+numbers_asked : (c : Flow) (z : State) (line : ℕ) (x : Step) → HasProgramNumbers c.program x → KeepsDepth c z.at (length z.values) x → Requests (HasNumbers c.program) z line x
 numbers_asked c z line (s.Compute (Apply o a b d)) h depth = inl refl
 numbers_asked c z line (s.Compute _) h depth = tt
 numbers_asked c z line (s.Ask (Read w d)) h depth = h
@@ -133,10 +133,10 @@ numbers_asked c z line (s.Ask (Spawn f n d)) h depth = (h.0, h.1, spawn_length z
 numbers_asked c z line (s.Control (Call f n)) h depth = inr (inr refl)
 numbers_asked c z line (s.Control _) h depth = tt
 
-pub numbers_at : (c : Flat) (at : ℕ) (i : Instr) → IsLowered c → slice_get c.code at ≡ Some i → HasProgramNumbers c.program i.step
-numbers_at c at i l e = lowered_numbers c.program l.lawful at i (subst (λ (d : Flat). slice_get d.code at ≡ Some i) l.is e)
+pub numbers_at : (c : Flow) (at : ℕ) (i : Instr) → IsLowered c → slice_get c.code at ≡ Some i → HasProgramNumbers c.program i.step
+numbers_at c at i l e = lowered_numbers c.program l.lawful at i (subst (λ (d : Flow). slice_get d.code at ≡ Some i) l.is e)
 
-pub asks_numbers : (c : Flat) (z : Position) → IsLowered c → IsSound c z → Asked (HasNumbers c.program) (progress c z)
+pub asks_numbers : (c : Flow) (z : Position) → IsLowered c → IsSoundPosition c z → Asked (HasNumbers c.program) (progress c z)
 asks_numbers c z l h =
     asked_at (HasNumbers c.program) c z h (λ y i e there sound. numbers_asked c y i.line i.step (numbers_at c y.at i l there) (depth_at c y i l there sound))
 
@@ -160,5 +160,5 @@ no_other z line (s.Control (Call f n)) h = tt
 no_other z line (s.Control _) h = tt
 
 -- A program of one thread asks for no other.
-pub asks_no_other : (p : Source) (z : Position) → has_one_thread p ≡ true → IsSound (lowered p) z → Asked NeedsNoOther (progress (lowered p) z)
+pub asks_no_other : (p : Source) (z : Position) → has_one_thread p ≡ true → IsSoundPosition (lowered p) z → Asked NeedsNoOther (progress (lowered p) z)
 asks_no_other p z alone h = asked_at NeedsNoOther (lowered p) z h (λ y i e there sound. no_other y i.line i.step (lone_code p y.at i alone there))

@@ -12,18 +12,18 @@ use Rattle.loom_trace.specs.declared.request.Request.{Request}
 use Rattle.loom_trace.specs.declared.request.Request.TheVariants as r
 use Rattle.loom_event.specs.Answer.{HasNumbers}
 use Rattle.loom_law.specs.Walk.{tick, items}
-use Rattle.loom_law.specs.Part.{IsPart}
+use Rattle.loom_law.specs.ThreadPart.{IsPart}
 use Rattle.loom_strand.specs.declared.stage.Birth.{Birth}
 use Rattle.loom_strand.specs.declared.stage.Stage.{Stage}
 use Rattle.loom_strand.specs.declared.stage.Stage.TheVariants as stage
 use Rattle.loom_strand.specs.declared.stage.Want.TheVariants as w
 use Rattle.loom_strand.specs.Machine.{position}
-use Rattle.loom_strand.specs.Question.{request_of, request_at}
+use Rattle.loom_strand.specs.PositionRequest.{question_request, request_at}
 use Rattle.loom_strand.specs.Alone.{has_one_thread, NeedsNoOther}
-use Rattle.loom_strand.specs.Entries.{asks_begin, has_none, has_ended}
+use Rattle.loom_strand.specs.Life.{asks_begin, has_none, has_ended}
 use Rattle.loom_strand.specs.Strand.{Strand, IsStarted, HasOwnPart, AsksNext, Requests, Wants}
 use Rattle.loom_strand.specs.PlainWalk.{IsPlainWalk}
-use Rattle.loom_strand.specs.StrandInvariant.{end_line, thread_with, IsIdle, AsksTick, AsksHere, AsksBegin, IsWaiting, IsRunning, HasStopped, IsAt, IsKept}
+use Rattle.loom_strand.specs.StrandInvariant.{end_line, thread_with, IsIdle, AsksTick, AsksHere, AsksBegin, WaitingInvariant, RunningInvariant, EndInvariant, StageInvariant, StrandInvariant}
 use Rattle.loom_strand.proofs.GoesOn.{is_lowered, tree_trace, open_so_far, begin_open, none_open}
 use Rattle.loom_strand.proofs.Parts.{own_with, plain_part, whole_part, asks_tick, asks_act, question_acts, trap_acts, end_acts, question_next}
 use Rattle.loom_strand.proofs.RequestKinds.{Asked, asks_numbers, asks_no_other}
@@ -36,7 +36,7 @@ record IsAskedHere (p : Source) (t : ℕ) (b : Birth) (es : List Entry) (q : Req
   pub begins : asks_begin q ≡ false
   pub alone : has_one_thread p ≡ true → NeedsNoOther q
 
-no_begin : (line : ℕ) (q : Question) → asks_begin (request_of line q) ≡ false
+no_begin : (line : ℕ) (q : Question) → asks_begin (question_request line q) ≡ false
 no_begin line (read w) = refl
 no_begin line (write w v) = refl
 no_begin line (lock m) = refl
@@ -53,14 +53,14 @@ same_request x q e = cc
 pub no_request : (q : Request) → ◌≡◌ {A = Option Request} None (Some q) → ⊥
 no_request q e = cc
 
-asked_here : (p : Source) → KeepsRules p → (t n : ℕ) (b : Birth) (es : List Entry) (z : Position) (q : Request) → (h : IsRunning p t b es (Some q) n z) → h.owed ≡ []
+asked_here : (p : Source) → KeepsRules p → (t n : ℕ) (b : Birth) (es : List Entry) (z : Position) (q : Request) → (h : RunningInvariant p t b es (Some q) n z) → h.owed ≡ []
     → (v : Progress) → progress (lowered p) z ≡ v → request_at (end_line p b.func) v ≡ Some q → IsAskedHere p t b es q
 asked_here p l t n b es z q h none (goes mark y) e is = absurd (no_request q is)
 asked_here p l t n b es z q h none (asks line x behind) e is =
     let walk : IsPlainWalk p t h.steps es [] n = subst (λ os. IsPlainWalk p t h.steps es os n) none h.walk in
-    subst (IsAskedHere p t b es) (same_request (request_of line x) q is) (record {
+    subst (IsAskedHere p t b es) (same_request (question_request line x) q is) (record {
       next = question_next p (own_with t b.func b.args es) line x
-          (λ plans. asks_act p plans t b.func b.args h.steps es n (request_of line x) h.begun walk (question_acts p l b.func b.args (items h.steps) z line x behind e h.goes));
+          (λ plans. asks_act p plans t b.func b.args h.steps es n (question_request line x) h.begun walk (question_acts p l b.func b.args (items h.steps) z line x behind e h.goes));
       numbers = subst (Asked (HasNumbers p)) e (asks_numbers (lowered p) z (is_lowered p l) h.sound);
       begins = no_begin line x;
       alone = λ a. subst (Asked NeedsNoOther) e (asks_no_other p z a h.sound);
@@ -84,7 +84,7 @@ asked_here p l t n b es z q h none ends e is =
 asked_here p l t n b es z q h none nothing e is = absurd (no_request q is)
 
 -- the tick that is owed
-tick_here : (p : Source) → KeepsRules p → (t n line place : ℕ) (b : Birth) (es : List Entry) (z : Position) (q : Request) → (h : IsRunning p t b es (Some q) n z)
+tick_here : (p : Source) → KeepsRules p → (t n line place : ℕ) (b : Birth) (es : List Entry) (z : Position) (q : Request) → (h : RunningInvariant p t b es (Some q) n z)
     → h.owed ≡ (line, tick place) ∷ [] → r.Tick line place ≡ q → IsAskedHere p t b es q
 tick_here p l t n line place b es z q h owed is =
     let walk : IsPlainWalk p t h.steps es ((line, tick place) ∷ []) n = subst (λ os. IsPlainWalk p t h.steps es os n) owed h.walk in
@@ -96,7 +96,7 @@ tick_here p l t n line place b es z q h owed is =
       alone = λ a. tt;
     })
 
-running_here : (p : Source) → KeepsRules p → (t n : ℕ) (b : Birth) (es : List Entry) (z : Position) (q : Request) → IsRunning p t b es (Some q) n z → IsAskedHere p t b es q
+running_here : (p : Source) → KeepsRules p → (t n : ℕ) (b : Birth) (es : List Entry) (z : Position) (q : Request) → RunningInvariant p t b es (Some q) n z → IsAskedHere p t b es q
 running_here p l t n b es z q h = by_owed h.asks
   where
     by_owed : IsIdle (Some q) h.owed n ⊎ (AsksTick (Some q) h.owed ⊎ AsksHere (lowered p) (end_line p b.func) z (Some q) h.owed) → IsAskedHere p t b es q
@@ -104,7 +104,7 @@ running_here p l t n b es z q h = by_owed h.asks
     by_owed (inr (inl (line, place, is, owed))) = tick_here p l t n line place b es z q h owed (same_request (r.Tick line place) q (sym is))
     by_owed (inr (inr (x, is, at, owed))) = asked_here p l t n b es z q h owed (progress (lowered p) z) refl (at ∙ sym is)
 
-running_requests : (s : Strand) (b : Birth) (n : ℕ) (z : Position) (q : Request) → KeepsRules s.program → s.wanted ≡ Some q → IsRunning s.program s.thread b s.entries (Some q) n z → Requests s b q
+running_requests : (s : Strand) (b : Birth) (n : ℕ) (z : Position) (q : Request) → KeepsRules s.program → s.wanted ≡ Some q → RunningInvariant s.program s.thread b s.entries (Some q) n z → Requests s b q
 running_requests s b n z q l e h =
     let a : IsAskedHere s.program s.thread b s.entries q = running_here s.program l s.thread n b s.entries z q h in
     record { wanted = e; next = a.next; numbers = a.numbers; begins = a.begins ∙ sym h.begun; lives = h.lives; alone = a.alone }
@@ -136,7 +136,7 @@ pub only_begin : (line : ℕ) (q : Request) (wanted : Option Request) → wanted
 only_begin line q wanted e (inl none) = absurd (no_request q (sym none ∙ e))
 only_begin line q wanted e (inr is) = same_request (r.Begin line) q (sym is ∙ e)
 
-waiting_requests : (s : Strand) (b : Birth) (q : Request) → KeepsRules s.program → s.wanted ≡ Some q → IsWaiting s.program b s.entries s.wanted → Requests s b q
+waiting_requests : (s : Strand) (b : Birth) (q : Request) → KeepsRules s.program → s.wanted ≡ Some q → WaitingInvariant s.program b s.entries s.wanted → Requests s b q
 waiting_requests s b q l e h =
     let same : r.Begin (end_line s.program b.func) ≡ q = only_begin (end_line s.program b.func) q s.wanted e h.asks in
     subst (Requests s b) same (record {
@@ -150,26 +150,26 @@ waiting_requests s b q l e h =
 
 -- Threads
 
-requests_at : (s : Strand) (b : Birth) (q : Request) (x : Stage) → KeepsRules s.program → s.wanted ≡ Some q → IsAt x s (Some b) → Requests s b q
+requests_at : (s : Strand) (b : Birth) (q : Request) (x : Stage) → KeepsRules s.program → s.wanted ≡ Some q → StageInvariant x s (Some b) → Requests s b q
 requests_at s b q stage.Waits l e h = waiting_requests s b q l e h
 requests_at s b q stage.Runs l e h =
-    running_requests s b s.inside.passed (position s.inside.machine) q l e (subst (λ o. IsRunning s.program s.thread b s.entries o s.inside.passed (position s.inside.machine)) e h)
+    running_requests s b s.execution.passed (position s.execution.machine) q l e (subst (λ o. RunningInvariant s.program s.thread b s.entries o s.execution.passed (position s.execution.machine)) e h)
 requests_at s b q stage.Over l e h = absurd (no_request q (sym h.asks ∙ e))
 
 -- what a thread asks for
-pub kept_asks : (s : Strand) (o : Option Birth) (q : Request) → IsKept s → s.birth ≡ o → IsStarted o → s.wanted ≡ Some q → Wants s o (w.Ask q)
+pub kept_asks : (s : Strand) (o : Option Birth) (q : Request) → StrandInvariant s → s.birth ≡ o → IsStarted o → s.wanted ≡ Some q → Wants s o (w.Ask q)
 kept_asks s None q h e none is = none
-kept_asks s (Some b) q h e none is = requests_at s b q s.inside.stage h.lawful is (subst (IsAt s.inside.stage s) e h.stage)
+kept_asks s (Some b) q h e none is = requests_at s b q s.execution.stage h.lawful is (subst (StageInvariant s.execution.stage s) e h.stage)
 
 some_ended : (es : List Entry) → has_ended es ≡ true → has_none es ≡ false
 some_ended [] h = cc
 some_ended (x ∷ es) h = refl
 
 -- and that it has ended
-pub kept_over : (s : Strand) (o : Option Birth) → IsKept s → s.birth ≡ o → IsStarted o → s.inside.stage ≡ stage.Over → Wants s o w.Ended
+pub kept_over : (s : Strand) (o : Option Birth) → StrandInvariant s → s.birth ≡ o → IsStarted o → s.execution.stage ≡ stage.Over → Wants s o w.Ended
 kept_over s None h e none is = none
 kept_over s (Some b) h e none is =
-    let over : HasStopped s.program s.thread b s.entries s.wanted = subst (λ x. IsAt x s (Some b)) is (subst (IsAt s.inside.stage s) e h.stage) in
+    let over : EndInvariant s.program s.thread b s.entries s.wanted = subst (λ x. StageInvariant x s (Some b)) is (subst (StageInvariant s.execution.stage s) e h.stage) in
     record {
       whole = λ plans. whole_part s.program plans s.thread b.func b.args over.steps s.entries over.owed over.passed (some_ended s.entries over.ended) over.walk over.whole;
       ended = over.ended;
@@ -177,7 +177,7 @@ kept_over s (Some b) h e none is =
 
 -- Its entries are a part.
 
-part_at : (s : Strand) (b : Birth) (x : Stage) → KeepsRules s.program → IsAt x s (Some b) → HasOwnPart s (Some b)
+part_at : (s : Strand) (b : Birth) (x : Stage) → KeepsRules s.program → StageInvariant x s (Some b) → HasOwnPart s (Some b)
 part_at s b stage.Waits l h = λ plans. subst (λ es. IsPart s.program plans (own_with s.thread b.func b.args es)) (sym h.none) (record {
   steps = [];
   ahead = [];
@@ -188,11 +188,11 @@ part_at s b stage.Waits l h = λ plans. subst (λ es. IsPart s.program plans (ow
   taken = refl;
 })
 part_at s b stage.Runs l h = λ plans.
-    plain_part s.program plans s.thread b.func b.args h.steps s.entries h.owed s.inside.passed h.begun h.walk Open
+    plain_part s.program plans s.thread b.func b.args h.steps s.entries h.owed s.execution.passed h.begun h.walk Open
     (tree_trace s.program l b.func b.args (items h.steps) Open
-    (open_so_far (lowered s.program) (thread_with s.program b.func) b.func b.args (items h.steps) (position s.inside.machine) h.goes))
+    (open_so_far (lowered s.program) (thread_with s.program b.func) b.func b.args (items h.steps) (position s.execution.machine) h.goes))
 part_at s b stage.Over l h = λ plans. plain_part s.program plans s.thread b.func b.args h.steps s.entries h.owed h.passed (some_ended s.entries h.ended) h.walk Finished h.whole
 
-pub kept_part : (s : Strand) (o : Option Birth) → IsKept s → s.birth ≡ o → IsStarted o → HasOwnPart s o
+pub kept_part : (s : Strand) (o : Option Birth) → StrandInvariant s → s.birth ≡ o → IsStarted o → HasOwnPart s o
 kept_part s None h e none = none
-kept_part s (Some b) h e some = part_at s b s.inside.stage h.lawful (subst (IsAt s.inside.stage s) e h.stage)
+kept_part s (Some b) h e some = part_at s b s.execution.stage h.lawful (subst (StageInvariant s.execution.stage s) e h.stage)

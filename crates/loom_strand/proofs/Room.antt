@@ -5,9 +5,9 @@ use Rattle.loom_flow.specs.declared.code.Operand.TheVariants as o
 use Rattle.loom_flow.specs.declared.code.Target.{Target}
 use Rattle.loom_flow.specs.declared.code.Target.TheVariants as t
 use Rattle.loom_flow.specs.State.{values_without}
-use Rattle.loom_flow.specs.Depth.{put}
+use Rattle.loom_flow.specs.Depth.{pushes}
 
-pub put_one : (d : Target) → put d ≤ 1
+pub put_one : (d : Target) → pushes d ≤ 1
 put_one t.Push = omega arith
 put_one (t.Local x) = omega arith
 

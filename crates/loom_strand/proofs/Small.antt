@@ -2,7 +2,7 @@
 use Rattle.std.proofs.Common.{ℕ, ◌+◌, ◌≤◌, List, [], ◌∷◌, Some, None, subst, sym, le_refl, arith}
 use Rattle.loom_tree.specs.Tree.{Expression, Right, Simple, let_, set, set_cell, return, Body, end, simple, if_, while_, Function, Source}
 use Rattle.loom_tree.specs.Tree as tree
-use Rattle.loom_flow.specs.Flat.{Flat}
+use Rattle.loom_flow.specs.Flow.{Flow}
 use Rattle.loom_flow.specs.Code.{IsLowered}
 use Rattle.loom_flow.specs.Depth.{nodes, AreSmall, IsSmallRight, IsSmallSimple, IsSmallBody, AreSmallFunctions, IsSmall}
 use Rattle.loom_flow.specs.Laws.{HasOperands}
@@ -67,7 +67,7 @@ small_enough p =
     let f : FromOn (λ m. AreSmallFunctions m p.funcs) = small_functions p.funcs in
     (f.0, f.1 f.0 (le_refl f.0))
 
-pub has_operands : (c : Flat) → IsLowered c → (n : ℕ) × HasOperands c n
+pub has_operands : (c : Flow) → IsLowered c → (n : ℕ) × HasOperands c n
 has_operands c h =
     let n : (n : ℕ) × IsSmall n c.program = small_enough c.program in
-    (n.0 + 4, subst (λ (d : Flat). HasOperands d (n.0 + 4)) (sym h.is) (lowered_operands c.program h.lawful n.0 n.1))
+    (n.0 + 4, subst (λ (d : Flow). HasOperands d (n.0 + 4)) (sym h.is) (lowered_operands c.program h.lawful n.0 n.1))

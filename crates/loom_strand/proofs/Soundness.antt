@@ -20,64 +20,64 @@ use Rattle.loom_flow.specs.declared.code.Step.{Step}
 use Rattle.loom_flow.specs.declared.code.Step.TheVariants as s
 use Rattle.loom_flow.specs.declared.code.Instr.{Instr}
 use Rattle.loom_flow.specs.declared.code.Entrance.{Entrance}
-use Rattle.loom_flow.specs.Flat.{Flat, resume}
+use Rattle.loom_flow.specs.Flow.{Flow, resume}
 use Rattle.loom_flow.specs.State.{Frame, State, operand, values_without, without, values_given, given, jumped, arguments, without_arguments, at_start}
 use Rattle.loom_flow.specs.Position.{Position, before, leaves, over}
 use Rattle.loom_flow.specs.Progress.{Progress, goes, asks, traps, ends, nothing, on, of_compute, in_array, asks_value, asks_act, of_ask, calls, returns, of_control, of_step, of_instr, progress}
 use Rattle.loom_flow.specs.Question.{read, write}
 use Rattle.loom_flow.specs.Code.{IsLowered}
 use Rattle.loom_flow.specs.FlatCode.{instr}
-use Rattle.loom_flow.specs.Depth.{taken, put, depth_before}
+use Rattle.loom_flow.specs.Depth.{pops, pushes, depth_before}
 use Rattle.loom_flow.specs.Laws.{IsInFunction, HasInstructionPlaces, HasStart, LeadsInto, JumpsForward, KeepsFunctions, KeepsDepth, HasOperands}
 use Rattle.loom_flow.proofs.Forward.{lowered_forward, lowered_keeps}
 use Rattle.loom_flow.proofs.FlowLaws.{instructions_of, as_many_sites}
 use Rattle.loom_strand.specs.Machine.{Machine}
-use Rattle.loom_strand.specs.StrandInvariant.{AllGoOn, IsBefore, IsSound, HasRoom}
+use Rattle.loom_strand.specs.StrandInvariant.{AllGoOn, IsBefore, IsSoundPosition, HasRoom}
 use Rattle.loom_strand.proofs.Small.{has_operands}
 
 -- What comes of a step leaves the thread sound, and there is something that comes.
-abbrev pub Keeps : Flat → Progress → Type 0
-Keeps c (goes mark z) = IsSound c z
-Keeps c (asks line q behind) = (v : ℤ) → IsSound c (behind v)
+abbrev pub Keeps : Flow → Progress → Type 0
+Keeps c (goes mark z) = IsSoundPosition c z
+Keeps c (asks line q behind) = (v : ℤ) → IsSoundPosition c (behind v)
 Keeps c (traps line cause) = Unit {0}
 Keeps c ends = Unit {0}
 Keeps c nothing = ⊥
 
 -- Values
 
-without_length : (a : Operand) (vs : List ℤ) → length (values_without a vs) ≡ length vs - taken a
+without_length : (a : Operand) (vs : List ℤ) → length (values_without a vs) ≡ length vs - pops a
 without_length o.Top vs = length-drop 1 vs
 without_length (o.Local x) vs = omega arith
 without_length (o.Number n) vs = omega arith
 
-given_length : (d : Target) (v : ℤ) (vs : List ℤ) → length (values_given d v vs) ≡ length vs + put d
+given_length : (d : Target) (v : ℤ) (vs : List ℤ) → length (values_given d v vs) ≡ length vs + pushes d
 given_length t.Push v vs = omega arith
 given_length (t.Local x) v vs = omega arith
 
-left_length : (a : Operand) (d : Target) (v : ℤ) (vs : List ℤ) → length vs - taken a + put d ≡ length (values_given d v (values_without a vs))
+left_length : (a : Operand) (d : Target) (v : ℤ) (vs : List ℤ) → length vs - pops a + pushes d ≡ length (values_given d v (values_without a vs))
 left_length a d v vs = omega (arith, without_length a vs, given_length d v (values_without a vs))
 
-taken_length : (a : Operand) (vs : List ℤ) → length vs - taken a + 0 ≡ length (values_without a vs)
+taken_length : (a : Operand) (vs : List ℤ) → length vs - pops a + 0 ≡ length (values_without a vs)
 taken_length a vs = omega (arith, without_length a vs)
 
-two_length : (a b : Operand) (vs : List ℤ) → length vs - (taken a + taken b) ≡ length (values_without a (values_without b vs))
+two_length : (a b : Operand) (vs : List ℤ) → length vs - (pops a + pops b) ≡ length (values_without a (values_without b vs))
 two_length a b vs = omega (arith, without_length b vs, without_length a (values_without b vs))
 
 -- In the same frame
 
-stays : (c : Flat) (z : State) (to n : ℕ) (vs ls : List ℤ) → IsBefore c z → to < length c.code → depth_before c to ≡ Some n → n ≡ length vs
+stays : (c : Flow) (z : State) (to n : ℕ) (vs ls : List ℤ) → IsBefore c z → to < length c.code → depth_before c to ≡ Some n → n ≡ length vs
     → IsBefore c (record { at = to; values = vs; func = z.func; locals = ls; below = z.below })
 stays c z to n vs ls h l d e = record { inside = l; values = d ∙ ap {B = Option ℕ} Some e; frames = h.frames }
 
-keeps_if : (c : Flat) (b : Bool) (p q : Progress) → (b ≡ true → Keeps c p) → (b ≡ false → Keeps c q) → Keeps c (if b then p else q)
+keeps_if : (c : Flow) (b : Bool) (p q : Progress) → (b ≡ true → Keeps c p) → (b ≡ false → Keeps c q) → Keeps c (if b then p else q)
 keeps_if c true p q f g = f refl
 keeps_if c false p q f g = g refl
 
-keeps_cell : (c : Flat) (line : ℕ) (a : Array) (v : ℤ) (more : ℕ → Progress) → ((w : ℕ) → Keeps c (more w)) → Keeps c (in_array line a v more)
+keeps_cell : (c : Flow) (line : ℕ) (a : Array) (v : ℤ) (more : ℕ → Progress) → ((w : ℕ) → Keeps c (more w)) → Keeps c (in_array line a v more)
 keeps_cell c line a (pos i) more h = keeps_if c (nat_lt i a.count) (more (a.first + i)) (traps line index) (λ e. h (a.first + i)) (λ e. tt)
 keeps_cell c line a (negsuc i) more h = tt
 
-compute_keeps : (c : Flat) (z : State) (line : ℕ) (x : Compute) → IsBefore c z → suc z.at < length c.code → KeepsDepth c z.at (length z.values) (s.Compute x) → Keeps c (of_compute z line x)
+compute_keeps : (c : Flow) (z : State) (line : ℕ) (x : Compute) → IsBefore c z → suc z.at < length c.code → KeepsDepth c z.at (length z.values) (s.Compute x) → Keeps c (of_compute z line x)
 compute_keeps c z line (Move a d) h next depth = stays c z (suc z.at) _ _ _ h next depth.1 (left_length a d (operand z a) z.values)
 compute_keeps c z line (Negate a d) h next depth = stays c z (suc z.at) _ _ _ h next depth.1 (left_length a d (negated (operand z a)) z.values)
 compute_keeps c z line (Invert a d) h next depth = stays c z (suc z.at) _ _ _ h next depth.1 (left_length a d (inverted (operand z a)) z.values)
@@ -88,7 +88,7 @@ compute_keeps c z line (Apply op a b d) h next depth =
     (omega (arith, two_length a b z.values, given_length d (applied op (operand (without z b) a) (operand z b)) (values_without a (values_without b z.values)))))
 compute_keeps c z line Discard h next depth = stays c z (suc z.at) _ _ _ h next depth.1 (taken_length o.Top z.values)
 
-ask_keeps : (c : Flat) (z : State) (line : ℕ) (x : Ask) → IsBefore c z → suc z.at < length c.code → KeepsDepth c z.at (length z.values) (s.Ask x) → Keeps c (of_ask z line x)
+ask_keeps : (c : Flow) (z : State) (line : ℕ) (x : Ask) → IsBefore c z → suc z.at < length c.code → KeepsDepth c z.at (length z.values) (s.Ask x) → Keeps c (of_ask z line x)
 ask_keeps c z line (Read w d) h next depth = λ v. stays c z (suc z.at) _ _ _ h next depth.1 (left_length (o.Number v) d v z.values)
 ask_keeps c z line (ReadCell a n d) h next depth =
     keeps_cell c line a (operand z n) (λ w. asks_value line (read w) (λ v. given (without z n) d v)) (λ w v. stays c z (suc z.at) _ _ _ h next depth.1 (left_length n d v z.values))
@@ -107,10 +107,10 @@ ask_keeps c z line (Spawn f n d) h next depth = λ v. stays c z (suc z.at) _ _ _
 -- Frames
 
 -- the entrances, by how many values wait at them
-abbrev AreEntered : Flat → Type 0
+abbrev AreEntered : Flow → Type 0
 AreEntered c = (n : ℕ) (e : Entrance) → slice_get c.entrances n ≡ Some e → depth_before c e.start ≡ Some 0
 
-keeps_calls : (c : Flat) (z : State) (place f : ℕ) (vs ws : List ℤ) (e : Option Entrance) → IsBefore c z → AreEntered c → slice_get c.entrances f ≡ e → HasStart c f
+keeps_calls : (c : Flow) (z : State) (place f : ℕ) (vs ws : List ℤ) (e : Option Entrance) → IsBefore c z → AreEntered c → slice_get c.entrances f ≡ e → HasStart c f
     → place < length c.sites → resume (slice_get c.sites place) ≡ suc z.at → suc z.at < length c.code → depth_before c (suc z.at) ≡ Some 1
     → suc (length z.below) ≤ 255 → length ws ≡ 0 → Keeps c (calls c (record z { values = ws }) place f vs e)
 keeps_calls c z place f vs ws None h starts is start site resumes next one few empty = cc (start.1)
@@ -127,7 +127,7 @@ keeps_calls c z place f vs ws (Some e) h starts is start site resumes next one f
       };
     }
 
-control_keeps : (c : Flat) (z : State) (i : Instr) (x : Control) → IsBefore c z → AreEntered c → i.place < length c.sites
+control_keeps : (c : Flow) (z : State) (i : Instr) (x : Control) → IsBefore c z → AreEntered c → i.place < length c.sites
     → LeadsInto (λ to. to < length c.code) c z.at i (s.Control x) → KeepsDepth c z.at (length z.values) (s.Control x) → Keeps c (of_control c z i.line i.place x)
 control_keeps c z i Begin h starts site leads depth = stays c z (suc z.at) _ _ _ h leads depth.1 (omega arith)
 control_keeps c z i Done h starts site leads depth = stays c z (suc z.at) _ _ _ h leads depth.1 (omega arith)
@@ -144,7 +144,7 @@ control_keeps c z i (Call f n) h starts site leads depth =
 control_keeps c z i (Return a) h starts site leads depth = record { values = omega (arith, without_length a z.values, depth); frames = h.frames }
 control_keeps c z i Out h starts site leads depth = record { values = depth; frames = h.frames }
 
-step_keeps : (c : Flat) (z : State) (i : Instr) (x : Step) → IsBefore c z → AreEntered c → i.place < length c.sites
+step_keeps : (c : Flow) (z : State) (i : Instr) (x : Step) → IsBefore c z → AreEntered c → i.place < length c.sites
     → LeadsInto (λ to. to < length c.code) c z.at i x → KeepsDepth c z.at (length z.values) x → Keeps c (of_step c z i x)
 step_keeps c z i (s.Compute x) h starts site leads depth = compute_keeps c z i.line x h leads depth
 step_keeps c z i (s.Ask (Spawn f n d)) h starts site leads depth = ask_keeps c z i.line (Spawn f n d) h leads.0 depth
@@ -162,26 +162,26 @@ step_keeps c z i (s.Control x) h starts site leads depth = control_keeps c z i x
 
 -- At an instruction of the code
 
-pub leads_at : (c : Flat) (z : State) (i : Instr) → IsLowered c → slice_get c.code z.at ≡ Some i → LeadsInto (λ to. to < length c.code) c z.at i i.step
+pub leads_at : (c : Flow) (z : State) (i : Instr) → IsLowered c → slice_get c.code z.at ≡ Some i → LeadsInto (λ to. to < length c.code) c z.at i i.step
 leads_at c z i l e = subst JumpsForward (sym l.is) (lowered_forward c.program l.lawful) z.at i e
 
-pub depth_at : (c : Flat) (z : State) (i : Instr) → IsLowered c → slice_get c.code z.at ≡ Some i → IsBefore c z → KeepsDepth c z.at (length z.values) i.step
+pub depth_at : (c : Flow) (z : State) (i : Instr) → IsLowered c → slice_get c.code z.at ≡ Some i → IsBefore c z → KeepsDepth c z.at (length z.values) i.step
 depth_at c z i l e h =
     let operands : (n : ℕ) × HasOperands c n = has_operands c l in
     let found : (d : ℕ) × (depth_before c z.at ≡ Some d) × (d ≤ operands.0) × KeepsDepth c z.at d i.step = operands.1.instructions z.at i e in
     let same : found.0 ≡ length z.values = cc (found.1, h.values) in
     subst (λ d. KeepsDepth c z.at d i.step) same found.3
 
-pub site_at : (c : Flat) (at : ℕ) (i : Instr) → IsLowered c → slice_get c.code at ≡ Some i → i.place < length c.sites
+pub site_at : (c : Flow) (at : ℕ) (i : Instr) → IsLowered c → slice_get c.code at ≡ Some i → i.place < length c.sites
 site_at c at i l e =
     let places_there : HasInstructionPlaces c c.program = instructions_of c c.program l refl in
     let inside : (n : ℕ) × IsInFunction c n at = places_there.functions at (slice_get_within c.code at i e) in
     subst (λ m. i.place < m) (sym (as_many_sites c l)) (slice_get_within (places c.program) i.place _ (places_there.instructions inside.0 at i inside.1 e).0)
 
-pub instr_at : (c : Flat) (z : State) → IsBefore c z → (i : Instr) × (slice_get c.code z.at ≡ Some i)
+pub instr_at : (c : Flow) (z : State) → IsBefore c z → (i : Instr) × (slice_get c.code z.at ≡ Some i)
 instr_at c z h = (_, slice_get-get_or c.code z.at (instr 0 0 (s.Control Out)) h.inside)
 
-keeps_returns : (c : Flat) (vs : List ℤ) (v : ℤ) (fs : List Frame) → length vs ≡ 0 → length fs ≤ 255 → AllGoOn c fs → IsSound c (returns c vs v fs)
+keeps_returns : (c : Flow) (vs : List ℤ) (v : ℤ) (fs : List Frame) → length vs ≡ 0 → length fs ≤ 255 → AllGoOn c fs → IsSoundPosition c (returns c vs v fs)
 keeps_returns c vs v [] e n h = tt
 keeps_returns c vs v (f ∷ fs) e n h = record {
   inside = h.0.inside;
@@ -189,7 +189,7 @@ keeps_returns c vs v (f ∷ fs) e n h = record {
   frames = record { few = omega (arith, n); go_on = h.1 };
 }
 
-pub keeps : (c : Flat) (z : Position) → IsLowered c → IsSound c z → Keeps c (progress c z)
+pub keeps : (c : Flow) (z : Position) → IsLowered c → IsSoundPosition c z → Keeps c (progress c z)
 keeps c (before z) l h =
     let here : (i : Instr) × (slice_get c.code z.at ≡ Some i) = instr_at c z h in
     subst (λ o. Keeps c (of_instr c z o)) (sym here.1)
@@ -198,11 +198,11 @@ keeps c (leaves z v) l h = keeps_returns c z.values v z.below h.values h.frames.
 keeps c over l h = tt
 
 -- the start of a thread's function
-pub sound_start : (c : Flat) → IsLowered c → (n : ℕ) (e : Entrance) → slice_get c.entrances n ≡ Some e → (vs : List ℤ) → IsBefore c (at_start n e vs [] [])
+pub sound_start : (c : Flow) → IsLowered c → (n : ℕ) (e : Entrance) → slice_get c.entrances n ≡ Some e → (vs : List ℤ) → IsBefore c (at_start n e vs [] [])
 sound_start c l n e is vs =
     let kept : KeepsFunctions c = subst KeepsFunctions (sym l.is) (lowered_keeps c.program l.lawful) in
     record { inside = kept.inside n e.start (kept.starts n e is); values = (has_operands c l).1.starts n e is; frames = record { few = omega arith; go_on = tt } }
 
 -- room for one value more
-pub values_fit : (c : Flat) (m : Machine) (z : State) → HasRoom c m → IsBefore c z → length z.values < m.most_values
+pub values_fit : (c : Flow) (m : Machine) (z : State) → HasRoom c m → IsBefore c z → length z.values < m.most_values
 values_fit c m z room h = room.values z.at (length z.values) h.inside h.values

@@ -8,19 +8,19 @@ use Rattle.loom_trace.specs.declared.entry.Entry.TheVariants as e
 use Rattle.loom_event.specs.Event.{entry_by}
 use Rattle.loom_law.specs.Walk.{tick_after}
 use Rattle.loom_law.specs.Filter.{statement, function}
-use Rattle.loom_law.specs.Walk.{Version, Plans, Operation, tick, Step, goes, makes, items, told_item, told, entry_of_operation, Walk, Queue, unborn, owed_at, owed_behind, owed_out, owed_trap, with_tick, with_back, place_number, function_line, begun_with, without_first, after, walked, Owes, MayStand, AreWoven}
+use Rattle.loom_law.specs.Walk.{Version, Plans, Operation, tick, PartStep, goes, makes, items, told_item, told, entry_of_operation, Walk, Queue, unborn, owed_at, owed_behind, owed_out, owed_trap, with_tick, with_back, place_number, function_line, begun_with, without_first, after, walk_from, Owes, MayStand, AreWoven}
 use Rattle.loom_strand.specs.PlainWalk.{first_version, IsPlain, IsPlainWalk}
 
 -- Lists of steps
 
-pub items_append : (ss us : List Step) → items (ss ++ us) ≡ items ss ++ items us
+pub items_append : (ss us : List PartStep) → items (ss ++ us) ≡ items ss ++ items us
 items_append [] us = refl
 items_append (goes i ∷ ss) us = ap (◌∷◌ i) (items_append ss us)
 items_append (makes l o ∷ ss) us = items_append ss us
 
-walked_append : (p : Source) (plans : Plans) (z : Walk) (ss us : List Step) → walked p plans z (ss ++ us) ≡ walked p plans (walked p plans z ss) us
-walked_append p plans z [] us = refl
-walked_append p plans z (s ∷ ss) us = walked_append p plans (after p plans z s) ss us
+walk_append : (p : Source) (plans : Plans) (z : Walk) (ss us : List PartStep) → walk_from p plans z (ss ++ us) ≡ walk_from p plans (walk_from p plans z ss) us
+walk_append p plans z [] us = refl
+walk_append p plans z (s ∷ ss) us = walk_append p plans (after p plans z s) ss us
 
 told_item_append : (t : ℕ) (i : Item) (es fs : List Entry) → told_item t i (es ++ fs) ≡ told_item t i es ++ fs
 told_item_append t (made l a) es fs = refl
@@ -30,33 +30,33 @@ told_item_append t (edge l) es fs = refl
 told_item_append t (enter f env) es fs = refl
 told_item_append t (out f) es fs = refl
 
-told_append : (t : ℕ) (ss us : List Step) → told t (ss ++ us) ≡ told t ss ++ told t us
+told_append : (t : ℕ) (ss us : List PartStep) → told t (ss ++ us) ≡ told t ss ++ told t us
 told_append t [] us = refl
 told_append t (goes i ∷ ss) us = ap (told_item t i) (told_append t ss us) ∙ told_item_append t i (told t ss) (told t us)
 told_append t (makes l o ∷ ss) us = ap (◌∷◌ (entry_of_operation t l o)) (told_append t ss us)
 
-items_ahead : (ss us : List Step) (ahead : List Item) → items (ss ++ us) ++ ahead ≡ items ss ++ (items us ++ ahead)
+items_ahead : (ss us : List PartStep) (ahead : List Item) → items (ss ++ us) ++ ahead ≡ items ss ++ (items us ++ ahead)
 items_ahead ss us ahead = ap (λ z. z ++ ahead) (items_append ss us) ∙ append_assoc (items ss) (items us) ahead
 
-woven_more : (p : Source) (plans : Plans) (z : Walk) (ss : List Step) (s : Step) (ahead : List Item)
-    → ((more : List Item) → AreWoven p plans z ss more) → MayStand p (walked p plans z ss) s ahead → AreWoven p plans z (ss ++ s ∷ []) ahead
+woven_more : (p : Source) (plans : Plans) (z : Walk) (ss : List PartStep) (s : PartStep) (ahead : List Item)
+    → ((more : List Item) → AreWoven p plans z ss more) → MayStand p (walk_from p plans z ss) s ahead → AreWoven p plans z (ss ++ s ∷ []) ahead
 woven_more p plans z [] s ahead h may = (may, tt)
 woven_more p plans z (u ∷ ss) s ahead h may =
     (subst (MayStand p z u) (sym (items_ahead ss (s ∷ []) ahead)) (h (items (s ∷ []) ++ ahead)).0, woven_more p plans (after p plans z u) ss s ahead (λ more. (h more).1) may)
 
 -- A step that may stand there leads on.
-walk_more : (p : Source) (t : ℕ) (ss : List Step) (es fs : List Entry) (os ps : Queue) (n k : ℕ) (s : Step) → IsPlainWalk p t ss es os n
+walk_more : (p : Source) (t : ℕ) (ss : List PartStep) (es fs : List Entry) (os ps : Queue) (n k : ℕ) (s : PartStep) → IsPlainWalk p t ss es os n
     → ((z : Walk) → IsPlain os n z → (ahead : List Item) → MayStand p z s ahead)
     → ((plans : Plans) (z : Walk) → IsPlain os n z → IsPlain ps k (after p plans z s)) → told t (s ∷ []) ≡ fs
     → IsPlainWalk p t (ss ++ s ∷ []) (es ++ fs) ps k
 walk_more p t ss es fs os ps n k s h may leads tells = record {
   woven = λ plans ahead. woven_more p plans (unborn (first_version ∷ [])) ss s ahead (h.woven plans) (may _ (h.plain plans) ahead);
   tells = told_append t ss (s ∷ []) ∙ ap (λ gs. gs ++ told t (s ∷ [])) h.tells ∙ ap (λ gs. es ++ gs) tells;
-  plain = λ plans. subst (IsPlain ps k) (sym (walked_append p plans (unborn (first_version ∷ [])) ss (s ∷ []))) (leads plans _ (h.plain plans));
+  plain = λ plans. subst (IsPlain ps k) (sym (walk_append p plans (unborn (first_version ∷ [])) ss (s ∷ []))) (leads plans _ (h.plain plans));
 }
 
 -- a mark, where nothing is owed
-walk_mark : (p : Source) (t : ℕ) (ss : List Step) (es : List Entry) (ps : Queue) (n k : ℕ) (i : Item) → IsPlainWalk p t ss es [] n
+walk_mark : (p : Source) (t : ℕ) (ss : List PartStep) (es : List Entry) (ps : Queue) (n k : ℕ) (i : Item) → IsPlainWalk p t ss es [] n
     → ((z : Walk) → IsPlain [] n z → (ahead : List Item) → MayStand p z (goes i) ahead)
     → ((plans : Plans) (z : Walk) → IsPlain [] n z → IsPlain ps k (after p plans z (goes i))) → told t (goes i ∷ []) ≡ []
     → IsPlainWalk p t (ss ++ goes i ∷ []) es ps k
@@ -65,30 +65,30 @@ walk_mark p t ss es ps n k i h may leads tells =
 
 -- Marks that pass no place
 
-pub walk_begins : (p : Source) (t : ℕ) (ss : List Step) (es : List Entry) (n l : ℕ) (env : Locals) → IsPlainWalk p t ss es [] n → IsPlainWalk p t (ss ++ goes (begins l env) ∷ []) es [] n
+pub walk_begins : (p : Source) (t : ℕ) (ss : List PartStep) (es : List Entry) (n l : ℕ) (env : Locals) → IsPlainWalk p t ss es [] n → IsPlainWalk p t (ss ++ goes (begins l env) ∷ []) es [] n
 walk_begins p t ss es n l env h =
     walk_mark p t ss es [] n n (begins l env) h (λ z g ahead. g.owed)
     (λ plans z g. record { coming = g.coming; active = g.active; held = g.held; owed = ap (owed_at plans z.held l (statement l) env) g.active; passed = g.passed }) refl
 
-pub walk_done : (p : Source) (t : ℕ) (ss : List Step) (es : List Entry) (n l : ℕ) → IsPlainWalk p t ss es [] n → IsPlainWalk p t (ss ++ goes (done l) ∷ []) es [] n
+pub walk_done : (p : Source) (t : ℕ) (ss : List PartStep) (es : List Entry) (n l : ℕ) → IsPlainWalk p t ss es [] n → IsPlainWalk p t (ss ++ goes (done l) ∷ []) es [] n
 walk_done p t ss es n l h =
     walk_mark p t ss es [] n n (done l) h (λ z g ahead. g.owed)
     (λ plans z g. record { coming = g.coming; active = g.active; held = g.held; owed = ap (owed_behind plans z.held z.frames l (begun_with z.frames)) g.active; passed = g.passed }) refl
 
-pub walk_out : (p : Source) (t : ℕ) (ss : List Step) (es : List Entry) (n f : ℕ) → IsPlainWalk p t ss es [] n → IsPlainWalk p t (ss ++ goes (out f) ∷ []) es [] n
+pub walk_out : (p : Source) (t : ℕ) (ss : List PartStep) (es : List Entry) (n f : ℕ) → IsPlainWalk p t ss es [] n → IsPlainWalk p t (ss ++ goes (out f) ∷ []) es [] n
 walk_out p t ss es n f h =
     walk_mark p t ss es [] n n (out f) h (λ z g ahead. g.owed)
     (λ plans z g. record { coming = g.coming; active = g.active; held = g.held; owed = ap (owed_out plans z.held (without_first z.frames) (function_line p f)) g.active; passed = g.passed }) refl
 
 -- Marks that pass a place: a tick is owed at the thousandth.
 
-pub walk_edge : (p : Source) (t : ℕ) (ss : List Step) (es : List Entry) (n l : ℕ) → IsPlainWalk p t ss es [] n
+pub walk_edge : (p : Source) (t : ℕ) (ss : List PartStep) (es : List Entry) (n l : ℕ) → IsPlainWalk p t ss es [] n
     → IsPlainWalk p t (ss ++ goes (edge l) ∷ []) es (with_tick p (back_edge l) (suc n) []) (suc n)
 walk_edge p t ss es n l h =
     walk_mark p t ss es (with_tick p (back_edge l) (suc n) []) n (suc n) (edge l) h (λ z g ahead. g.owed)
     (λ plans z g. record { coming = g.coming; active = g.active; held = g.held; owed = ap (λ k. with_tick p (back_edge l) (suc k) []) g.passed; passed = ap suc g.passed }) refl
 
-pub walk_enter : (p : Source) (t : ℕ) (ss : List Step) (es : List Entry) (n f : ℕ) (env : Locals) → IsPlainWalk p t ss es [] n
+pub walk_enter : (p : Source) (t : ℕ) (ss : List PartStep) (es : List Entry) (n f : ℕ) (env : Locals) → IsPlainWalk p t ss es [] n
     → IsPlainWalk p t (ss ++ goes (enter f env) ∷ []) es (with_tick p (entry f) (suc n) []) (suc n)
 walk_enter p t ss es n f env h =
     walk_mark p t ss es (with_tick p (entry f) (suc n) []) n (suc n) (enter f env) h (λ z g ahead. g.owed) (λ plans z g. record {
@@ -144,12 +144,12 @@ acted p plans z n l (spawn c f vs) other g = entered z n g
 acted p plans z n l (join c) other g = entered z n g
 acted p plans z n l (print v) other g = entered z n g
 
-pub walk_act : (p : Source) (t : ℕ) (ss : List Step) (es : List Entry) (n l : ℕ) (a : Act) → is_begin a ≡ false → IsPlainWalk p t ss es [] n
+pub walk_act : (p : Source) (t : ℕ) (ss : List PartStep) (es : List Entry) (n l : ℕ) (a : Act) → is_begin a ≡ false → IsPlainWalk p t ss es [] n
     → IsPlainWalk p t (ss ++ goes (made l a) ∷ []) (es ++ entry_by t l a ∷ []) [] 0
 walk_act p t ss es n l a other h =
     walk_more p t ss es (entry_by t l a ∷ []) [] [] n 0 (goes (made l a)) h (λ z g ahead. may_act p z l a ahead other g.owed) (λ plans z g. acted p plans z n l a other g) refl
 
-pub walk_tick : (p : Source) (t : ℕ) (ss : List Step) (es : List Entry) (n l k : ℕ) → IsPlainWalk p t ss es ((l, tick k) ∷ []) n
+pub walk_tick : (p : Source) (t : ℕ) (ss : List PartStep) (es : List Entry) (n l k : ℕ) → IsPlainWalk p t ss es ((l, tick k) ∷ []) n
     → IsPlainWalk p t (ss ++ makes l (tick k) ∷ []) (es ++ e.Tick t l k ∷ []) [] 0
 walk_tick p t ss es n l k h =
     walk_more p t ss es (e.Tick t l k ∷ []) ((l, tick k) ∷ []) [] n 0 (makes l (tick k)) h (λ z g ahead. subst (λ os. Owes os l (tick k)) (sym g.owed) refl)

@@ -1,11 +1,11 @@
 pub mod Stack
 pub mod Machine
-pub mod Question
-pub mod Turn
+pub mod PositionRequest
+pub mod StepResult
 pub mod Operator
-pub mod Answer
+pub mod Reply
 pub mod PlainWalk
-pub mod Entries
+pub mod Life
 pub mod Alone
 pub mod Strand
 pub mod StrandInvariant

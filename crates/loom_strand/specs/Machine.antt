@@ -8,7 +8,7 @@ use Rattle.loom_flow.specs.declared.code.Control.TheVariants.{Call}
 use Rattle.loom_flow.specs.declared.code.Step.{Step}
 use Rattle.loom_flow.specs.declared.code.Step.TheVariants as s
 use Rattle.loom_flow.specs.declared.code.Site.{Site}
-use Rattle.loom_flow.specs.Flat.{Flat}
+use Rattle.loom_flow.specs.Flow.{Flow}
 use Rattle.loom_flow.specs.State.{Frame, State, frame_room}
 use Rattle.loom_flow.specs.Position.{Position, before, leaves, over}
 use Rattle.loom_flow.specs.Progress.{Progress, asks}
@@ -31,14 +31,14 @@ abbrev pub position : Machine → Position
 position m = position_in m.phase m.state
 
 -- the same room, with another state
-abbrev pub holding : Machine → State → Machine
-holding m z = record m { state = z }
+abbrev pub with_state : Machine → State → Machine
+with_state m z = record m { state = z }
 
 -- the same room, at another position
-abbrev pub standing : Machine → Position → Machine
-standing m (before z) = record m { state = z; phase = phase.Before }
-standing m (leaves z v) = record m { state = z; phase = phase.Leaves v }
-standing m over = record m { phase = phase.Over }
+abbrev pub with_position : Machine → Position → Machine
+with_position m (before z) = record m { state = z; phase = phase.Before }
+with_position m (leaves z v) = record m { state = z; phase = phase.Leaves v }
+with_position m over = record m { phase = phase.Over }
 
 -- before the thread begins
 abbrev pub blank : State
@@ -52,9 +52,9 @@ abbrev pub new_machine : ℕ → Machine
 new_machine n = record { phase = phase.Before; state = blank; most_values = n; most_frames = frames_below }
 
 -- by whether a condition is 0
-abbrev pub branched : Bool → State → State → State
-branched true zero other = zero
-branched false zero other = other
+abbrev pub branch_state : Bool → State → State → State
+branch_state true zero other = zero
+branch_state false zero other = other
 
 -- A new frame, or thread, has room for so many arguments.
 
@@ -64,7 +64,7 @@ AskHasFewArguments _ = Unit {0}
 
 -- It takes an answer with this value, where it asks.
 abbrev pub TakesAnswer : Machine → Machine → ℤ → Progress → Type 0
-TakesAnswer old new v (asks line q behind) = new ≡ standing old (behind v)
+TakesAnswer old new v (asks line q behind) = new ≡ with_position old (behind v)
 TakesAnswer old new v _ = Unit {0}
 
 -- The frame below, where there is one, waits at one of these places.
@@ -73,11 +73,11 @@ HasFirstSite sites [] = Unit {0}
 HasFirstSite sites (f ∷ fs) = f.site < length sites
 
 -- The function that is called has an entrance, and few arguments.
-abbrev pub CallsFunction : Flat → Control → Type 0
+abbrev pub CallsFunction : Flow → Control → Type 0
 CallsFunction c (Call f n) = (f < length c.entrances) × (n ≤ 4)
 CallsFunction c _ = Unit {0}
 
-abbrev pub TakesFewArguments : Flat → Step → Type 0
+abbrev pub TakesFewArguments : Flow → Step → Type 0
 TakesFewArguments c (s.Compute x) = Unit {0}
 TakesFewArguments c (s.Ask x) = AskHasFewArguments x
 TakesFewArguments c (s.Control x) = CallsFunction c x

@@ -6,18 +6,18 @@ use Rattle.loom_trace.specs.declared.entry.Entry.{Entry}
 use Rattle.loom_trace.specs.declared.request.Request.{Request}
 use Rattle.loom_trace.specs.declared.request.Request.TheVariants as r
 use Rattle.loom_event.specs.Answer.{HasNumbers}
-use Rattle.loom_law.specs.Walk.{Plans, tick, Step, items, told, unborn, AreWoven}
-use Rattle.loom_law.specs.Part.{Own, led, IsPart, AsksToMake, AsksToAct}
+use Rattle.loom_law.specs.Walk.{Plans, tick, PartStep, items, told, unborn, AreWoven}
+use Rattle.loom_law.specs.ThreadPart.{Own, walk_of, IsPart, AsksToMake, AsksToAct}
 use Rattle.loom_strand.specs.declared.stage.Birth.{Birth}
 use Rattle.loom_strand.specs.declared.stage.Stage.{Stage}
 use Rattle.loom_strand.specs.declared.stage.Want.{Want}
 use Rattle.loom_strand.specs.declared.stage.Want.TheVariants as w
 use Rattle.loom_strand.specs.Machine.{Machine, frames_below}
 use Rattle.loom_strand.specs.Alone.{has_one_thread, NeedsNoOther}
-use Rattle.loom_strand.specs.Entries.{asks_begin, has_none, has_ended, versions_with}
+use Rattle.loom_strand.specs.Life.{asks_begin, has_none, has_ended, versions_with}
 
 -- What a thread keeps of its run: how far it is, how many entry and back-edge places it passed since its last entry, and its machine.
-pub record Inside : Type 0 where
+pub record Execution : Type 0 where
   pub stage : Stage
   pub passed : ℕ
   pub machine : Machine
@@ -32,7 +32,7 @@ pub record Strand : Type 0 where
   pub entries : List Entry
   -- the request that isn't answered yet
   pub wanted : Option Request
-  pub inside : Inside
+  pub execution : Execution
 
 -- It was made with room for `n` entries, and not started.
 pub record IsNew (p : Source) (t n : ℕ) (s : Strand) : Type 0 where
@@ -43,7 +43,7 @@ pub record IsNew (p : Source) (t n : ℕ) (s : Strand) : Type 0 where
   pub entries : s.entries ≡ []
   pub wanted : s.wanted ≡ None
   -- and for as many frames as there may be below the newest one
-  pub frames : s.inside.machine.most_frames ≡ frames_below
+  pub frames : s.execution.machine.most_frames ≡ frames_below
 
 -- It is the same thread, with these entries and this birth.
 pub record IsSame (old : Strand) (b : Option Birth) (es : List Entry) (new : Strand) : Type 0 where
@@ -83,11 +83,11 @@ pub record Requests (s : Strand) (b : Birth) (q : Request) : Type 0 where
 
 -- The entries are a whole part, whatever filters mean: nothing comes behind them.
 pub record IsWholePart (p : Source) (plans : Plans) (x : Own) : Type 0 where
-  pub steps : List Step
+  pub steps : List PartStep
   pub trace : IsTrace p x.func x.args (items steps) Finished
   pub woven : AreWoven p plans (unborn x.versions) steps []
   pub tells : told x.thread steps ≡ x.entries
-  pub taken : (led p plans x steps).coming ≡ []
+  pub taken : (walk_of p plans x steps).coming ≡ []
 
 -- It has ended.
 pub record IsOver (s : Strand) (b : Birth) : Type 0 where

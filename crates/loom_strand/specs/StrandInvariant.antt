@@ -4,7 +4,7 @@ use Rattle.loom_tree.specs.Tree.{Source}
 use Rattle.loom_lang.specs.Rules.{KeepsRules}
 use Rattle.loom_lang.specs.Places.{line_of_function}
 use Rattle.loom_lang.specs.Trace.{Item, Outcome, Finished, Thread, IsTrace, ended}
-use Rattle.loom_flow.specs.Flat.{Flat, resume}
+use Rattle.loom_flow.specs.Flow.{Flow, resume}
 use Rattle.loom_flow.specs.State.{Frame, State}
 use Rattle.loom_flow.specs.Position.{Position, before, leaves, over}
 use Rattle.loom_flow.specs.Progress.{progress}
@@ -15,51 +15,51 @@ use Rattle.loom_trace.specs.declared.entry.Entry.{Entry}
 use Rattle.loom_trace.specs.declared.request.Request.{Request}
 use Rattle.loom_trace.specs.declared.request.Request.TheVariants as r
 use Rattle.loom_event.specs.Answer.{IsFunctionWith}
-use Rattle.loom_law.specs.Walk.{tick_after, tick, Step, items, Queue}
+use Rattle.loom_law.specs.Walk.{tick_after, tick, PartStep, items, Queue}
 use Rattle.loom_strand.specs.declared.stage.Birth.{Birth}
 use Rattle.loom_strand.specs.declared.stage.Stage.{Stage}
 use Rattle.loom_strand.specs.declared.stage.Stage.TheVariants as stage
 use Rattle.loom_strand.specs.declared.machine.Phase.TheVariants as phase
 use Rattle.loom_strand.specs.Machine.{Machine, position, blank, frames_below}
-use Rattle.loom_strand.specs.Question.{request_at}
+use Rattle.loom_strand.specs.PositionRequest.{request_at}
 use Rattle.loom_strand.specs.PlainWalk.{IsPlainWalk}
-use Rattle.loom_strand.specs.Entries.{has_none, has_ended}
+use Rattle.loom_strand.specs.Life.{has_none, has_ended}
 use Rattle.loom_strand.specs.Strand.{Strand}
 
 -- The machine
 
 -- A frame that waits goes on inside the code, with the one value that it waits for.
-pub record GoesOnIn (c : Flat) (f : Frame) : Type 0 where
+pub record GoesOnIn (c : Flow) (f : Frame) : Type 0 where
   pub site : f.site < length c.sites
   pub inside : resume (slice_get c.sites f.site) < length c.code
   pub values : depth_before c (resume (slice_get c.sites f.site)) ≡ Some 1
 
-abbrev pub AllGoOn : Flat → List Frame → Type 0
+abbrev pub AllGoOn : Flow → List Frame → Type 0
 AllGoOn c [] = Unit {0}
 AllGoOn c (f ∷ fs) = GoesOnIn c f × AllGoOn c fs
 
-pub record HasFrames (c : Flat) (fs : List Frame) : Type 0 where
+pub record HasFrames (c : Flow) (fs : List Frame) : Type 0 where
   pub few : length fs ≤ frames_below
   pub go_on : AllGoOn c fs
 
 -- Before an instruction of the code as many values wait as are foreseen there.
-pub record IsBefore (c : Flat) (z : State) : Type 0 where
+pub record IsBefore (c : Flow) (z : State) : Type 0 where
   pub inside : z.at < length c.code
   pub values : depth_before c z.at ≡ Some (length z.values)
   pub frames : HasFrames c z.below
 
 -- Where a frame is to end no value waits.
-pub record IsLeaving (c : Flat) (z : State) : Type 0 where
+pub record IsLeaving (c : Flow) (z : State) : Type 0 where
   pub values : length z.values ≡ 0
   pub frames : HasFrames c z.below
 
-abbrev pub IsSound : Flat → Position → Type 0
-IsSound c (before z) = IsBefore c z
-IsSound c (leaves z v) = IsLeaving c z
-IsSound c over = Unit {0}
+abbrev pub IsSoundPosition : Flow → Position → Type 0
+IsSoundPosition c (before z) = IsBefore c z
+IsSoundPosition c (leaves z v) = IsLeaving c z
+IsSoundPosition c over = Unit {0}
 
 -- There is room for one value more than any instruction finds.
-pub record HasRoom (c : Flat) (m : Machine) : Type 0 where
+pub record HasRoom (c : Flow) (m : Machine) : Type 0 where
   pub values : (at d : ℕ) → at < length c.code → depth_before c at ≡ Some d → d < m.most_values
   pub some : 0 < m.most_values
   pub frames : m.most_frames ≡ frames_below
@@ -67,7 +67,7 @@ pub record HasRoom (c : Flat) (m : Machine) : Type 0 where
 -- Items and entries
 
 -- What the flat code may give from a position on goes on these items.
-abbrev pub GoesOnFrom : Flat → Thread → ℕ → List ℤ → List Item → Position → Type 0
+abbrev pub GoesOnFrom : Flow → Thread → ℕ → List ℤ → List Item → Position → Type 0
 GoesOnFrom c t f vs so_far z = (es : List Item) (q : Outcome) (n : ℕ) → runs c t n z es q → IsFlatTrace c f vs (so_far ++ es) q
 
 abbrev pub end_line : Source → ℕ → ℕ
@@ -87,7 +87,7 @@ abbrev pub AsksTick : Option Request → Queue → Type 0
 AsksTick wanted os = (line : ℕ) × (place : ℕ) × (wanted ≡ Some (r.Tick line place)) × (os ≡ (line, tick place) ∷ [])
 
 -- what comes of the position
-abbrev pub AsksHere : Flat → ℕ → Position → Option Request → Queue → Type 0
+abbrev pub AsksHere : Flow → ℕ → Position → Option Request → Queue → Type 0
 AsksHere c line z wanted os = (q : Request) × (wanted ≡ Some q) × (request_at line (progress c z) ≡ Some q) × (os ≡ [])
 
 -- Stages
@@ -96,24 +96,24 @@ AsksHere c line z wanted os = (q : Request) × (wanted ≡ Some q) × (request_a
 abbrev pub AsksBegin : ℕ → Option Request → Type 0
 AsksBegin line wanted = (wanted ≡ None) ⊎ (wanted ≡ Some (r.Begin line))
 
-pub record IsWaiting (p : Source) (b : Birth) (es : List Entry) (wanted : Option Request) : Type 0 where
+pub record WaitingInvariant (p : Source) (b : Birth) (es : List Entry) (wanted : Option Request) : Type 0 where
   pub none : es ≡ []
   pub function : IsFunctionWith p b.func b.args
   pub asks : AsksBegin (end_line p b.func) wanted
 
-pub record IsRunning (p : Source) (t : ℕ) (b : Birth) (es : List Entry) (wanted : Option Request) (n : ℕ) (z : Position) : Type 0 where
+pub record RunningInvariant (p : Source) (t : ℕ) (b : Birth) (es : List Entry) (wanted : Option Request) (n : ℕ) (z : Position) : Type 0 where
   pub function : IsFunctionWith p b.func b.args
-  pub steps : List Step
+  pub steps : List PartStep
   pub owed : Queue
   pub walk : IsPlainWalk p t steps es owed n
   pub goes : GoesOnFrom (lowered p) (thread_with p b.func) b.func b.args (items steps) z
-  pub sound : IsSound (lowered p) z
+  pub sound : IsSoundPosition (lowered p) z
   pub asks : IsIdle wanted owed n ⊎ (AsksTick wanted owed ⊎ AsksHere (lowered p) (end_line p b.func) z wanted owed)
   pub begun : has_none es ≡ false
   pub lives : has_ended es ≡ false
 
-pub record HasStopped (p : Source) (t : ℕ) (b : Birth) (es : List Entry) (wanted : Option Request) : Type 0 where
-  pub steps : List Step
+pub record EndInvariant (p : Source) (t : ℕ) (b : Birth) (es : List Entry) (wanted : Option Request) : Type 0 where
+  pub steps : List PartStep
   pub owed : Queue
   pub passed : ℕ
   pub walk : IsPlainWalk p t steps es owed passed
@@ -121,20 +121,20 @@ pub record HasStopped (p : Source) (t : ℕ) (b : Birth) (es : List Entry) (want
   pub ended : has_ended es ≡ true
   pub asks : wanted ≡ None
 
-abbrev pub IsAt : Stage → Strand → Option Birth → Type 0
-IsAt stage.Waits s None = (s.entries ≡ []) × (s.wanted ≡ None)
-IsAt stage.Waits s (Some b) = IsWaiting s.program b s.entries s.wanted
-IsAt stage.Runs s (Some b) = IsRunning s.program s.thread b s.entries s.wanted s.inside.passed (position s.inside.machine)
-IsAt stage.Over s (Some b) = HasStopped s.program s.thread b s.entries s.wanted
-IsAt _ s None = ⊥
+abbrev pub StageInvariant : Stage → Strand → Option Birth → Type 0
+StageInvariant stage.Waits s None = (s.entries ≡ []) × (s.wanted ≡ None)
+StageInvariant stage.Waits s (Some b) = WaitingInvariant s.program b s.entries s.wanted
+StageInvariant stage.Runs s (Some b) = RunningInvariant s.program s.thread b s.entries s.wanted s.execution.passed (position s.execution.machine)
+StageInvariant stage.Over s (Some b) = EndInvariant s.program s.thread b s.entries s.wanted
+StageInvariant _ s None = ⊥
 
 -- The machine of a thread that hasn't begun is as it was made.
 abbrev pub IsBlank : Stage → Machine → Type 0
 IsBlank stage.Waits m = (m.state ≡ blank) × (m.phase ≡ phase.Before)
 IsBlank _ m = Unit {0}
 
-pub record IsKept (s : Strand) : Type 0 where
+pub record StrandInvariant (s : Strand) : Type 0 where
   pub lawful : KeepsRules s.program
-  pub room : HasRoom (lowered s.program) s.inside.machine
-  pub blank : IsBlank s.inside.stage s.inside.machine
-  pub stage : IsAt s.inside.stage s s.birth
+  pub room : HasRoom (lowered s.program) s.execution.machine
+  pub blank : IsBlank s.execution.stage s.execution.machine
+  pub stage : StageInvariant s.execution.stage s s.birth

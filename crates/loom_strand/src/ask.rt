@@ -6,7 +6,7 @@ ghost use Rattle.loom_trace.specs.declared.request.Request.TheVariants as r;
 ghost use Rattle.loom_strand.specs.declared.machine.Phase.TheVariants as phase;
 ghost use Rattle.loom_strand.specs.Machine.{AskHasFewArguments, TakesAnswer};
 ghost use Rattle.loom_strand.specs.Operator.{cell_at};
-ghost use Rattle.loom_strand.specs.Question.{cell_request, IsAskedBy};
+ghost use Rattle.loom_strand.specs.PositionRequest.{cell_request, IsAskedBy};
 
 use crate::machine::Machine;
 use crate::operator::cell_at;

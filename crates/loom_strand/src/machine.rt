@@ -1,13 +1,13 @@
 //! The machine of a thread.
 ghost use Rattle.std.specs.Prelude.{slice_get, ◌≡◌, ◌<◌, ◌≤◌, ◌+◌, [], ◌∷◌, IfOk, Some, length, is_some, unwrap_or, pos, replicate};
-ghost use Rattle.loom_flow.specs.Flat.{Flat, resume};
+ghost use Rattle.loom_flow.specs.Flow.{Flow, resume};
 ghost use Rattle.loom_flow.specs.State.{operand, without, given, forward, jumped, arguments, without_arguments, frame_locals, at_start};
 ghost use Rattle.loom_flow.specs.Position.{before, leaves, over};
 ghost use Rattle.loom_flow.specs.Progress.{returns};
 ghost use Rattle.loom_lang.specs.Values.{is_zero};
-ghost use Rattle.loom_flow.specs.Depth.{put};
+ghost use Rattle.loom_flow.specs.Depth.{pushes};
 ghost use Rattle.loom_strand.specs.declared.machine.Phase.TheVariants as phase;
-ghost use Rattle.loom_strand.specs.Machine.{HasFirstSite, holding, standing, blank, frames_below, new_machine, branched};
+ghost use Rattle.loom_strand.specs.Machine.{HasFirstSite, with_state, with_position, blank, frames_below, new_machine, branch_state};
 
 use crate::frame::{Frame, Frames};
 use crate::values::Values;
@@ -77,14 +77,14 @@ impl Machine {
     pub fn begin(&mut self, func: u8, entrance: Entrance, args: Args)
         requires blank { self.old.state ≡ blank }
         requires phase { self.old.phase ≡ phase.Before }
-        ensures { self.new ≡ standing self.old (before (at_start func entrance args [] [])) }
+        ensures { self.new ≡ with_position self.old (before (at_start func entrance args [] [])) }
     {
         self.start(func, entrance, args);
     }
 
     // To the start of a function, above these values and frames.
     fn start(&mut self, func: u8, entrance: Entrance, args: Args)
-        ensures { self.new ≡ holding self.old (at_start func entrance args self.old.state.values self.old.state.below) }
+        ensures { self.new ≡ with_state self.old (at_start func entrance args self.old.state.values self.old.state.below) }
     {
         let locals = first_locals(entrance, args);
         self.at = entrance.start as usize;
@@ -101,7 +101,7 @@ impl Machine {
 
     /// Its last frame has ended.
     pub fn stop(&mut self)
-        ensures { self.new ≡ standing self.old over }
+        ensures { self.new ≡ with_position self.old over }
     {
         self.phase = Phase::Over;
     }
@@ -136,7 +136,7 @@ impl Machine {
 
     /// Takes off an operand that was on top of the values.
     pub fn drop_operand(&mut self, a: Operand)
-        ensures { self.new ≡ holding self.old (without self.old.state a) }
+        ensures { self.new ≡ with_state self.old (without self.old.state a) }
     {
         match a {
             Operand::Top => self.values.drop_top(),
@@ -148,8 +148,8 @@ impl Machine {
     /// Leaves a value where it belongs.
     #[tactic(auto, using(crate::proofs::Locals::put_set, crate::proofs::Locals::put_past))]
     pub fn give(&mut self, target: Target, v: i64)
-        requires { length self.old.state.values + put target ≤ self.old.most_values }
-        ensures { self.new ≡ holding self.old (given self.old.state target v) }
+        requires { length self.old.state.values + pushes target ≤ self.old.most_values }
+        ensures { self.new ≡ with_state self.old (given self.old.state target v) }
     {
         match target {
             Target::Push => self.values.push(v),
@@ -164,14 +164,14 @@ impl Machine {
     /// To the next instruction.
     pub fn forward(&mut self)
         requires { self.old.state.at < 18446744073709551615 }
-        ensures { self.new ≡ holding self.old (forward self.old.state) }
+        ensures { self.new ≡ with_state self.old (forward self.old.state) }
     {
         self.at += 1;
     }
 
     /// To another instruction.
     pub fn jump(&mut self, to: u32)
-        ensures { self.new ≡ holding self.old (jumped self.old.state to) }
+        ensures { self.new ≡ with_state self.old (jumped self.old.state to) }
     {
         self.at = to as usize;
     }
@@ -179,8 +179,8 @@ impl Machine {
     /// Leaves a value where it belongs, and goes to the next instruction.
     pub fn store(&mut self, target: Target, v: i64)
         requires before { self.old.state.at < 18446744073709551615 }
-        requires room { length self.old.state.values + put target ≤ self.old.most_values }
-        ensures { self.new ≡ holding self.old (forward (given self.old.state target v)) }
+        requires room { length self.old.state.values + pushes target ≤ self.old.most_values }
+        ensures { self.new ≡ with_state self.old (forward (given self.old.state target v)) }
     {
         self.give(target, v);
         self.forward();
@@ -191,7 +191,7 @@ impl Machine {
     pub fn replace(&mut self, a: Operand, target: Target, v: i64)
         requires before { self.old.state.at < 18446744073709551615 }
         requires room { length self.old.state.values < self.old.most_values }
-        ensures { self.new ≡ holding self.old (forward (given (without self.old.state a) target v)) }
+        ensures { self.new ≡ with_state self.old (forward (given (without self.old.state a) target v)) }
     {
         self.drop_operand(a);
         self.store(target, v);
@@ -202,7 +202,7 @@ impl Machine {
     pub fn replace_two(&mut self, a: Operand, b: Operand, target: Target, v: i64)
         requires before { self.old.state.at < 18446744073709551615 }
         requires room { length self.old.state.values < self.old.most_values }
-        ensures { self.new ≡ holding self.old (forward (given (without (without self.old.state b) a) target v)) }
+        ensures { self.new ≡ with_state self.old (forward (given (without (without self.old.state b) a) target v)) }
     {
         self.drop_operand(b);
         self.replace(a, target, v);
@@ -211,7 +211,7 @@ impl Machine {
     /// Takes off an operand, and goes to the next instruction.
     pub fn pass(&mut self, a: Operand)
         requires { self.old.state.at < 18446744073709551615 }
-        ensures { self.new ≡ holding self.old (forward (without self.old.state a)) }
+        ensures { self.new ≡ with_state self.old (forward (without self.old.state a)) }
     {
         self.drop_operand(a);
         self.forward();
@@ -220,7 +220,7 @@ impl Machine {
     /// Takes off two operands, the second one first, and goes to the next instruction.
     pub fn pass_two(&mut self, a: Operand, b: Operand)
         requires { self.old.state.at < 18446744073709551615 }
-        ensures { self.new ≡ holding self.old (forward (without (without self.old.state b) a)) }
+        ensures { self.new ≡ with_state self.old (forward (without (without self.old.state b) a)) }
     {
         self.drop_operand(b);
         self.pass(a);
@@ -229,7 +229,7 @@ impl Machine {
     /// Takes off an operand, and goes to an instruction if it is 0, or to the next one.
     pub fn branch(&mut self, a: Operand, to: u32)
         requires { self.old.state.at < 18446744073709551615 }
-        ensures { self.new ≡ holding self.old (branched (is_zero (operand self.old.state a)) (jumped (without self.old.state a) to) (forward (without self.old.state a))) }
+        ensures { self.new ≡ with_state self.old (branch_state (is_zero (operand self.old.state a)) (jumped (without self.old.state a) to) (forward (without self.old.state a))) }
     {
         if self.operand(a) == 0 {
             self.drop_operand(a);
@@ -264,7 +264,7 @@ impl Machine {
 
     /// Takes off so many arguments.
     pub fn drop_arguments(&mut self, n: u8)
-        ensures { self.new ≡ holding self.old (without_arguments self.old.state n) }
+        ensures { self.new ≡ with_state self.old (without_arguments self.old.state n) }
     {
         self.values.drop_last(n as usize);
     }
@@ -273,7 +273,7 @@ impl Machine {
     pub fn take_arguments(&mut self, n: u8) -> Args
         requires { n ≤ 4 }
         ensures args { result ≡ arguments self.old.state n }
-        ensures rest { self.new ≡ holding self.old (without_arguments self.old.state n) }
+        ensures rest { self.new ≡ with_state self.old (without_arguments self.old.state n) }
     {
         let args = self.arguments(n);
         self.drop_arguments(n);
@@ -283,7 +283,7 @@ impl Machine {
     /// Into a new frame, called from this place.
     pub fn enter(&mut self, entrance: Entrance, func: u8, args: Args, place: u16)
         requires { length self.old.state.below < self.old.most_frames }
-        ensures { self.new ≡ holding self.old (at_start func entrance args self.old.state.values ((record { func = self.old.state.func; locals = self.old.state.locals; site = place }) ∷ self.old.state.below)) }
+        ensures { self.new ≡ with_state self.old (at_start func entrance args self.old.state.values ((record { func = self.old.state.func; locals = self.old.state.locals; site = place }) ∷ self.old.state.below)) }
     {
         let locals = self.locals;
         self.below.push(Frame {
@@ -296,7 +296,7 @@ impl Machine {
 
     /// The frame is to end with the value of an operand, which is taken off.
     pub fn leave(&mut self, a: Operand)
-        ensures { self.new ≡ standing self.old (leaves (without self.old.state a) (operand self.old.state a)) }
+        ensures { self.new ≡ with_position self.old (leaves (without self.old.state a) (operand self.old.state a)) }
     {
         let v = self.operand(a);
         self.drop_operand(a);
@@ -307,7 +307,7 @@ impl Machine {
     pub fn back(&mut self, sites: &[Site], v: i64)
         requires room { length self.old.state.values < self.old.most_values }
         requires site { HasFirstSite sites.now self.old.state.below }
-        ensures { (c : Flat) → c.sites ≡ sites.now → self.new ≡ standing self.old (returns c self.old.state.values v self.old.state.below) }
+        ensures { (c : Flow) → c.sites ≡ sites.now → self.new ≡ with_position self.old (returns c self.old.state.values v self.old.state.below) }
     {
         match self.below.pop() {
             Some(frame) => {

@@ -3,12 +3,12 @@ ghost use Rattle.std.specs.Prelude.{◌≡◌, ◌<◌};
 ghost use Rattle.loom_flow.specs.Code.{IsLowered};
 ghost use Rattle.loom_law.specs.Walk.{tick_after};
 ghost use Rattle.loom_strand.specs.Machine.{position};
-ghost use Rattle.loom_strand.specs.StrandInvariant.{IsSound, HasRoom};
+ghost use Rattle.loom_strand.specs.StrandInvariant.{IsSoundPosition, HasRoom};
 ghost use Rattle.loom_strand.specs.PrivateRun.{place_passed, Passes, Stops};
 
 use crate::machine::Machine;
 use crate::step::advance;
-use crate::turn::{Mark, Stop, Turn};
+use crate::step_result::{Mark, StepResult, Stop};
 use loom_flow::flow::Flow;
 
 // How many entry and back-edge places are passed before a tick.
@@ -45,20 +45,20 @@ fn pass(passed: &mut u32, place: Option<u16>) -> Option<u16>
 /// entry, from 0 to 1,000.
 pub(crate) fn run(machine: &mut Machine, passed: &mut u32, flow: &Flow) -> Stop
     requires lowered { IsLowered flow.now }
-    requires sound { IsSound flow.now (position machine.old) }
+    requires sound { IsSoundPosition flow.now (position machine.old) }
     requires room { HasRoom flow.now machine.old }
     requires few { passed.old < tick_after }
     ensures { Stops flow.now machine.old machine.new passed.old passed.new result }
 {
     'run: loop {
         match advance(machine, flow) {
-            Turn::Goes(mark) => {
+            StepResult::Goes(mark) => {
                 if let Some(place) = pass(passed, place_passed(mark)) {
                     return Stop::Ticks(flow.place_line(place), place);
                 }
             }
-            Turn::Asks(request) => return Stop::Asks(request),
-            Turn::Ends => return Stop::Ends,
+            StepResult::Asks(request) => return Stop::Asks(request),
+            StepResult::Ends => return Stop::Ends,
         }
     }
 }

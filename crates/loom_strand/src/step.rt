@@ -5,79 +5,86 @@ ghost use Rattle.loom_flow.specs.declared.code.Operand.TheVariants as o;
 ghost use Rattle.loom_flow.specs.declared.code.Compute.TheVariants as compute;
 ghost use Rattle.loom_flow.specs.declared.code.Control.TheVariants as control;
 ghost use Rattle.loom_flow.specs.Code.{IsLowered};
-ghost use Rattle.loom_flow.specs.Flat.{Flat};
+ghost use Rattle.loom_flow.specs.Flow.{Flow};
 ghost use Rattle.loom_flow.specs.State.{operand, without, given, forward, jumped};
 ghost use Rattle.loom_flow.specs.Progress.{goes, of_compute, of_control, of_step, returns};
 ghost use Rattle.loom_lang.specs.Trace.{out};
 ghost use Rattle.loom_strand.specs.declared.machine.Phase.TheVariants as phase;
-ghost use Rattle.loom_strand.specs.declared.turn.Turn.TheVariants as t;
+ghost use Rattle.loom_strand.specs.declared.step_result.StepResult.TheVariants as t;
 ghost use Rattle.loom_strand.specs.Machine.{position, frames_below, CallsFunction, TakesFewArguments};
-ghost use Rattle.loom_strand.specs.Turn.{Comes, Advances};
-ghost use Rattle.loom_strand.specs.StrandInvariant.{IsSound, HasRoom, IsLeaving};
+ghost use Rattle.loom_strand.specs.StepResult.{StepsTo, Advances};
+ghost use Rattle.loom_strand.specs.StrandInvariant.{IsSoundPosition, HasRoom, IsLeaving};
 
 use crate::ask::request;
 use crate::machine::{FRAMES_BELOW, Machine, Phase};
 use crate::operator::{inverted, operator_value};
-use crate::turn::{Mark, Turn};
+use crate::step_result::{Mark, StepResult};
 use loom_flow::code::{Compute, Control, Instr, Operand, Step, Target};
 use loom_flow::flow::Flow;
 use loom_trace::request::Request;
 use loom_tree::expression::Op;
 
 // The value of an operator is left, or a division by 0 traps.
-fn apply(machine: &mut Machine, line: u32, op: Op, a: Operand, b: Operand, target: Target) -> Turn
+fn apply(
+    machine: &mut Machine,
+    line: u32,
+    op: Op,
+    a: Operand,
+    b: Operand,
+    target: Target,
+) -> StepResult
     requires phase { machine.old.phase ≡ phase.Before }
     requires before { machine.old.state.at < 18446744073709551615 }
     requires room { length machine.old.state.values < machine.old.most_values }
-    ensures { (c : Flat) (place : ℕ) → Comes c place machine.old machine.new result (of_compute machine.old.state line (compute.Apply op a b target)) }
+    ensures { (c : Flow) (place : ℕ) → StepsTo c place machine.old machine.new result (of_compute machine.old.state line (compute.Apply op a b target)) }
 {
     match operator_value(op, machine.operand_under(a, b), machine.operand(b)) {
         Some(v) => {
             machine.replace_two(a, b, target, v);
-            Turn::Goes(None)
+            StepResult::Goes(None)
         }
-        None => Turn::Asks(Request::Trap { line, reason: 1 }),
+        None => StepResult::Asks(Request::Trap { line, reason: 1 }),
     }
 }
 
 // What an instruction of this line computes.
-fn compute(machine: &mut Machine, line: u32, x: Compute) -> Turn
+fn compute(machine: &mut Machine, line: u32, x: Compute) -> StepResult
     requires phase { machine.old.phase ≡ phase.Before }
     requires before { machine.old.state.at < 18446744073709551615 }
     requires room { length machine.old.state.values < machine.old.most_values }
-    ensures { (c : Flat) (place : ℕ) → Comes c place machine.old machine.new result (of_compute machine.old.state line x) }
+    ensures { (c : Flow) (place : ℕ) → StepsTo c place machine.old machine.new result (of_compute machine.old.state line x) }
 {
     match x {
         Compute::Move(a, d) => {
             machine.replace(a, d, machine.operand(a));
-            Turn::Goes(None)
+            StepResult::Goes(None)
         }
         Compute::Negate(a, d) => {
             machine.replace(a, d, machine.operand(a).wrapping_neg());
-            Turn::Goes(None)
+            StepResult::Goes(None)
         }
         Compute::Invert(a, d) => {
             machine.replace(a, d, inverted(machine.operand(a)));
-            Turn::Goes(None)
+            StepResult::Goes(None)
         }
         Compute::Apply(op, a, b, d) => apply(machine, line, op, a, b, d),
         Compute::Discard => {
             machine.pass(Operand::Top);
-            Turn::Goes(None)
+            StepResult::Goes(None)
         }
     }
 }
 
 // Into a new frame, or a trap where it would be one too many.
-fn call(machine: &mut Machine, flow: &Flow, i: &Instr, func: u8, n: u8) -> Turn
+fn call(machine: &mut Machine, flow: &Flow, i: &Instr, func: u8, n: u8) -> StepResult
     requires phase { machine.old.phase ≡ phase.Before }
     requires few { n ≤ 4 }
     requires frames { machine.old.most_frames ≡ frames_below }
     requires there { func < length flow.now.entrances }
-    ensures { Comes flow.now i.now.place machine.old machine.new result (of_control flow.now machine.old.state i.now.line i.now.place (control.Call func n)) }
+    ensures { StepsTo flow.now i.now.place machine.old machine.new result (of_control flow.now machine.old.state i.now.line i.now.place (control.Call func n)) }
 {
     if machine.waiting() >= FRAMES_BELOW {
-        return Turn::Asks(Request::Trap {
+        return StepResult::Asks(Request::Trap {
             line: i.line,
             reason: 6,
         });
@@ -85,86 +92,86 @@ fn call(machine: &mut Machine, flow: &Flow, i: &Instr, func: u8, n: u8) -> Turn
     let entrance = flow.entrances()[func as usize];
     let args = machine.take_arguments(n);
     machine.enter(entrance, func, args, i.place);
-    Turn::Goes(Some(Mark::Enter(entrance.place)))
+    StepResult::Goes(Some(Mark::Enter(entrance.place)))
 }
 
 // Where an instruction leads.
-fn control(machine: &mut Machine, flow: &Flow, i: &Instr, x: Control) -> Turn
+fn control(machine: &mut Machine, flow: &Flow, i: &Instr, x: Control) -> StepResult
     requires phase { machine.old.phase ≡ phase.Before }
     requires before { machine.old.state.at < 18446744073709551615 }
     requires frames { machine.old.most_frames ≡ frames_below }
     requires calls { CallsFunction flow.now x }
-    ensures { Comes flow.now i.now.place machine.old machine.new result (of_control flow.now machine.old.state i.now.line i.now.place x) }
+    ensures { StepsTo flow.now i.now.place machine.old machine.new result (of_control flow.now machine.old.state i.now.line i.now.place x) }
 {
     match x {
         Control::Begin => {
             machine.forward();
-            Turn::Goes(Some(Mark::Begins))
+            StepResult::Goes(Some(Mark::Begins))
         }
         Control::Done => {
             machine.forward();
-            Turn::Goes(Some(Mark::Done))
+            StepResult::Goes(Some(Mark::Done))
         }
         Control::Edge(to) => {
             machine.jump(to);
-            Turn::Goes(Some(Mark::Edge(i.place)))
+            StepResult::Goes(Some(Mark::Edge(i.place)))
         }
         Control::Jump(to) => {
             machine.jump(to);
-            Turn::Goes(None)
+            StepResult::Goes(None)
         }
         Control::JumpIfZero(a, to) => {
             machine.branch(a, to);
-            Turn::Goes(None)
+            StepResult::Goes(None)
         }
         Control::Call(func, n) => call(machine, flow, i, func, n),
         Control::Return(a) => {
             machine.leave(a);
-            Turn::Goes(Some(Mark::Done))
+            StepResult::Goes(Some(Mark::Done))
         }
         Control::Out => {
             machine.leave(Operand::Number(0));
-            Turn::Goes(None)
+            StepResult::Goes(None)
         }
     }
 }
 
 // The instruction before which the thread is.
-fn step(machine: &mut Machine, flow: &Flow, i: &Instr) -> Turn
+fn step(machine: &mut Machine, flow: &Flow, i: &Instr) -> StepResult
     requires phase { machine.old.phase ≡ phase.Before }
     requires before { machine.old.state.at < 18446744073709551615 }
     requires room { length machine.old.state.values < machine.old.most_values }
     requires frames { machine.old.most_frames ≡ frames_below }
     requires arguments { TakesFewArguments flow.now i.now.step }
-    ensures { Comes flow.now i.now.place machine.old machine.new result (of_step flow.now machine.old.state i.now i.now.step) }
+    ensures { StepsTo flow.now i.now.place machine.old machine.new result (of_step flow.now machine.old.state i.now i.now.step) }
 {
     match i.step {
         Step::Compute(x) => compute(machine, i.line, x),
-        Step::Ask(x) => Turn::Asks(request(machine, i.line, x)),
+        Step::Ask(x) => StepResult::Asks(request(machine, i.line, x)),
         Step::Control(x) => control(machine, flow, i, x),
     }
 }
 
 // The end of the newest frame, with its result.
-fn leave(machine: &mut Machine, flow: &Flow, v: i64) -> Turn
+fn leave(machine: &mut Machine, flow: &Flow, v: i64) -> StepResult
     requires leaving { IsLeaving flow.now machine.old.state }
     requires room { length machine.old.state.values < machine.old.most_values }
-    ensures { (place : ℕ) → Comes flow.now place machine.old machine.new result (goes (Some (out machine.old.state.func)) (returns flow.now machine.old.state.values v machine.old.state.below)) }
+    ensures { (place : ℕ) → StepsTo flow.now place machine.old machine.new result (goes (Some (out machine.old.state.func)) (returns flow.now machine.old.state.values v machine.old.state.below)) }
 {
     machine.back(flow.sites(), v);
-    Turn::Goes(Some(Mark::Out))
+    StepResult::Goes(Some(Mark::Out))
 }
 
 /// One step. The machine stays where it is where the thread asks for something, or is to end.
-pub(crate) fn advance(machine: &mut Machine, flow: &Flow) -> Turn
+pub(crate) fn advance(machine: &mut Machine, flow: &Flow) -> StepResult
     requires lowered { IsLowered flow.now }
-    requires sound { IsSound flow.now (position machine.old) }
+    requires sound { IsSoundPosition flow.now (position machine.old) }
     requires room { HasRoom flow.now machine.old }
     ensures { Advances flow.now machine.old machine.new result }
 {
     match machine.phase() {
         Phase::Before => step(machine, flow, &flow.code()[machine.at()]),
         Phase::Leaves(v) => leave(machine, flow, v),
-        Phase::Over => Turn::Ends,
+        Phase::Over => StepResult::Ends,
     }
 }

@@ -7,11 +7,11 @@ ghost use Rattle.loom_event.specs.Answer.{IsAnswer, IsFunctionWith};
 ghost use Rattle.loom_strand.specs.declared.stage.Stage.TheVariants as stage;
 ghost use Rattle.loom_strand.specs.Strand.{IsNew, IsSame, IsStarted, HasOwnPart, Wants};
 
-use crate::answer::{answer_of, follow};
 use crate::machine::Machine;
+use crate::reply::{follow, reply_of};
 use crate::run::run;
 use crate::stage::{Birth, Stage, Want};
-use crate::turn::Stop;
+use crate::step_result::Stop;
 use crate::values::args_of;
 use loom_flow::flow::Flow;
 use loom_lang::program::Program;
@@ -44,7 +44,7 @@ impl Model for Strand {
     ghost use Rattle.std.specs.Coded.{codes};
     ghost use Rattle.loom_tree.specs.Code.{source_code};
     ghost use Rattle.loom_strand.specs.Strand.{Strand};
-    ghost use Rattle.loom_strand.specs.StrandInvariant.{IsKept};
+    ghost use Rattle.loom_strand.specs.StrandInvariant.{StrandInvariant};
 
     ghost Value = { Strand };
 
@@ -57,17 +57,17 @@ impl Model for Strand {
       birth = s.birth;
       entries = s.entries.items;
       wanted = s.wanted;
-      inside = record { stage = s.stage; passed = s.passed; machine = s.machine };
+      execution = record { stage = s.stage; passed = s.passed; machine = s.machine };
     } };
 
-    ghost invariant = { λ s. IsKept (record {
+    ghost invariant = { λ s. StrandInvariant (record {
       program = arc_value s.program;
       thread = s.thread;
       limit = vec_capacity s.entries;
       birth = s.birth;
       entries = s.entries.items;
       wanted = s.wanted;
-      inside = record { stage = s.stage; passed = s.passed; machine = s.machine };
+      execution = record { stage = s.stage; passed = s.passed; machine = s.machine };
     }) };
 }
 
@@ -133,7 +133,7 @@ impl Strand {
         requires started { IsStarted self.old.birth }
         requires program { flow.now.program ≡ self.old.program }
         ensures same { IsSame self.old self.old.birth self.old.entries self.new }
-        ensures over { self.new.wanted ≡ None → self.new.inside.stage ≡ stage.Over }
+        ensures over { self.new.wanted ≡ None → self.new.execution.stage ≡ stage.Over }
         ensures again { (q : Request) → self.old.wanted ≡ Some q → self.new.wanted ≡ Some q }
     {
         if self.wanted.is_some() {
@@ -172,7 +172,7 @@ impl Strand {
         };
         // the flat code is that of its program
         let _ = flow.code();
-        let (stage, passed) = follow(&mut self.machine, flow, birth, answer_of(&e));
+        let (stage, passed) = follow(&mut self.machine, flow, birth, reply_of(&e));
         self.stage = stage;
         self.passed = passed;
         self.wanted = None;

@@ -12,7 +12,7 @@ use crate::strand::Strand;
 use loom_flow::code::Entrance;
 use loom_flow::flow::Flow;
 use loom_flow::lower::lower;
-use loom_lang::limits::SOURCE_LIMIT;
+use loom_lang::limits::FILE_LIMIT;
 use loom_lang::parse::{LangError, parse_program};
 use loom_trace::entry::Entry;
 use loom_trace::line::Line;
@@ -25,7 +25,7 @@ use std::test::Fail;
 
 fn flow_of(alloc: Global, text: &str) -> Result<Flow, LangError> {
     let bytes = text.as_bytes();
-    if bytes.len() > SOURCE_LIMIT {
+    if bytes.len() > FILE_LIMIT {
         return Err(LangError::Refused);
     }
     Ok(lower(alloc, &parse_program(alloc, bytes)?)?)

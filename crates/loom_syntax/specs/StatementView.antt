@@ -2,7 +2,7 @@
 use Rattle.std.specs.Prelude.{ℕ, List, Option, Some, None}
 use Rattle.loom_tree.specs.Tree as tree
 use Rattle.loom_tree.specs.Tree.{Expression, expression_of, expressions_of, returned_of}
-use Rattle.loom_expression.specs.View.{reader_of}
+use Rattle.loom_expression.specs.ReaderView.{reader_of}
 use Rattle.loom_syntax.specs.declared.statement.Binding.{Binding}
 use Rattle.loom_syntax.specs.declared.statement.Binding.TheVariants as b
 use Rattle.loom_syntax.specs.declared.statement.Assignee as rust_target

@@ -3,7 +3,7 @@ ghost use Rattle.std.specs.Prelude.{◌≡◌, IfOk, Some};
 ghost use Rattle.loom_tree.specs.Tree as tree;
 ghost use Rattle.loom_tree.specs.Tree.{expression_of, expressions_of};
 ghost use Rattle.loom_expression.specs.Reader as expression;
-ghost use Rattle.loom_expression.specs.View.{reader_of};
+ghost use Rattle.loom_expression.specs.ReaderView.{reader_of};
 ghost use Rattle.loom_syntax.specs.TokenView.{token_of};
 ghost use Rattle.loom_syntax.specs.StatementView.{goal_of, next_if, next_of, part_if, part_of, purpose_of, simple_of, sync_of, assignee_of, test_of};
 ghost use Rattle.loom_syntax.specs.Part as m;

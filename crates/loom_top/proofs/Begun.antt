@@ -7,7 +7,7 @@ use Rattle.std.proofs.lemmas.Bool.{and_parts, eqb-true}
 use Rattle.loom_tree.specs.declared.item.Word.{Word}
 use Rattle.loom_tree.specs.Tree.{Function, Source}
 use Rattle.loom_lang.specs.Rules.{is_in, is_distinct, takes, shared_names, cells_of, cell_count, KeepsRules}
-use Rattle.loom_lang.specs.Numbers.{position, function_number}
+use Rattle.loom_lang.specs.Numbers.{index_of, function_number}
 use Rattle.loom_event.specs.Answer.{IsFunctionWith}
 use Rattle.loom_event.specs.Replay.{first_values}
 
@@ -32,7 +32,7 @@ taken_in (f ∷ fs) x n h = here (pointwise ◌==◌ f.name x) h (taken_in fs x 
 pub record IsFound (fs : List Function) (x : List ℕ) (n : ℕ) : Type 0 where
   pub number : ℕ
   pub function : Function
-  pub first : position x (names fs) ≡ Some number
+  pub first : index_of x (names fs) ≡ Some number
   pub is : slice_get fs number ≡ Some function
   pub params : length function.params ≡ n
 

@@ -13,7 +13,7 @@ use Rattle.loom_law.specs.Lawful.{IsLawful}
 use Rattle.loom_law.proofs.Lawful.{beginning}
 use Rattle.loom_law.proofs.Promises.{always_promises}
 use Rattle.loom_law.proofs.NoCommands.{none_unfinished, done_without, limit_without}
-use Rattle.loom_strand.specs.Entries.{has_none, has_ended}
+use Rattle.loom_strand.specs.Life.{has_none, has_ended}
 use Rattle.loom_top.specs.Answers.{plain, IsRunOf}
 use Rattle.loom_top.specs.OneThread.{main_store, IsOneThread}
 use Rattle.loom_event.proofs.Stops.{never_stopped}

@@ -11,14 +11,14 @@ use Rattle.loom_event.specs.Answer.{granted, trapped}
 use Rattle.loom_event.specs.Entries.{thread_of, is_thread, is_some_thread, thread_entries, is_over}
 use Rattle.loom_event.proofs.Stops.{never_stopped}
 use Rattle.loom_event.specs.Event.{Event, entry_by}
-use Rattle.loom_event.specs.Replay.{ThreadState, Store, start, thread_at, after, replay, IsAllowed}
+use Rattle.loom_event.specs.Replay.{ThreadState, Store, start, thread_at, after_event, replay, IsAllowed}
 use Rattle.loom_law.specs.Walk.{tick}
-use Rattle.loom_law.specs.Part.{Own, AsksToMake, AsksToAct}
-use Rattle.loom_law.specs.Control.{Command, Control, after_entry, takes, taken, taken_from, entries_of}
+use Rattle.loom_law.specs.ThreadPart.{Own, AsksToMake, AsksToAct}
+use Rattle.loom_law.specs.Control.{Command, Control, after_entry, takes_version, versions_of, versions_from, entries_of}
 use Rattle.loom_law.specs.Lawful.{Setting, front_of, plans, own, over, IsLawful}
 use Rattle.loom_law.specs.TurnLaws.{IsAnswered, event_of_deed}
 use Rattle.loom_law.proofs.NoCommands.{answer_without, tick_without, thread_unfinished}
-use Rattle.loom_strand.specs.Entries.{has_none, is_end, has_ended, versions_with}
+use Rattle.loom_strand.specs.Life.{has_none, is_end, has_ended, versions_with}
 use Rattle.loom_top.specs.Answers.{never, plain}
 use Rattle.loom_top.specs.OneThread.{main_store, main_own, IsOneThread}
 
@@ -49,23 +49,23 @@ count_last (y ∷ es) x h = go (is_some_thread (thread_of y)) (count_last es x h
     go true i = ap suc i
     go false i = i
 
-taken_last : (cs : List Command) (t : ℕ) (c : Control) (es : List Entry) (x : Entry) → takes t x ≡ false → taken_from cs t c (es ++ x ∷ []) ≡ taken_from cs t c es
+taken_last : (cs : List Command) (t : ℕ) (c : Control) (es : List Entry) (x : Entry) → takes_version t x ≡ false → versions_from cs t c (es ++ x ∷ []) ≡ versions_from cs t c es
 taken_last cs t c [] x h = rw h refl
-taken_last cs t c (y ∷ es) x h = go (takes t y) (taken_last cs t (after_entry cs c y) es x h)
+taken_last cs t c (y ∷ es) x h = go (takes_version t y) (taken_last cs t (after_entry cs c y) es x h)
   where
     rest : Control
     rest = after_entry cs c y
 
-    go : (b : Bool) → taken_from cs t rest (es ++ x ∷ []) ≡ taken_from cs t rest es
-        → (if b then Control.version c ∷ taken_from cs t rest (es ++ x ∷ []) else taken_from cs t rest (es ++ x ∷ [])) ≡ (if b then Control.version c ∷ taken_from cs t rest es else taken_from cs t rest es)
+    go : (b : Bool) → versions_from cs t rest (es ++ x ∷ []) ≡ versions_from cs t rest es
+        → (if b then Control.version c ∷ versions_from cs t rest (es ++ x ∷ []) else versions_from cs t rest (es ++ x ∷ [])) ≡ (if b then Control.version c ∷ versions_from cs t rest es else versions_from cs t rest es)
     go true i = ap (λ z. Control.version c ∷ z) i
     go false i = i
 
 -- the versions with one entry more: with the begin the first one, and later none
-pub first_taken : (l : ℕ) → taken [] 1 (e.Begin 1 l ∷ []) ≡ versions_with (e.Begin 1 l ∷ [])
+pub first_taken : (l : ℕ) → versions_of [] 1 (e.Begin 1 l ∷ []) ≡ versions_with (e.Begin 1 l ∷ [])
 first_taken l = refl
 
-pub more_taken : (es : List Entry) (x : Entry) → has_none es ≡ false → takes 1 x ≡ false → taken [] 1 es ≡ versions_with es → taken [] 1 (es ++ x ∷ []) ≡ versions_with (es ++ x ∷ [])
+pub more_taken : (es : List Entry) (x : Entry) → has_none es ≡ false → takes 1 x ≡ false → versions_of [] 1 es ≡ versions_with es → versions_of [] 1 (es ++ x ∷ []) ≡ versions_with (es ++ x ∷ [])
 more_taken [] x none not_it h = cc
 more_taken (y ∷ es) x none not_it h = taken_last [] 1 _ (y ∷ es) x not_it ∙ h
 
@@ -81,9 +81,9 @@ own_is : (p : Source) (f limit : ℕ) (es : List Entry) (vs : List ℤ) (s : IsO
     → own (plain p limit) es 1 (record { func = f; args = []; begun = begun; ended = ended }) ≡ main_own f es
 own_is p f limit es vs s begun ended = rw (s.own, s.versions) refl
 
-replay_last : (s : Store) (xs : List Event) (y : Event) → replay s (xs ++ y ∷ []) ≡ after (replay s xs) y
+replay_last : (s : Store) (xs : List Event) (y : Event) → replay s (xs ++ y ∷ []) ≡ after_event (replay s xs) y
 replay_last s [] y = refl
-replay_last s (x ∷ xs) y = replay_last (after s x) xs y
+replay_last s (x ∷ xs) y = replay_last (after_event s x) xs y
 
 twice : (p : Source) (f : ℕ) (vs : List ℤ) (b : Bool) → main_store p f vs (not (not b)) false ≡ main_store p f vs b false
 twice p f vs true = refl
@@ -97,9 +97,9 @@ store_before p f limit es vs s begun none lives = s.store ∙ rw (none, lives) (
 -- by an act
 pub act_goes : (p : Source) (f limit : ℕ) (es : List Entry) (vs us : List ℤ) (q : Request) (d : Deed) (begun : Bool) → (s : IsOneThread p f limit es vs) → length es < limit
     → has_none es ≡ not begun → has_ended es ≡ false → length us ≡ length vs → AsksToAct p (plans (plain p limit)) (main_own f es) q → IsAnswered q d
-    → thread_of (entry_by 1 d.line d.act) ≡ Some 1 → taken [] 1 (es ++ entry_by 1 d.line d.act ∷ []) ≡ versions_with (es ++ entry_by 1 d.line d.act ∷ [])
+    → thread_of (entry_by 1 d.line d.act) ≡ Some 1 → versions_of [] 1 (es ++ entry_by 1 d.line d.act ∷ []) ≡ versions_with (es ++ entry_by 1 d.line d.act ∷ [])
     → IsAllowed (main_store p f vs begun false) (event_of_deed 1 d)
-    → after (main_store p f vs begun false) (event_of_deed 1 d) ≡ main_store p f us true (is_end (entry_by 1 d.line d.act))
+    → after_event (main_store p f vs begun false) (event_of_deed 1 d) ≡ main_store p f us true (is_end (entry_by 1 d.line d.act))
     → IsOneThread p f limit (es ++ entry_by 1 d.line d.act ∷ []) us
 act_goes p f limit es vs us q d begun s few none lives cells asks answer by versions allowed leads =
     let x : Entry = entry_by 1 d.line d.act in
@@ -111,7 +111,7 @@ act_goes p f limit es vs us q d begun s few none lives cells asks answer by vers
     let more = answer_without (plain p limit) es s.lawful refl s.unfinished (not_over p f limit es vs s few) 1 z there q d theirs answer (subst (λ w. IsAllowed w y) (sym before) allowed) in
     record {
       lawful = more.0;
-      store = ap (replay (start p)) more.1 ∙ replay_last (start p) s.lawful.events y ∙ ap (λ w. after w y) before ∙ leads ∙ rw (some_more es x, ended_last es x) refl;
+      store = ap (replay (start p)) more.1 ∙ replay_last (start p) s.lawful.events y ∙ ap (λ w. after_event w y) before ∙ leads ∙ rw (some_more es x, ended_last es x) refl;
       cells = cells ∙ s.cells;
       own = own_last 1 es x (ap (is_thread 1) by) ∙ ap (λ w. w ++ x ∷ []) s.own;
       versions = versions;

@@ -2,7 +2,7 @@
 use Rattle.std.proofs.Common.{ℕ, ◌+◌, ◌<◌, ◌≤◌, ◌≡◌, ◌≢◌, ◌⊎◌, inl, inr, true, false, List, [], ◌∷◌, ◌++◌, codes, Option, Result, Ok, Err, OnErr, take, length, refl, sym, ap, subst, ◌∙◌, append-nil, arith}
 use Rattle.std.proofs.lemmas.List.{take_all, length-take}
 use Rattle.std.specs.Io.KnownBytes.{Appends}
-use Rattle.loom_io.specs.Fault.{Rose}
+use Rattle.loom_io.specs.FaultCount.{Rose}
 use Rattle.loom_io.specs.declared.shelf.ShelfError.{ShelfError}
 use Rattle.loom_io.specs.declared.shelf.ShelfError.TheVariants as error
 use Rattle.loom_io.specs.Shelf.{FileState, Untold, Missing, Present, IsRead}
@@ -20,16 +20,16 @@ use Rattle.loom_top.specs.declared.status.Status.{Status}
 use Rattle.loom_top.specs.declared.status.Status.TheVariants as status
 use Rattle.loom_top.specs.Runnable.{is_runnable}
 use Rattle.loom_top.specs.Code.{code, ended_as}
-use Rattle.loom_top.specs.Command.{Command, IsPlain, IsLimited, IsCommand}
-use Rattle.loom_lang.specs.Limits.{source_limit}
-use Rattle.loom_top.specs.Answers.{CanRun, CanEnd, IsRunOf, Call, FileOwes, CanBe, IsFileOf, Owes, Answers, IsValid, IsMissing, Put, FileEnds}
+use Rattle.loom_top.specs.Invocation.{Invocation, IsWithoutLimit, IsWithLimit, IsInvocation}
+use Rattle.loom_lang.specs.Limits.{file_limit}
+use Rattle.loom_top.specs.Answers.{CanRun, CanEnd, IsRunOf, Call, FileOwes, CanBe, IsFileOf, CallOwes, Answers, IsValid, IsMissing, Put, FileEnds}
 
 -- a text, and then a front of another
 pub front_after : (a b c : Option (List ℕ)) (x y : List ℕ) → Appends a b x → TookFront b c y → TookFront a c (x ++ y)
 front_after a b c x y h k = front_behind a b c [] [] x y (record { taken = x; appended = h; whole = sym (append-nil x) }) k
 
 -- what is owed and was put is what the call answers
-pub answered : (s : Call) (words : List (List ℕ)) (text : List ℕ) (owed result : Status) → Owes s words owed text
+pub answered : (s : Call) (words : List (List ℕ)) (text : List ℕ) (owed result : Status) → CallOwes s words owed text
     → Put s.taken_before s.taken_after s.sink_before s.sink_after text owed result → Answers s words result
 answered s words text owed result o (inr h) =
     let P : Status → Type 0 = λ z. Answers s words z in
@@ -38,7 +38,7 @@ answered s words text owed result o (inl h) =
     let P : Status → Type 0 = λ z. Answers s words z in
     subst P (sym h.0) (whole owed o)
   where
-    whole : (x : Status) → Owes s words x text → Answers s words x
+    whole : (x : Status) → CallOwes s words x text → Answers s words x
     whole status.Done k = (text, k, h.1)
     whole status.Usage k = (text, k, h.1)
     whole status.Refused k = (text, k, h.1)
@@ -48,8 +48,8 @@ answered s words text owed result o (inl h) =
     whole status.Limit k = (text, k, h.1)
     whole status.TooLong k = (text, k, h.1)
 
-pub owes_file : (s : Call) (words : List (List ℕ)) (a : Command) (file text : List ℕ) (owed : Status) → IsCommand words a → s.told a.name ≢ Missing → IsFileOf s a.name file
-    → length file ≤ source_limit → FileOwes file a.limit owed text → Owes s words owed text
+pub owes_file : (s : Call) (words : List (List ℕ)) (a : Invocation) (file text : List ℕ) (owed : Status) → IsInvocation words a → s.told a.name ≢ Missing → IsFileOf s a.name file
+    → length file ≤ file_limit → FileOwes file a.limit owed text → CallOwes s words owed text
 owes_file s words a file text status.Done c m t l o = (a, c, file, t, l, o)
 owes_file s words a file text status.Limit c m t l o = (a, c, file, t, l, o)
 owes_file s words a file text status.Refused c m t l o = (a, c, file, t, l, o)
@@ -59,13 +59,13 @@ owes_file s words a file text status.ReadFault c m t l o = absurd o
 owes_file s words a file text status.WriteFault c m t l o = absurd o
 owes_file s words a file text status.TooLong c m t l o = absurd o
 
-pub whole_file : (told : FileState) (bytes : List ℕ) → IsRead told source_limit bytes → length bytes ≤ source_limit → CanBe told bytes
+pub whole_file : (told : FileState) (bytes : List ℕ) → IsRead told file_limit bytes → length bytes ≤ file_limit → CanBe told bytes
 whole_file Untold bytes h l = tt
 whole_file Missing bytes h l = absurd h
 whole_file (Present file) bytes h l = sym (h ∙ take_all 65537 file (omega (arith, ap length h, l, length-take 65537 file)))
 
 -- A file with more bytes is told to be longer than a program.
-pub long_file : (told : FileState) (bytes : List ℕ) → IsRead told source_limit bytes → source_limit < length bytes → (file : List ℕ) × CanBe told file × (source_limit < length file)
+pub long_file : (told : FileState) (bytes : List ℕ) → IsRead told file_limit bytes → file_limit < length bytes → (file : List ℕ) × CanBe told file × (file_limit < length file)
 long_file Untold bytes h l = (bytes, tt, l)
 long_file Missing bytes h l = absurd h
 long_file (Present file) bytes h l = (file, refl, omega (arith, ap length h, l, length-take 65537 file))
@@ -75,22 +75,22 @@ pub other_error : {T : Type 0} {told : FileState} {x : ShelfError} → x ≡ err
 other_error is h e = let f = h e in cc
 
 -- A file that was read isn't missing.
-pub not_missing : (told : FileState) (bytes : List ℕ) → IsRead told source_limit bytes → told ≢ Missing
-not_missing told bytes h e = subst (λ (z : FileState). IsRead z source_limit bytes) e h
+pub not_missing : (told : FileState) (bytes : List ℕ) → IsRead told file_limit bytes → told ≢ Missing
+not_missing told bytes h e = subst (λ (z : FileState). IsRead z file_limit bytes) e h
 
-pub long_owes : (s : Call) (words : List (List ℕ)) (a : Command) (bytes : List ℕ) → IsCommand words a → IsRead (s.told a.name) source_limit bytes
-    → source_limit < length bytes → Owes s words status.TooLong (codes "too long: " ++ (a.name ++ codes "\n"))
+pub long_owes : (s : Call) (words : List (List ℕ)) (a : Invocation) (bytes : List ℕ) → IsInvocation words a → IsRead (s.told a.name) file_limit bytes
+    → file_limit < length bytes → CallOwes s words status.TooLong (codes "too long: " ++ (a.name ++ codes "\n"))
 long_owes s words a bytes c r l =
     let f = long_file (s.told a.name) bytes r l in
     (a, c, f.0, f.1, f.2, refl)
 
-pub long_answered : (s : Call) (words : List (List ℕ)) (a : Command) (bytes : List ℕ) (result : Status) → IsCommand words a → IsRead (s.told a.name) source_limit bytes
-    → source_limit < length bytes → Put s.taken_before s.taken_after s.sink_before s.sink_after (codes "too long: " ++ (a.name ++ codes "\n")) status.TooLong result → Answers s words result
+pub long_answered : (s : Call) (words : List (List ℕ)) (a : Invocation) (bytes : List ℕ) (result : Status) → IsInvocation words a → IsRead (s.told a.name) file_limit bytes
+    → file_limit < length bytes → Put s.taken_before s.taken_after s.sink_before s.sink_after (codes "too long: " ++ (a.name ++ codes "\n")) status.TooLong result → Answers s words result
 long_answered s words a bytes result c r l put =
     answered s words (codes "too long: " ++ (a.name ++ codes "\n")) status.TooLong result (long_owes s words a bytes c r l) put
 
-pub file_answered : (s : Call) (words : List (List ℕ)) (a : Command) (bytes : List ℕ) (result : Status) → IsCommand words a → IsRead (s.told a.name) source_limit bytes
-    → length bytes ≤ source_limit → FileEnds bytes a.limit s.taken_before s.taken_after s.sink_before s.sink_after result → Answers s words result
+pub file_answered : (s : Call) (words : List (List ℕ)) (a : Invocation) (bytes : List ℕ) (result : Status) → IsInvocation words a → IsRead (s.told a.name) file_limit bytes
+    → length bytes ≤ file_limit → FileEnds bytes a.limit s.taken_before s.taken_after s.sink_before s.sink_after result → Answers s words result
 file_answered s words a bytes result c r l e =
     answered s words e.1 e.0 result (owes_file s words a bytes e.1 e.0 c (not_missing (s.told a.name) bytes r) (whole_file (s.told a.name) bytes r l) l e.2) e.3
 
@@ -108,16 +108,16 @@ run_owes file limit p journal k.Stopped c r = absurd (other_end k.Stopped (λ e.
 
 -- Completeness
 
-pub one_name : (words : List (List ℕ)) (a b : Command) → IsCommand words a → IsCommand words b → a.name ≡ b.name
+pub one_name : (words : List (List ℕ)) (a b : Invocation) → IsInvocation words a → IsInvocation words b → a.name ≡ b.name
 one_name words a b h k = by_forms h.form k.form
   where
-    plain : Command → List (List ℕ)
+    plain : Invocation → List (List ℕ)
     plain c = codes "run" ∷ c.name ∷ []
 
-    limited : Command → List (List ℕ)
+    limited : Invocation → List (List ℕ)
     limited c = codes "run" ∷ c.name ∷ codes "--steps" ∷ decimal c.limit ∷ []
 
-    by_forms : IsPlain words a ⊎ IsLimited words a → IsPlain words b ⊎ IsLimited words b → a.name ≡ b.name
+    by_forms : IsWithoutLimit words a ⊎ IsWithLimit words a → IsWithoutLimit words b ⊎ IsWithLimit words b → a.name ≡ b.name
     by_forms (inl x) (inl y) = let e : plain a ≡ plain b = sym x.is ∙ y.is in cc
     by_forms (inl x) (inr y) = let e : plain a ≡ limited b = sym x.is ∙ y.is in cc
     by_forms (inr x) (inl y) = let e : limited a ≡ plain b = sym x.is ∙ y.is in cc
@@ -127,25 +127,25 @@ pub told_one : (s : Call) (a b : List ℕ) (state : FileState) (file : List ℕ)
 told_one s a b state file e is h = subst (λ (z : FileState). CanBe z file) (ap s.told e ∙ is) h
 
 -- no bytes can be those of a missing file
-none_told : (s : Call) (words : List (List ℕ)) → IsMissing s words → (c : Command) → IsCommand words c → (file : List ℕ) → IsFileOf s c.name file → ⊥
-none_told s words v c asks file is = told_one s c.name v.command.name Missing file (one_name words c v.command asks v.asks) v.told is
+none_told : (s : Call) (words : List (List ℕ)) → IsMissing s words → (c : Invocation) → IsInvocation words c → (file : List ℕ) → IsFileOf s c.name file → ⊥
+none_told s words v c asks file is = told_one s c.name v.invocation.name Missing file (one_name words c v.invocation asks v.asks) v.told is
 
 pub complete : (s : Call) (words : List (List ℕ)) (x : Status) → Answers s words x → IsValid s words → (code x ≡ 0) ⊎ ((code x ≡ 8) ⊎ (code x ≡ 6))
 complete s words status.Done h v = inl refl
 complete s words status.Limit h v = inr (inl refl)
 complete s words status.NoMemory h v = inr (inr refl)
-complete s words status.Usage h v = absurd (h.1.0 v.command v.asks)
+complete s words status.Usage h v = absurd (h.1.0 v.invocation v.asks)
 complete s words status.ReadFault h v =
     let o = h.1 in
     let P : List ℕ → Type 0 = λ z. Rose (s.faults_before z) (s.faults_after z) in
-    absurd (v.read (subst P (one_name words o.0 v.command o.1 v.asks) o.2))
+    absurd (v.read (subst P (one_name words o.0 v.invocation o.1 v.asks) o.2))
 complete s words status.TooLong h v =
     let o = h.1 in
-    let same = told_one s o.0.name v.command.name (Present v.file) o.2 (one_name words o.0 v.command o.1 v.asks) v.told o.3 in
+    let same = told_one s o.0.name v.invocation.name (Present v.file) o.2 (one_name words o.0 v.invocation o.1 v.asks) v.told o.3 in
     absurd (omega (arith, ap length same, o.4, v.small))
 complete s words status.Refused h v =
     let o = h.1 in
-    let same = told_one s o.0.name v.command.name (Present v.file) o.2 (one_name words o.0 v.command o.1 v.asks) v.told o.3 in
+    let same = told_one s o.0.name v.invocation.name (Present v.file) o.2 (one_name words o.0 v.invocation o.1 v.asks) v.told o.3 in
     let P : List ℕ → Type 0 = λ z. CanRun z v.program in
     absurd (o.5.0 v.program (subst P same v.runs))
 complete s words status.WriteFault h v = absurd (v.written h.0)
@@ -154,8 +154,8 @@ complete s words status.WriteFault h v = absurd (v.written h.0)
 pub only_fault : (s : Call) (words : List (List ℕ)) (x : Status) → Answers s words x → IsMissing s words → (code x ≡ 4) ⊎ (code x ≡ 5)
 only_fault s words status.ReadFault h v = inl refl
 only_fault s words status.WriteFault h v = inr refl
-only_fault s words status.Usage h v = absurd (h.1.0 v.command v.asks)
-only_fault s words status.NoMemory h v = absurd (h.1.2 (ap s.told (one_name words h.1.0 v.command h.1.1 v.asks) ∙ v.told))
+only_fault s words status.Usage h v = absurd (h.1.0 v.invocation v.asks)
+only_fault s words status.NoMemory h v = absurd (h.1.2 (ap s.told (one_name words h.1.0 v.invocation h.1.1 v.asks) ∙ v.told))
 only_fault s words status.Done h v = absurd (none_told s words v h.1.0 h.1.1 h.1.2 h.1.3)
 only_fault s words status.Limit h v = absurd (none_told s words v h.1.0 h.1.1 h.1.2 h.1.3)
 only_fault s words status.Refused h v = absurd (none_told s words v h.1.0 h.1.1 h.1.2 h.1.3)

@@ -14,13 +14,13 @@ use Rattle.loom_event.specs.Answer.{IsAnswerTo, HasNumbers}
 use Rattle.loom_event.specs.Event.{entry_by}
 use Rattle.loom_event.specs.Replay.{IsRunning}
 use Rattle.loom_law.specs.Walk.{Plans, tick}
-use Rattle.loom_law.specs.Part.{AsksToMake, AsksToAct}
+use Rattle.loom_law.specs.ThreadPart.{AsksToMake, AsksToAct}
 use Rattle.loom_law.specs.Lawful.{plans}
-use Rattle.loom_strand.specs.Entries.{asks_begin, has_none, has_ended}
+use Rattle.loom_strand.specs.Life.{asks_begin, has_none, has_ended}
 use Rattle.loom_strand.specs.Alone.{has_one_thread, NeedsNoOther}
 use Rattle.loom_strand.specs.Strand.{AsksNext}
 use Rattle.loom_top.specs.Runnable.{is_nil, is_runnable}
-use Rattle.loom_top.specs.Turn.{AsksAlone, IsGranted}
+use Rattle.loom_top.specs.Grant.{AsksAlone, IsGranted}
 use Rattle.loom_top.specs.Answers.{plain}
 use Rattle.loom_top.specs.OneThread.{main_store, main_own, IsOneThread}
 use Rattle.loom_top.proofs.OneThread.{first_taken, more_taken, act_goes, tick_goes}

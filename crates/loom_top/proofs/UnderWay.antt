@@ -10,16 +10,16 @@ use Rattle.loom_trace.specs.declared.request.Request.TheVariants as r
 use Rattle.loom_trace.specs.Journal.{Contents}
 use Rattle.loom_event.specs.Replay.{start}
 use Rattle.loom_event.specs.Answer.{HasNumbers, IsAnswer}
-use Rattle.loom_law.specs.Part.{Own}
+use Rattle.loom_law.specs.ThreadPart.{Own}
 use Rattle.loom_strand.specs.declared.stage.Birth.{Birth}
 use Rattle.loom_strand.specs.declared.stage.Want.{Want}
 use Rattle.loom_strand.specs.declared.stage.Want.TheVariants as want
 use Rattle.loom_strand.specs.Alone.{has_one_thread, NeedsNoOther}
-use Rattle.loom_strand.specs.Entries.{asks_begin, has_none, has_ended, versions_with}
+use Rattle.loom_strand.specs.Life.{asks_begin, has_none, has_ended, versions_with}
 use Rattle.loom_strand.specs.Strand.{Strand, IsNew, IsSame, own_of, AsksNext, Requests, IsOver, Wants}
 use Rattle.loom_top.specs.Runnable.{is_runnable}
 use Rattle.loom_top.specs.Answers.{IsRunOf}
-use Rattle.loom_top.specs.Turn.{AsksAlone, IsGranted}
+use Rattle.loom_top.specs.Grant.{AsksAlone, IsGranted}
 use Rattle.loom_top.specs.OneThread.{main_own, IsOneThread, IsUnderWay}
 use Rattle.loom_top.proofs.Begun.{many_cells}
 use Rattle.loom_top.proofs.Turns.{asks_alone, answers, turn_goes}

@@ -1,7 +1,7 @@
 -- What the top call answers, and what it writes.
 use Rattle.std.specs.Prelude.{ℕ, ◌<◌, ◌≤◌, ◌≡◌, ◌≢◌, ◌⊎◌, Bool, true, false, List, [], ◌++◌, codes, length, Option}
 use Rattle.std.specs.Io.KnownBytes.{Appends}
-use Rattle.loom_io.specs.Fault.{Rose}
+use Rattle.loom_io.specs.FaultCount.{Rose}
 use Rattle.loom_io.specs.Shelf.{FileState, Untold, Missing, Present}
 use Rattle.loom_io.specs.Sink.{TookFront}
 use Rattle.loom_tree.specs.Tree.{Source}
@@ -9,14 +9,14 @@ use Rattle.loom_trace.specs.declared.entry.Entry.{Entry}
 use Rattle.loom_trace.specs.declared.entry.Ending.{Ending}
 use Rattle.loom_trace.specs.declared.entry.Ending.TheVariants as k
 use Rattle.loom_trace.specs.Text.{journal_text}
-use Rattle.loom_lang.specs.Limits.{source_limit}
+use Rattle.loom_lang.specs.Limits.{file_limit}
 use Rattle.loom_lang.specs.Program.{IsProgram}
 use Rattle.loom_event.specs.Entries.{IsFinished}
 use Rattle.loom_law.specs.Lawful.{Setting, IsLawful}
 use Rattle.loom_law.specs.Promises.{Promises}
 use Rattle.loom_top.specs.declared.status.Status.{Status}
 use Rattle.loom_top.specs.declared.status.Status.TheVariants as status
-use Rattle.loom_top.specs.Command.{Command, IsCommand}
+use Rattle.loom_top.specs.Invocation.{Invocation, IsInvocation}
 use Rattle.loom_top.specs.Runnable.{is_runnable}
 
 -- Files and programs
@@ -93,44 +93,44 @@ abbrev pub IsFileOf : Call → List ℕ → List ℕ → Type 0
 IsFileOf s name file = CanBe (s.told name) file
 
 -- The same, where the words ask for a run of a file that the shelf tells, and it is no longer than a program may be.
-abbrev pub CommandOwes : Call → List (List ℕ) → Status → List ℕ → Type 0
-CommandOwes s words x text = (c : Command) × IsCommand words c × (file : List ℕ) × IsFileOf s c.name file × (length file ≤ source_limit) × FileOwes file c.limit x text
+abbrev pub InvocationOwes : Call → List (List ℕ) → Status → List ℕ → Type 0
+InvocationOwes s words x text = (c : Invocation) × IsInvocation words c × (file : List ℕ) × IsFileOf s c.name file × (length file ≤ file_limit) × FileOwes file c.limit x text
 
 -- What the call is to write, and with which status. It tests the words, the read, the length, the program and the run, in this order.
-abbrev pub Owes : Call → List (List ℕ) → Status → List ℕ → Type 0
-Owes s words status.Usage text = ((c : Command) → IsCommand words c → ⊥) × (text ≡ codes "usage\n")
-Owes s words status.ReadFault text =
-    (c : Command) × IsCommand words c × Rose (s.faults_before c.name) (s.faults_after c.name) × (text ≡ codes "read fault: " ++ (c.name ++ codes "\n"))
-Owes s words status.TooLong text =
-    (c : Command) × IsCommand words c × (file : List ℕ) × IsFileOf s c.name file × (source_limit < length file) × (text ≡ codes "too long: " ++ (c.name ++ codes "\n"))
-Owes s words status.Refused text = CommandOwes s words status.Refused text
-Owes s words status.NoMemory text = (c : Command) × IsCommand words c × (s.told c.name ≢ Missing) × (text ≡ codes "no memory\n")
-Owes s words status.Done text = CommandOwes s words status.Done text
-Owes s words status.Limit text = CommandOwes s words status.Limit text
-Owes s words status.WriteFault text = ⊥
+abbrev pub CallOwes : Call → List (List ℕ) → Status → List ℕ → Type 0
+CallOwes s words status.Usage text = ((c : Invocation) → IsInvocation words c → ⊥) × (text ≡ codes "usage\n")
+CallOwes s words status.ReadFault text =
+    (c : Invocation) × IsInvocation words c × Rose (s.faults_before c.name) (s.faults_after c.name) × (text ≡ codes "read fault: " ++ (c.name ++ codes "\n"))
+CallOwes s words status.TooLong text =
+    (c : Invocation) × IsInvocation words c × (file : List ℕ) × IsFileOf s c.name file × (file_limit < length file) × (text ≡ codes "too long: " ++ (c.name ++ codes "\n"))
+CallOwes s words status.Refused text = InvocationOwes s words status.Refused text
+CallOwes s words status.NoMemory text = (c : Invocation) × IsInvocation words c × (s.told c.name ≢ Missing) × (text ≡ codes "no memory\n")
+CallOwes s words status.Done text = InvocationOwes s words status.Done text
+CallOwes s words status.Limit text = InvocationOwes s words status.Limit text
+CallOwes s words status.WriteFault text = ⊥
 
 -- What a call did: it wrote all that it was to write, or the sink failed behind a front of that.
 abbrev pub Answers : Call → List (List ℕ) → Status → Type 0
-Answers s words status.WriteFault = Rose s.sink_before s.sink_after × (owed : Status) × (text : List ℕ) × Owes s words owed text × TookFront s.taken_before s.taken_after text
-Answers s words x = (text : List ℕ) × Owes s words x text × Appends s.taken_before s.taken_after text
+Answers s words status.WriteFault = Rose s.sink_before s.sink_after × (owed : Status) × (text : List ℕ) × CallOwes s words owed text × TookFront s.taken_before s.taken_after text
+Answers s words x = (text : List ℕ) × CallOwes s words x text × Appends s.taken_before s.taken_after text
 
 -- The words name a file that the shelf tells, and it is a program; no count rose.
 pub record IsValid (s : Call) (words : List (List ℕ)) : Type 0 where
-  pub command : Command
-  pub asks : IsCommand words command
+  pub invocation : Invocation
+  pub asks : IsInvocation words invocation
   pub file : List ℕ
-  pub told : s.told command.name ≡ Present file
-  pub small : length file ≤ source_limit
+  pub told : s.told invocation.name ≡ Present file
+  pub small : length file ≤ file_limit
   pub program : Source
   pub runs : CanRun file program
-  pub read : Rose (s.faults_before command.name) (s.faults_after command.name) → ⊥
+  pub read : Rose (s.faults_before invocation.name) (s.faults_after invocation.name) → ⊥
   pub written : Rose s.sink_before s.sink_after → ⊥
 
 -- The words name a file that the shelf tells to be missing.
 pub record IsMissing (s : Call) (words : List (List ℕ)) : Type 0 where
-  pub command : Command
-  pub asks : IsCommand words command
-  pub told : s.told command.name ≡ Missing
+  pub invocation : Invocation
+  pub asks : IsInvocation words invocation
+  pub told : s.told invocation.name ≡ Missing
 
 -- What a writer of one text leaves: all of it and its status, or a fault of the sink behind a front of the text.
 abbrev pub Put : Option (List ℕ) → Option (List ℕ) → ℕ → ℕ → List ℕ → Status → Status → Type 0

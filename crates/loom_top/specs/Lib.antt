@@ -1,6 +1,6 @@
 pub mod Runnable
-pub mod Turn
+pub mod Grant
 pub mod OneThread
-pub mod Command
+pub mod Invocation
 pub mod Code
 pub mod Answers

@@ -5,12 +5,12 @@ use Rattle.loom_lang.specs.Rules.{cell_count}
 use Rattle.loom_trace.specs.declared.entry.Entry.{Entry}
 use Rattle.loom_event.specs.Entries.{thread_entries}
 use Rattle.loom_event.specs.Replay.{Store, start, replay}
-use Rattle.loom_law.specs.Part.{Own}
-use Rattle.loom_law.specs.Control.{taken, entries_of}
+use Rattle.loom_law.specs.ThreadPart.{Own}
+use Rattle.loom_law.specs.Control.{versions_of, entries_of}
 use Rattle.loom_law.specs.Lawful.{IsLawful}
 use Rattle.loom_law.specs.Laws.{IsUnfinished}
 use Rattle.loom_trace.specs.Journal.{Contents}
-use Rattle.loom_strand.specs.Entries.{has_none, has_ended, versions_with}
+use Rattle.loom_strand.specs.Life.{has_none, has_ended, versions_with}
 use Rattle.loom_strand.specs.Strand.{Strand}
 use Rattle.loom_top.specs.Answers.{plain}
 
@@ -33,7 +33,7 @@ pub record IsOneThread (p : Source) (f limit : ℕ) (es : List Entry) (vs : List
   pub store : replay (start p) lawful.events ≡ main_store p f vs (not (has_none es)) (has_ended es)
   pub cells : length vs ≡ cell_count p.words
   pub own : entries_of 1 es ≡ es
-  pub versions : taken [] 1 es ≡ versions_with es
+  pub versions : versions_of [] 1 es ≡ versions_with es
   pub count : thread_entries es ≡ length es
   pub unfinished : IsUnfinished es
 

@@ -1,18 +1,18 @@
 //! The top call.
 ghost use Rattle.std.specs.Prelude.{◌≡◌, ◌≤◌, ◌++◌, ◌⊎◌, List, ℕ, map, IfOk, OnOk, OnErr, length, codes};
 ghost use Rattle.std.specs.Io.KnownBytes.{Appends};
-ghost use Rattle.loom_io.specs.Fault.{Rose};
+ghost use Rattle.loom_io.specs.FaultCount.{Rose};
 ghost use Rattle.loom_io.specs.Sink.{TookFront};
 ghost use Rattle.loom_trace.specs.Text.{journal_text};
 ghost use Rattle.loom_tree.specs.Tree.{Source};
 ghost use Rattle.loom_top.specs.declared.status.Status.{Status};
-ghost use Rattle.loom_lang.specs.Limits.{source_limit};
+ghost use Rattle.loom_lang.specs.Limits.{file_limit};
 ghost use Rattle.loom_top.specs.Code.{code, ended_as};
-ghost use Rattle.loom_top.specs.Command.{largest_limit};
+ghost use Rattle.loom_top.specs.Invocation.{largest_limit};
 ghost use Rattle.loom_top.specs.Answers.{CanEnd, CanRun, IsRunOf, Put, FileEnds, call_of, Answers, IsValid, IsMissing};
 
 use crate::code::{code_of, status_of};
-use crate::command::command_of;
+use crate::invocation::invocation_of;
 use crate::run::run;
 use crate::runnable::is_runnable;
 use crate::status::Status;
@@ -21,7 +21,7 @@ use loom_flow::lower::lower;
 use loom_io::shelf::{Shelf, ShelfError};
 use loom_io::sink::{Sink, SinkFailed};
 use loom_io::whole::put_all;
-use loom_lang::limits::SOURCE_LIMIT;
+use loom_lang::limits::FILE_LIMIT;
 use loom_lang::parse::{LangError, parse_program};
 use loom_trace::entry::Ending;
 use loom_trace::journal::Journal;
@@ -74,7 +74,7 @@ fn put_run<K: Sink>(sink: &mut K, journal: &Journal, ending: Ending) -> Status
 
 // The run of the program that the bytes are, with at most `limit` entries of its thread.
 fn run_of(alloc: Global, file: &[u8], limit: u32) -> Result<(Journal, Ending), LangError>
-    requires small { length file.now ≤ source_limit }
+    requires small { length file.now ≤ file_limit }
     requires least { 1 ≤ limit }
     requires limit { limit ≤ largest_limit }
     ensures ran { IfOk result (λ r. (p : Source) × CanRun file.now p × IsRunOf p limit r.1 r.0.entries) }
@@ -95,7 +95,7 @@ fn run_of(alloc: Global, file: &[u8], limit: u32) -> Result<(Journal, Ending), L
 
 // Runs a program's bytes, and writes what its journal says.
 fn run_file<K: Sink>(alloc: Global, file: &[u8], limit: u32, sink: &mut K) -> Status
-    requires small { length file.now ≤ source_limit }
+    requires small { length file.now ≤ file_limit }
     requires least { 1 ≤ limit }
     requires limit { limit ≤ largest_limit }
     ensures later { K.faults sink.old ≤ K.faults sink.new }
@@ -113,22 +113,22 @@ fn answer<F: Shelf, K: Sink>(alloc: Global, words: &[&str], shelf: &mut F, sink:
     ensures later { K.faults sink.old ≤ K.faults sink.new }
     ensures answers { Answers (call_of F.told F.faults K.taken K.faults shelf.old shelf.new sink.old sink.new) (map (λ w. w.now) words.now) result }
 {
-    let Some(command) = command_of(words) else {
+    let Some(invocation) = invocation_of(words) else {
         return put_text(sink, b"usage\n", Status::Usage);
     };
-    match shelf.read(alloc, command.name, SOURCE_LIMIT) {
+    match shelf.read(alloc, invocation.name, FILE_LIMIT) {
         Err(ShelfError::NoMemory) => put_text(sink, b"no memory\n", Status::NoMemory),
         Err(ShelfError::Failed) => put_named(
             sink,
             b"read fault: ",
-            command.name,
+            invocation.name,
             Status::ReadFault,
         ),
         Ok(file) => {
-            if file.bytes().len() > SOURCE_LIMIT {
-                put_named(sink, b"too long: ", command.name, Status::TooLong)
+            if file.bytes().len() > FILE_LIMIT {
+                put_named(sink, b"too long: ", invocation.name, Status::TooLong)
             } else {
-                run_file(alloc, file.bytes(), command.limit, sink)
+                run_file(alloc, file.bytes(), invocation.limit, sink)
             }
         }
     }
@@ -138,7 +138,7 @@ fn answer<F: Shelf, K: Sink>(alloc: Global, words: &[&str], shelf: &mut F, sink:
 /// `run PROG` or `run PROG --steps B`, where B, from 1 to 1,000,000 in decimal, is how many thread entries the run has at most; without
 /// it they are 100,000. What it answers is the status with which the program ends:
 ///
-/// 0 the run is done and its text was written; 1 the words are no command; 2 the file is no program that can be run; 4 the shelf could not
+/// 0 the run is done and its text was written; 1 the words are no invocation; 2 the file is no program that can be run; 4 the shelf could not
 /// read the file; 5 the sink could not take the text, and took a front of it; 6 memory ran out before the run began; 8 the run has as many
 /// thread entries as it may have, and its text was written; 10 the file has more than 65,536 bytes.
 ///

@@ -3,7 +3,7 @@
 
 pub mod alone;
 mod code;
-mod command;
+mod invocation;
 mod run;
 mod runnable;
 mod start;

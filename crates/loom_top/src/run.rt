@@ -3,8 +3,8 @@ ghost use Rattle.std.specs.Prelude.{ℕ, ℤ, ◌≡◌, ◌<◌, ◌≤◌, ◌
 ghost use Rattle.loom_trace.specs.declared.entry.Entry.TheVariants as e;
 ghost use Rattle.loom_top.specs.Runnable.{is_runnable};
 ghost use Rattle.loom_top.specs.Answers.{IsRunOf};
-ghost use Rattle.loom_top.specs.Command.{largest_limit};
-ghost use Rattle.loom_top.specs.Turn.{AsksAlone, IsGranted};
+ghost use Rattle.loom_top.specs.Invocation.{largest_limit};
+ghost use Rattle.loom_top.specs.Grant.{AsksAlone, IsGranted};
 ghost use Rattle.loom_top.specs.OneThread.{IsUnderWay};
 
 use crate::start::{first_words, main_number};

@@ -5,7 +5,7 @@
 pub enum Status {
     /// The program ran to its end, and the text of its journal was written.
     Done,
-    /// The words are no command.
+    /// The words are no invocation.
     Usage,
     /// The file is no program that can be run.
     Refused,

@@ -131,7 +131,7 @@ fn tells_other_limits(rt: HostRuntime) -> Result<(), Fail> {
     Ok(())
 }
 
-// The words are tested first: where they are a command, the file is missed.
+// The words are tested first: where they are an invocation, the file is missed.
 #[test]
 fn takes_limits(rt: HostRuntime) -> Result<(), Fail> {
     for limit in ["1", "9", "10", "100000", "999999", "1000000"] {
@@ -191,7 +191,7 @@ fn tells_a_write_fault(rt: HostRuntime) -> Result<(), Fail> {
 }
 
 // The file that the words name is read once, with the limit of a program, and no other file; none
-// is, where they are no command.
+// is, where they are no invocation.
 #[test]
 fn reads_the_file_alone(rt: HostRuntime) -> Result<(), Fail> {
     let rows: [(&[&str], u32); 3] = [

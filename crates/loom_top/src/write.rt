@@ -1,7 +1,7 @@
 //! Writes a journal's text.
 ghost use Rattle.std.specs.Prelude.{◌≤◌, [], ◌∷◌, ◌++◌, length, map, OnOk, OnErr};
 ghost use Rattle.std.specs.Io.KnownBytes.{Appends};
-ghost use Rattle.loom_io.specs.Fault.{Rose};
+ghost use Rattle.loom_io.specs.FaultCount.{Rose};
 ghost use Rattle.loom_io.specs.Sink.{TookFront};
 ghost use Rattle.loom_io.specs.Page.{PageTook};
 ghost use Rattle.loom_tree.specs.Lines.{ended};

@@ -10,7 +10,7 @@ use Rattle.loom_trace.specs.declared.entry.Entry.{Entry}
 use Rattle.loom_trace.specs.declared.entry.Entry.TheVariants as e
 use Rattle.loom_tree.specs.Decimal.{decimal}
 use Rattle.loom_trace.specs.Text.{thread_at, what_fields, ending_word}
-use Rattle.loom_trace.specs.Parts.{place_of, word_of, fields_of}
+use Rattle.loom_trace.specs.Parts.{thread_and_line, word_of, fields_of}
 use Rattle.loom_trace.proofs.Numbers.{number, signed_number, Digits, digits_told, number_told, signed_told, numbers_told, values_told}
 
 -- the fields of a line: where a thread does something, the word, and the fields behind it
@@ -19,7 +19,7 @@ behind_place None fs = fs
 behind_place (Some place) fs = thread_at place.0 place.1 ∷ fs
 
 abbrev pub line_fields : Entry → List (List ℕ)
-line_fields x = behind_place (place_of x) (word_of x ∷ fields_of x)
+line_fields x = behind_place (thread_and_line x) (word_of x ∷ fields_of x)
 
 -- what stands before the first colon, and what behind it
 abbrev pub has_colon : List ℕ → Bool

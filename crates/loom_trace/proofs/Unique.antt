@@ -11,7 +11,7 @@ use Rattle.loom_trace.specs.declared.entry.Entry.TheVariants as e
 use Rattle.loom_tree.specs.Decimal.{decimal, signed_decimal}
 use Rattle.loom_tree.specs.Lines.{ended}
 use Rattle.loom_trace.specs.Text.{spaced, what_fields, ending_word, entry_line, printed_line, printed_lines, journal_lines, journal_text}
-use Rattle.loom_trace.specs.Parts.{place_of, word_of, fields_of}
+use Rattle.loom_trace.specs.Parts.{thread_and_line, word_of, fields_of}
 use Rattle.loom_trace.proofs.Cut.{Each, Stops, one_cut, same_rest, each_append, above, each_weaker}
 use Rattle.loom_trace.proofs.Numbers.{Digits, digits_told, each_decimal, each_signed}
 use Rattle.loom_trace.proofs.Told.{behind_place, line_fields, entry_of, entry_told}
@@ -127,7 +127,7 @@ plain_place None fs h = h
 plain_place (Some p) fs h = (each_append (above 32) (decimal p.0) (58 ∷ decimal p.1) (plain_number p.0) (refl, plain_number p.1), h)
 
 plain_line : (x : Entry) → AllAbove 32 (line_fields x)
-plain_line x = plain_place (place_of x) (word_of x ∷ fields_of x) (each_tested 32 (word_of x) (plain_word x), plain_fields x)
+plain_line x = plain_place (thread_and_line x) (word_of x ∷ fields_of x) (each_tested 32 (word_of x) (plain_word x), plain_fields x)
 
 -- the line of an entry is its fields
 line_spaced : (x : Entry) → spaced (line_fields x) ≡ 32 ∷ entry_line x

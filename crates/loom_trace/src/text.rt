@@ -2,7 +2,7 @@
 ghost use Rattle.std.specs.Prelude.{◌≡◌, ◌+◌, ◌*◌, ◌<◌, ◌≤◌, [], ◌∷◌, ◌++◌, length, map};
 ghost use Rattle.loom_tree.specs.Decimal.{decimal, signed_decimal};
 ghost use Rattle.loom_trace.specs.Text.{spaced, what_fields, ending_word, entry_line};
-ghost use Rattle.loom_trace.specs.Parts.{thread_before, place_of, before, word_of, fields_of};
+ghost use Rattle.loom_trace.specs.Parts.{thread_before, thread_and_line, before, word_of, fields_of};
 
 use crate::entry::{Ending, Entry, What};
 use crate::line::Line;
@@ -156,8 +156,8 @@ fn word_of(e: &Entry) -> &'static [u8]
 }
 
 // The thread and the line of what a thread does.
-fn place_of(e: &Entry) -> Option<(u8, u32)>
-    ensures { result ≡ place_of e.now }
+fn thread_and_line(e: &Entry) -> Option<(u8, u32)>
+    ensures { result ≡ thread_and_line e.now }
 {
     match e {
         Entry::Begin { thread, line } => Some((*thread, *line)),
@@ -253,7 +253,7 @@ pub fn put_entry(e: &Entry, line: &mut Line)
     ensures { line.new ≡ entry_line e.now }
 {
     line.clear();
-    put_before(place_of(e), line);
+    put_before(thread_and_line(e), line);
     line.add(word_of(e));
     put_fields(e, line);
 }

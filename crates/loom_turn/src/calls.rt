@@ -71,7 +71,7 @@ impl<T: Fits> Turn<T> {
 
     /// Draws a ticket for the seat, waits until it is served, and takes the value.
     ///
-    /// The value has the label that the seat carries. If it returns, the seat has the turn.
+    /// The value's label is that of the seat. If it returns, the seat has the turn.
     pub fn take<R: Wait>(&self, rt: &R, seat: &mut Seat<T>) -> T
         requires seat { IsSeatOf T.label self.now seat.old }
         requires idle { IsIdle seat.old }

@@ -3,7 +3,7 @@ use Rattle.loom_tree.specs.declared.token.Token as rust
 use Rattle.loom_tree.specs.declared.token.TokenKind.TheVariants as k
 use Rattle.loom_expression.specs.Reader as m
 use Rattle.loom_expression.specs.ExpressionError.{token_of}
-use Rattle.loom_expression.specs.View.{expression_if, reader_if, reader_of}
+use Rattle.loom_expression.specs.ReaderView.{expression_if, reader_if, reader_of}
 use Rattle.loom_expression.proofs.Refusal.{took_one, refused_at, refused_last, finished_last}
 use Rattle.loom_expression.proofs.expression.read_expression.Goals as goal
 

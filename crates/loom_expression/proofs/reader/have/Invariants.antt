@@ -1,6 +1,6 @@
 use Rattle.std.proofs.Common.{◌≡◌, vec_len}
 use Rattle.loom_tree.specs.Tree.{expression_of}
-use Rattle.loom_expression.specs.View.{size_of, stack_of}
+use Rattle.loom_expression.specs.ReaderView.{size_of, stack_of}
 use Rattle.loom_expression.specs.Reader as m
 use Rattle.loom_expression.proofs.reader.have.Given as goal
 

@@ -3,7 +3,7 @@ use Rattle.loom_flow.specs.State.{operand, without}
 use Rattle.loom_flow.specs.Question.{write}
 use Rattle.loom_flow.specs.Progress.{asks_act, of_ask}
 use Rattle.loom_trace.specs.declared.request.Request.TheVariants as r
-use Rattle.loom_strand.specs.Question.{IsAskedBy}
+use Rattle.loom_strand.specs.PositionRequest.{IsAskedBy}
 use Rattle.loom_strand.proofs.Cells.{asked_cell}
 use Rattle.loom_strand.proofs.ask.request.Goals as goal
 

@@ -3,7 +3,7 @@ use Rattle.std.proofs.lemmas.Int.{to_z-of_z}
 use Rattle.std.proofs.lemmas.Option.{slice_get-get_or}
 use Rattle.loom_lang.specs.Trace.{out}
 use Rattle.loom_flow.specs.Progress.{goes, returns}
-use Rattle.loom_strand.specs.Turn.{Comes}
+use Rattle.loom_strand.specs.StepResult.{StepsTo}
 use Rattle.loom_strand.specs.declared.machine.Phase.TheVariants as phase
 use Rattle.loom_strand.specs.StrandInvariant.{IsBefore}
 use Rattle.loom_strand.proofs.Few.{few_arguments}
@@ -31,4 +31,4 @@ returns-in-Leaves c =
     let m = c.args.machine.now in
     let same : to_z w64 (of_z w64 c.in-Leaves.v) ≡ c.in-Leaves.v = to_z-of_z w64 c.in-Leaves.v (search rules) in
     leaves_advances c.args.flow.now m c.leave.new.machine c.leave.result c.in-Leaves.v (sym c.phase.ensures ∙ c.in-Leaves.is)
-    (subst (λ v. (place : ℕ) → Comes c.args.flow.now place m c.leave.new.machine c.leave.result (goes (Some (out m.state.func)) (returns c.args.flow.now m.state.values v m.state.below))) same c.leave.ensures)
+    (subst (λ v. (place : ℕ) → StepsTo c.args.flow.now place m c.leave.new.machine c.leave.result (goes (Some (out m.state.func)) (returns c.args.flow.now m.state.values v m.state.below))) same c.leave.ensures)

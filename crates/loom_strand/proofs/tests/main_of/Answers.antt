@@ -2,7 +2,7 @@ use Rattle.std.proofs.Common.{ℕ, zero, suc, ◌+◌, ◌≡◌, List, [], ◌�
 use Rattle.loom_tree.specs.Tree.{Function, Source}
 use Rattle.loom_lang.specs.Rules.{locals_of}
 use Rattle.loom_flow.specs.declared.code.Entrance.{Entrance}
-use Rattle.loom_flow.specs.Flat.{Flat}
+use Rattle.loom_flow.specs.Flow.{Flow}
 use Rattle.loom_flow.specs.FlatCode.{size, place_count, entrances}
 use Rattle.loom_flow.specs.Code.{IsLowered}
 use Rattle.loom_event.specs.Answer.{IsFunctionWith}
@@ -19,9 +19,9 @@ function_at p at place (f ∷ fs) zero e h =
     (f, refl, sym (ap (λ (z : Entrance). z.params) (same_entrance (record { start = at; place = place; params = length f.params }) e h)))
 function_at p at place (f ∷ fs) (suc n) e h = function_at p (suc (at + size p (locals_of f) f.body)) (suc (suc (place + place_count f.body))) fs n e h
 
-takes_nothing : (c : Flat) (n : ℕ) (e : Entrance) → IsLowered c → slice_get c.entrances n ≡ Some e → e.params ≡ 0 → IsFunctionWith c.program n []
+takes_nothing : (c : Flow) (n : ℕ) (e : Entrance) → IsLowered c → slice_get c.entrances n ≡ Some e → e.params ≡ 0 → IsFunctionWith c.program n []
 takes_nothing c n e l h none =
-    let there = function_at c.program 0 1 c.program.funcs n e (ap (λ (z : Flat). slice_get z.entrances n) (sym l.is) ∙ h) in
+    let there = function_at c.program 0 1 c.program.funcs n e (ap (λ (z : Flow). slice_get z.entrances n) (sym l.is) ∙ h) in
     (there.0, there.1, sym none ∙ there.2)
 
 pub returns-then-main-eq0 : goal.returns-then-main-eq0

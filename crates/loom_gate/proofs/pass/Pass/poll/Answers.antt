@@ -1,6 +1,6 @@
 use Rattle.std.proofs.Common.{arith, ap, subst}
 use Rattle.loom_gate.specs.View.{thread_of}
-use Rattle.loom_gate.specs.Machine.{Amid}
+use Rattle.loom_gate.specs.GateMachine.{Amid}
 use Rattle.loom_gate.specs.Seats.{view_of_pass}
 use Rattle.loom_gate.proofs.GateSteps.{polls_at}
 use Rattle.loom_gate.proofs.CallFacts.{same_version}

@@ -1,7 +1,7 @@
 -- What an answer does to a thread.
 use Rattle.std.specs.Prelude.{ℕ, ◌≡◌, ◌<◌, pos, [], Option, Some, None, slice_get, length}
 use Rattle.loom_flow.specs.declared.code.Entrance.{Entrance}
-use Rattle.loom_flow.specs.Flat.{Flat}
+use Rattle.loom_flow.specs.Flow.{Flow}
 use Rattle.loom_flow.specs.State.{at_start}
 use Rattle.loom_flow.specs.Position.{before, over}
 use Rattle.loom_flow.specs.Progress.{Progress, asks, progress}
@@ -10,20 +10,20 @@ use Rattle.loom_trace.specs.declared.entry.Entry.TheVariants as e
 use Rattle.loom_strand.specs.declared.stage.Birth.{Birth}
 use Rattle.loom_strand.specs.declared.stage.Stage.{Stage}
 use Rattle.loom_strand.specs.declared.stage.Stage.TheVariants as stage
-use Rattle.loom_strand.specs.declared.answer.Answer.{Answer}
-use Rattle.loom_strand.specs.declared.answer.Answer.TheVariants as a
+use Rattle.loom_strand.specs.declared.reply.Reply.{Reply}
+use Rattle.loom_strand.specs.declared.reply.Reply.TheVariants as a
 use Rattle.loom_strand.specs.declared.machine.Phase.TheVariants as phase
-use Rattle.loom_strand.specs.Machine.{Machine, position, standing, blank, TakesAnswer}
+use Rattle.loom_strand.specs.Machine.{Machine, position, with_position, blank, TakesAnswer}
 
 -- An entry tells what it answers: a read gives the value, a spawn the number of the new thread.
-abbrev pub answer_of : Entry → Answer
-answer_of (e.Begin t l) = a.Begins
-answer_of (e.End t l) = a.Ends
-answer_of (e.Trap t l n) = a.Traps
-answer_of (e.Tick t l k) = a.Ticks
-answer_of (e.Read t l w v) = a.Gives v
-answer_of (e.Spawn t l c f vs) = a.Gives (pos c)
-answer_of _ = a.Gives (pos 0)
+abbrev pub reply_of : Entry → Reply
+reply_of (e.Begin t l) = a.Begins
+reply_of (e.End t l) = a.Ends
+reply_of (e.Trap t l n) = a.Traps
+reply_of (e.Tick t l k) = a.Ticks
+reply_of (e.Read t l w v) = a.Gives v
+reply_of (e.Spawn t l c f vs) = a.Gives (pos c)
+reply_of _ = a.Gives (pos 0)
 
 -- It asks at this position.
 abbrev pub IsAsking : Progress → Type 0
@@ -31,7 +31,7 @@ IsAsking (asks line q behind) = Unit {0}
 IsAsking _ = ⊥
 
 -- The machine can take the answer, in a thread of this birth.
-abbrev pub CanFollow : Flat → Machine → Birth → Answer → Type 0
+abbrev pub CanFollow : Flow → Machine → Birth → Reply → Type 0
 CanFollow c m b a.Begins = (b.func < length c.entrances) × ((m.state ≡ blank) × (m.phase ≡ phase.Before))
 CanFollow c m b (a.Gives v) = IsAsking (progress c (position m)) × (length m.state.values < m.most_values)
 CanFollow c m b _ = Unit {0}
@@ -39,12 +39,12 @@ CanFollow c m b _ = Unit {0}
 -- the start of the thread's function
 abbrev pub BeginsAt : Machine → Machine → Birth → Option Entrance → Type 0
 BeginsAt old new b None = ⊥
-BeginsAt old new b (Some e) = new ≡ standing old (before (at_start b.func e b.args [] []))
+BeginsAt old new b (Some e) = new ≡ with_position old (before (at_start b.func e b.args [] []))
 
 -- What follows an answer: the machine, how far the thread is, and how many places it passed since this entry.
-abbrev pub Follows : Flat → Machine → Machine → Birth → Answer → Stage → ℕ → Type 0
+abbrev pub Follows : Flow → Machine → Machine → Birth → Reply → Stage → ℕ → Type 0
 Follows c old new b a.Begins x n = BeginsAt old new b (slice_get c.entrances b.func) × ((x ≡ stage.Runs) × (n ≡ 1))
 Follows c old new b a.Ticks x n = (new ≡ old) × ((x ≡ stage.Runs) × (n ≡ 0))
 Follows c old new b (a.Gives v) x n = TakesAnswer old new v (progress c (position old)) × ((x ≡ stage.Runs) × (n ≡ 0))
-Follows c old new b a.Traps x n = (new ≡ standing old over) × ((x ≡ stage.Runs) × (n ≡ 0))
+Follows c old new b a.Traps x n = (new ≡ with_position old over) × ((x ≡ stage.Runs) × (n ≡ 0))
 Follows c old new b a.Ends x n = (new ≡ old) × ((x ≡ stage.Over) × (n ≡ 0))

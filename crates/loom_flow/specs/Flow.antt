@@ -5,7 +5,7 @@ use Rattle.loom_flow.specs.declared.code.Instr.{Instr}
 use Rattle.loom_flow.specs.declared.code.Site.{Site}
 use Rattle.loom_flow.specs.declared.code.Entrance.{Entrance}
 
-pub record Flat : Type 0 where
+pub record Flow : Type 0 where
   pub program : Source
   pub code : List Instr
   -- the places, from place 0 on

@@ -1,7 +1,7 @@
-//! The words of a command.
+//! The invocation: what the words of a call ask for.
 ghost use Rattle.std.specs.Prelude.{◌≡◌, ◌↔◌, ◌≤◌, List, ℕ, codes, map, IfSome, IfNone, IsTrue};
 ghost use Rattle.loom_tree.specs.Decimal.{decimal};
-ghost use Rattle.loom_top.specs.Command.{largest_limit, Command as Asked, IsCommand, IsFileName};
+ghost use Rattle.loom_top.specs.Invocation.{largest_limit, Invocation as Asked, IsInvocation, IsFileName};
 
 use loom_trace::line::Line;
 use loom_trace::text::put_printed;
@@ -14,7 +14,7 @@ const LARGEST_LIMIT: u32 = 1_000_000;
 
 /// A run of the file of this name, of at most so many thread entries.
 #[derive(Clone, Copy, Debug, Drop)]
-pub struct Command<'a> {
+pub struct Invocation<'a> {
     pub name: &'a str,
     pub limit: u32,
 }
@@ -57,11 +57,11 @@ fn limit_of(text: &str) -> Option<u32>
 }
 
 /// What the words ask for.
-pub fn command_of<'a>(words: &[&'a str]) -> Option<Command<'a>>
-    ensures found { IfSome result (λ c. IsCommand (map (λ w. w.now) words.now) (record { name = c.name.now; limit = c.limit })) }
+pub fn invocation_of<'a>(words: &[&'a str]) -> Option<Invocation<'a>>
+    ensures found { IfSome result (λ c. IsInvocation (map (λ w. w.now) words.now) (record { name = c.name.now; limit = c.limit })) }
     ensures most { IfSome result (λ c. c.limit ≤ largest_limit) }
     ensures least { IfSome result (λ c. 1 ≤ c.limit) }
-    ensures none { IfNone result ((c : Asked) → IsCommand (map (λ w. w.now) words.now) c → ⊥) }
+    ensures none { IfNone result ((c : Asked) → IsInvocation (map (λ w. w.now) words.now) c → ⊥) }
 {
     let (name, limit) = match words {
         [first, name] if *first == "run" => (*name, DEFAULT_LIMIT),
@@ -71,7 +71,7 @@ pub fn command_of<'a>(words: &[&'a str]) -> Option<Command<'a>>
         _ => return None,
     };
     if is_file_name(name.as_bytes()) {
-        Some(Command { name, limit })
+        Some(Invocation { name, limit })
     } else {
         None
     }

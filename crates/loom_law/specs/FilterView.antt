@@ -4,7 +4,7 @@ use Rattle.std.specs.List.{filter}
 use Rattle.loom_tree.specs.Tree.{Source}
 use Rattle.loom_lang.specs.Trace.{end, trap, Item, made, begins, done, edge, enter, out}
 use Rattle.loom_law.specs.Filter.{Range, Plan, statement, function, matching, share, entry_events, exit_events, ranges_of}
-use Rattle.loom_law.specs.Walk.{Version, Plans, back, Step, goes, makes, Queue, Walk, unborn, after, walked}
+use Rattle.loom_law.specs.Walk.{Version, Plans, back, PartStep, goes, makes, Queue, Walk, unborn, after, walk_from}
 
 -- an open frame: the events under way, of each open statement, the innermost first, and last those of the function itself
 pub record FrameView : Type 0 where
@@ -12,14 +12,14 @@ pub record FrameView : Type 0 where
   pub inside : List Range
 
 -- what the filter sees of a thread
-pub record View : Type 0 where
+pub record FilterView : Type 0 where
   -- the open frames, the innermost first, and the one that was left and waits for its `Back`
   pub frames : List FrameView
   pub leaving : List FrameView
   -- the events that match here; they begin where all is made that is owed here
   pub here : List ℕ
 
-abbrev pub nothing_seen : View
+abbrev pub nothing_seen : FilterView
 nothing_seen = record { frames = []; leaving = []; here = [] }
 
 abbrev pub all_ranges : Plan → List Range
@@ -45,7 +45,7 @@ with_all_complete [] = []
 with_all_complete (x ∷ xs) = with_complete x.under_way x ∷ xs
 
 -- where all is made that is owed
-abbrev pub settled : Plan → View → View
+abbrev pub settled : Plan → FilterView → FilterView
 settled f w = record { frames = with_begun f w.here w.frames; leaving = []; here = [] }
 
 -- behind the beginning of a statement
@@ -67,7 +67,7 @@ is_empty [] = true
 is_empty (o ∷ os) = false
 
 -- an item, behind which the thread is at `z`
-abbrev pub seen_item : Plan → Walk → View → Item → View
+abbrev pub seen_item : Plan → Walk → FilterView → Item → FilterView
 seen_item f z w (made l (trap c)) = nothing_seen
 seen_item f z w (made l end) = nothing_seen
 seen_item f z w (made l a) = w
@@ -78,19 +78,19 @@ seen_item f z w (enter g env) = record w { frames = record { under_way = [] ∷ 
 -- the frame stays open until its `Back`, where it owes one
 seen_item f z w (out g) = record w { frames = other_frames w.frames; leaving = if is_empty z.owed then [] else first_frame w.frames }
 
-abbrev pub seen_step : Plan → Walk → View → Step → View
+abbrev pub seen_step : Plan → Walk → FilterView → PartStep → FilterView
 seen_step f z w (goes i) = seen_item f z (settled f w) i
 seen_step f z w (makes l back) = record w { leaving = [] }
 seen_step f z w (makes l o) = w
 
-abbrev pub seen_from : Source → Plans → Plan → Walk → View → List Step → View
+abbrev pub seen_from : Source → Plans → Plan → Walk → FilterView → List PartStep → FilterView
 seen_from p plans f z w [] = w
 seen_from p plans f z w (s ∷ ss) = seen_from p plans f (after p plans z s) (seen_step f (after p plans z s) w s) ss
 
 -- What it sees behind these steps. Where nothing is owed any more, the events that match there have begun, and a frame that was left is closed.
-abbrev pub view_behind : Source → Plans → Plan → List Version → List Step → View
+abbrev pub view_behind : Source → Plans → Plan → List Version → List PartStep → FilterView
 view_behind p plans f vs steps =
-    if is_empty (walked p plans (unborn vs) steps).owed then settled f (seen_from p plans f (unborn vs) nothing_seen steps)
+    if is_empty (walk_from p plans (unborn vs) steps).owed then settled f (seen_from p plans f (unborn vs) nothing_seen steps)
     else seen_from p plans f (unborn vs) nothing_seen steps
 
 abbrev pub all_of : List FrameView → List Range
@@ -100,6 +100,6 @@ abbrev pub all_under_way : List FrameView → List ℕ
 all_under_way xs = flat_map (λ (x : FrameView). flat_map (λ ns. ns) x.under_way) xs
 
 -- no region is entered, and no event has begun that isn't complete
-pub record IsClear (w : View) : Type 0 where
+pub record IsClear (w : FilterView) : Type 0 where
   pub outside : all_of (w.frames ++ w.leaving) ≡ []
   pub at_rest : all_under_way (w.frames ++ w.leaving) ≡ []

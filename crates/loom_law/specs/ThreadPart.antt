@@ -8,9 +8,9 @@ use Rattle.loom_lang.specs.Trace.{Item, made, Outcome, Open, IsTrace}
 use Rattle.loom_lang.specs.Acts.{Deed}
 use Rattle.loom_trace.specs.declared.request.Request.{Request}
 use Rattle.loom_event.specs.Answer.{granted, trapped}
-use Rattle.loom_law.specs.Walk.{Version, Plans, Operation, cross, entry_of_operation, Step, items, told, Inside, Spot, left, Walk, unborn, all_inside, is_among, walked, request_place, place_of_next, AreWoven}
+use Rattle.loom_law.specs.Walk.{Version, Plans, Operation, cross, entry_of_operation, PartStep, items, told, Inside, Spot, left, Walk, unborn, all_inside, is_among, walk_from, request_place, place_of_next, AreWoven}
 
--- what is a thread's own: its number, function and arguments, the versions that it has taken, in order, and its entries
+-- what is a thread's own: its number, function and arguments, the versions that it went over to, and its entries
 pub record Own : Type 0 where
   pub thread : ℕ
   pub func : ℕ
@@ -19,33 +19,33 @@ pub record Own : Type 0 where
   pub entries : List Entry
 
 -- where these steps lead it
-abbrev pub led : Source → Plans → Own → List Step → Walk
-led p plans x steps = walked p plans (unborn x.versions) steps
+abbrev pub walk_of : Source → Plans → Own → List PartStep → Walk
+walk_of p plans x steps = walk_from p plans (unborn x.versions) steps
 
 -- Its entries are those of a full part: the items of a trace of its function with its arguments, and woven in what filters make it do. It has
 -- taken these versions and no others.
 pub record IsPart (p : Source) (plans : Plans) (x : Own) : Type 0 where
-  pub steps : List Step
+  pub steps : List PartStep
   -- what the tree gives behind them
   pub ahead : List Item
   pub outcome : Outcome
   pub trace : IsTrace p x.func x.args (items steps ++ ahead) outcome
   pub woven : AreWoven p plans (unborn x.versions) steps ahead
   pub tells : told x.thread steps ≡ x.entries
-  pub taken : (led p plans x steps).coming ≡ []
+  pub taken : (walk_of p plans x steps).coming ≡ []
 
 -- A point of the full part behind its last entry, with what comes next in the tree: there may be marks between.
 pub record Point (p : Source) (plans : Plans) (x : Own) : Type 0 where
-  pub steps : List Step
+  pub steps : List PartStep
   pub next : Item
   pub trace : IsTrace p x.func x.args (items steps ++ next ∷ []) Open
   pub woven : AreWoven p plans (unborn x.versions) steps (next ∷ [])
   pub tells : told x.thread steps ≡ x.entries
-  pub taken : (led p plans x steps).coming ≡ []
+  pub taken : (walk_of p plans x steps).coming ≡ []
 
 -- The place at this point: that of the mark or the request that comes next. Before any other mark there is none.
 abbrev pub IsPlaceOf : (p : Source) (plans : Plans) (x : Own) → Point p plans x → Place → Type 0
-IsPlaceOf p plans x h y = place_of_next (led p plans x h.steps) (led p plans x h.steps).owed (h.next ∷ []) ≡ Some y
+IsPlaceOf p plans x h y = place_of_next (walk_of p plans x h.steps) (walk_of p plans x h.steps).owed (h.next ∷ []) ≡ Some y
 
 -- A begun thread stands at a place: it comes to it behind its last entry, before or with its next request.
 pub record ComesTo (p : Source) (plans : Plans) (x : Own) (y : Place) : Type 0 where
@@ -53,8 +53,8 @@ pub record ComesTo (p : Source) (plans : Plans) (x : Own) (y : Place) : Type 0 w
   pub place : IsPlaceOf p plans x point y
 
 -- The last step of a part is that of its last entry: these steps stand before it.
-pub record HasMoved (p : Source) (plans : Plans) (x : Own) (before : List Step) : Type 0 where
-  pub last : Step
+pub record HasMoved (p : Source) (plans : Plans) (x : Own) (before : List PartStep) : Type 0 where
+  pub last : PartStep
   pub ahead : List Item
   pub outcome : Outcome
   pub trace : IsTrace p x.func x.args (items (before ++ last ∷ []) ++ ahead) outcome
@@ -79,7 +79,7 @@ is_inside z k c = is_among (all_inside z.frames ++ leaving z.spot) k c
 
 pub record IsInside (p : Source) (plans : Plans) (x : Own) (k c : ℕ) : Type 0 where
   pub part : IsPart p plans x
-  pub is : is_inside (led p plans x part.steps) k c ≡ true
+  pub is : is_inside (walk_of p plans x part.steps) k c ≡ true
 
 -- What it asks for next
 
@@ -96,18 +96,18 @@ AsksToCross p plans x l y n v =
     IsPart p plans (record x { versions = x.versions ++ v ∷ []; entries = x.entries ++ entry_of_operation x.thread l (cross y v.number n) ∷ [] })
 
 -- an act: nothing is owed, and each answer goes on the trace
-abbrev pub GoesOn : Source → Own → List Step → Option Deed → Type 0
+abbrev pub GoesOn : Source → Own → List PartStep → Option Deed → Type 0
 GoesOn p x steps None = Unit {0}
 GoesOn p x steps (Some d) = IsTrace p x.func x.args (items steps ++ made d.line d.act ∷ []) Open
 
 pub record AsksToAct (p : Source) (plans : Plans) (x : Own) (q : Request) : Type 0 where
-  pub steps : List Step
+  pub steps : List PartStep
   -- what stands before is as the tree gives it with this request next
   pub next : Item
   pub trace : IsTrace p x.func x.args (items steps ++ next ∷ []) Open
   pub woven : AreWoven p plans (unborn x.versions) steps (next ∷ [])
   pub tells : told x.thread steps ≡ x.entries
-  pub taken : (led p plans x steps).coming ≡ []
-  pub rests : (led p plans x steps).owed ≡ []
+  pub taken : (walk_of p plans x steps).coming ≡ []
+  pub rests : (walk_of p plans x steps).owed ≡ []
   pub granted : (v : ℤ) → GoesOn p x steps (granted q v)
   pub trapped : GoesOn p x steps (trapped q)

@@ -1,10 +1,10 @@
 use Rattle.std.proofs.Common.{◌≡◌, List, ℕ, ◌∷◌, [], map, arith, refl, sym, slice_index_or, Bor, subst, inl, inr, codes}
 use Rattle.std.specs.Cmp.Lexicographic.{same_text}
 use Rattle.loom_tree.specs.Decimal.{decimal}
-use Rattle.loom_top.specs.Command.{IsFileName, IsCommand}
+use Rattle.loom_top.specs.Invocation.{IsFileName, IsInvocation}
 use Rattle.loom_top.proofs.Words.{two_words, four_words}
-use Rattle.loom_top.proofs.command.command_of.Goals.{in-len2, in-len4+in_ok-limit_of-in-len4}
-use Rattle.loom_top.proofs.command.command_of.Goals as goal
+use Rattle.loom_top.proofs.invocation.invocation_of.Goals.{in-len2, in-len4+in_ok-limit_of-in-len4}
+use Rattle.loom_top.proofs.invocation.invocation_of.Goals as goal
 
 pub returns-then-is_file_name-clause-found : goal.returns-then-is_file_name-clause-found
 returns-then-is_file_name-clause-found c =
@@ -14,7 +14,7 @@ returns-then-is_file_name-clause-found c =
     let word : ℕ → List ℕ = λ n. (slice_index_or ws n none).now in
     let P : List ℕ → Type 0 = λ z. IsFileName z in
     let named : IsFileName c.if-words-lt3.limit.0.now = subst P c.as_bytes.ensures.value (c.if-is_file_name.ensures.0 refl) in
-    let Q : Bor (List ℕ) × ℕ → Type 0 = λ z. IsFileName z.0.now → IsCommand words (record { name = z.0.now; limit = z.1 }) in
+    let Q : Bor (List ℕ) × ℕ → Type 0 = λ z. IsFileName z.0.now → IsInvocation words (record { name = z.0.now; limit = z.1 }) in
     elim c.if-words-lt3.branch [
       | in-len2 w ↦
           let these : words ≡ word 0 ∷ word 1 ∷ [] = two_words ws none (omega (arith, w.in-len2.len_below, w.in-len2.len_at_least)) in

@@ -19,7 +19,7 @@ pub(crate) enum Mark {
 
 /// What comes of a step of the machine.
 #[derive(Clone, Copy, Debug, Drop)]
-pub(crate) enum Turn {
+pub(crate) enum StepResult {
     /// It goes on, past a mark or past none.
     Goes(Option<Mark>),
     /// It asks for this, and stays where it is.

@@ -5,7 +5,7 @@ use Rattle.loom_tree.specs.Tree.{Expression, num, var, cell, neg, inverse, bin, 
 use Rattle.loom_lang.specs.Numbers.{function_number}
 use Rattle.loom_lang.specs.Rules.{is_in, locals_of}
 use Rattle.loom_command.specs.Filter.{LineEvent, OrderStep, Region, between, whole, Clause, order, exclusive, unilateral, Filter}
-use Rattle.loom_command.specs.FilterFault.{Fault}
+use Rattle.loom_command.specs.FilterFault.{FilterFault}
 use Rattle.loom_law.specs.Filter.{Watch, statement, function, Range, Ruling, Plan, entry_events, ranges_of}
 use Rattle.loom_law.specs.Filter as plan
 use Rattle.loom_law.specs.Paths.{Node, begins, links_of, IsStatement, statements_of, Reaches, watch_at, Comes}
@@ -82,12 +82,12 @@ HasClauseFault p file (exclusive rs) number = HasRegionFaults p file rs number
 HasClauseFault p file (unilateral r) number = HasRegionFault p file r number
 
 -- a clause of these has the fault; the first has this number
-abbrev pub IsNameFaultFrom : Source → List ℕ → ℕ → Filter → Fault → Type 0
+abbrev pub IsNameFaultFrom : Source → List ℕ → ℕ → Filter → FilterFault → Type 0
 IsNameFaultFrom p file n [] x = ⊥
 IsNameFaultFrom p file n (c ∷ cs) x = ((x.clause ≡ n) × HasClauseFault p file c x.number) ⊎ IsNameFaultFrom p file (suc n) cs x
 
 -- What the filter names isn't in the program, or isn't where it says.
-abbrev pub IsNameFault : Source → List ℕ → Filter → Fault → Type 0
+abbrev pub IsNameFault : Source → List ℕ → Filter → FilterFault → Type 0
 IsNameFault p file f x = IsNameFaultFrom p file 1 f x
 
 -- Regions
@@ -134,7 +134,7 @@ abbrev pub AreWholeOf : Plan → Range → ℕ → ℕ → Type 0
 AreWholeOf f (plan.between es xs) n g = ⊥
 AreWholeOf f (plan.whole m) n g = IsWholeOf f m g
 
--- The event can begin inside the region: on its paths, or in a function that calls inside it reach.
+-- The event can begin inside the region: at a statement to which a path comes from the region's entry, or in a function that is called from there.
 abbrev pub BeginsInside : Source → Plan → Range → ℕ → Type 0
 BeginsInside p f r n =
     ((w : Watch) × ((l : ℕ) × ((g : ℕ) × ((watch_at f n ≡ Some w) × ((w.site ≡ statement l) × (HasStatement p l g × (HasInside p f r g l ⊎ CallsFrom p f r g)))))))
@@ -159,10 +159,10 @@ HasReentered p f (r ∷ rs) = IsReentered p f r ⊎ HasReentered p f rs
 abbrev pub HasPathFault : Source → Plan → Ruling → ℕ → Type 0
 HasPathFault p f r number = ((number ≡ 7) × HasReentered p f (ranges_of r)) ⊎ ((number ≡ 8) × AreNested p f (ranges_of r))
 
-abbrev pub IsPathFaultFrom : Source → Plan → ℕ → List Ruling → Fault → Type 0
+abbrev pub IsPathFaultFrom : Source → Plan → ℕ → List Ruling → FilterFault → Type 0
 IsPathFaultFrom p f n [] x = ⊥
 IsPathFaultFrom p f n (r ∷ rs) x = ((x.clause ≡ n) × HasPathFault p f r x.number) ⊎ IsPathFaultFrom p f (suc n) rs x
 
 -- A region is entered again inside it, or two regions of a clause nest.
-abbrev pub IsPathFault : Source → Plan → Fault → Type 0
+abbrev pub IsPathFault : Source → Plan → FilterFault → Type 0
 IsPathFault p f x = IsPathFaultFrom p f 1 f.rulings x

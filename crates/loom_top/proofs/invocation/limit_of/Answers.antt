@@ -1,8 +1,8 @@
 use Rattle.std.proofs.Common.{◌≡◌, ℕ, Ok, true, sym, subst, arith}
 use Rattle.loom_tree.specs.Decimal.{decimal}
 use Rattle.loom_top.proofs.Words.{limit_read}
-use Rattle.loom_top.proofs.command.limit_of.Goals.{else-limit-ge1-via-then-limit-ge1+then-limit-le-LARGEST_LIMIT+else-is_decimal, else-limit-ge1-via-then-limit-ge1+else-limit-le-LARGEST_LIMIT, else-limit-ge1-via-else-limit-ge1}
-use Rattle.loom_top.proofs.command.limit_of.Goals as goal
+use Rattle.loom_top.proofs.invocation.limit_of.Goals.{else-limit-ge1-via-then-limit-ge1+then-limit-le-LARGEST_LIMIT+else-is_decimal, else-limit-ge1-via-then-limit-ge1+else-limit-le-LARGEST_LIMIT, else-limit-ge1-via-else-limit-ge1}
+use Rattle.loom_top.proofs.invocation.limit_of.Goals as goal
 
 pub returns-else-limit-ge1-clause-none : goal.returns-else-limit-ge1-clause-none
 returns-else-limit-ge1-clause-none c limit least most is =

@@ -7,27 +7,27 @@ use Rattle.loom_trace.specs.declared.request.Request.{Request}
 use Rattle.loom_trace.specs.declared.request.Request.TheVariants as r
 
 -- what is asked for by a question on this line
-abbrev pub request_of : ℕ → Question → Request
-request_of line (read w) = r.Read line w
-request_of line (write w v) = r.Write line w v
-request_of line (lock m) = r.Lock line m
-request_of line (unlock m) = r.Unlock line m
-request_of line (down s) = r.Down line s
-request_of line (up s) = r.Up line s
-request_of line (spawn f vs) = r.Spawn line f vs
-request_of line (join v) = r.Join line v
-request_of line (print v) = r.Print line v
+abbrev pub question_request : ℕ → Question → Request
+question_request line (read w) = r.Read line w
+question_request line (write w v) = r.Write line w v
+question_request line (lock m) = r.Lock line m
+question_request line (unlock m) = r.Unlock line m
+question_request line (down s) = r.Down line s
+question_request line (up s) = r.Up line s
+question_request line (spawn f vs) = r.Spawn line f vs
+question_request line (join v) = r.Join line v
+question_request line (print v) = r.Print line v
 
 -- What a thread asks for whose function has this line. It asks for a trap that it finds by itself, and for its end.
 abbrev pub request_at : ℕ → Progress → Option Request
-request_at of_function (asks line q behind) = Some (request_of line q)
+request_at of_function (asks line q behind) = Some (question_request line q)
 request_at of_function (traps line c) = Some (r.Trap line (reason c))
 request_at of_function ends = Some (r.End of_function)
 request_at of_function _ = None
 
 -- The request is what is asked for there.
 abbrev pub IsAskedBy : Request → Progress → Type 0
-IsAskedBy q (asks line p behind) = q ≡ request_of line p
+IsAskedBy q (asks line p behind) = q ≡ question_request line p
 IsAskedBy q (traps line cause) = q ≡ r.Trap line (reason cause)
 IsAskedBy q _ = ⊥
 

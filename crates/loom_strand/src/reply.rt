@@ -2,7 +2,7 @@
 ghost use Rattle.std.specs.Prelude.{◌≡◌, ◌<◌, length};
 ghost use Rattle.loom_flow.specs.Progress.{progress};
 ghost use Rattle.loom_strand.specs.Machine.{position, TakesAnswer};
-ghost use Rattle.loom_strand.specs.Answer.{answer_of, IsAsking, CanFollow, Follows};
+ghost use Rattle.loom_strand.specs.Reply.{reply_of, IsAsking, CanFollow, Follows};
 
 use crate::ask::take;
 use crate::machine::Machine;
@@ -13,7 +13,7 @@ use loom_trace::entry::Entry;
 
 /// What an answer does to a thread.
 #[derive(Clone, Copy, Debug, Drop)]
-pub(crate) enum Answer {
+pub(crate) enum Reply {
     /// The thread begins.
     Begins,
     /// It goes on behind its tick.
@@ -27,23 +27,23 @@ pub(crate) enum Answer {
 }
 
 /// What the entry does to the thread that made it.
-pub(crate) fn answer_of(e: &Entry) -> Answer
-    ensures { result ≡ answer_of e.now }
+pub(crate) fn reply_of(e: &Entry) -> Reply
+    ensures { result ≡ reply_of e.now }
 {
     if let Entry::Begin { .. } = e {
-        Answer::Begins
+        Reply::Begins
     } else if let Entry::End { .. } = e {
-        Answer::Ends
+        Reply::Ends
     } else if let Entry::Trap { .. } = e {
-        Answer::Traps
+        Reply::Traps
     } else if let Entry::Tick { .. } = e {
-        Answer::Ticks
+        Reply::Ticks
     } else if let Entry::Read { value, .. } = e {
-        Answer::Gives(*value)
+        Reply::Gives(*value)
     } else if let Entry::Spawn { child, .. } = e {
-        Answer::Gives(*child as i64)
+        Reply::Gives(*child as i64)
     } else {
-        Answer::Gives(0)
+        Reply::Gives(0)
     }
 }
 
@@ -66,26 +66,26 @@ pub(crate) fn follow(
     machine: &mut Machine,
     flow: &Flow,
     birth: Birth,
-    answer: Answer,
+    answer: Reply,
 ) -> (Stage, u32)
     requires { CanFollow flow.now machine.old birth answer }
     ensures { Follows flow.now machine.old machine.new birth answer result.0 result.1 }
 {
     match answer {
-        Answer::Begins => {
+        Reply::Begins => {
             let entrance = flow.entrances()[birth.func as usize];
             machine.begin(birth.func, entrance, birth.args);
             (Stage::Runs, 1)
         }
-        Answer::Ticks => (Stage::Runs, 0),
-        Answer::Gives(value) => {
+        Reply::Ticks => (Stage::Runs, 0),
+        Reply::Gives(value) => {
             give(machine, flow, value);
             (Stage::Runs, 0)
         }
-        Answer::Traps => {
+        Reply::Traps => {
             machine.stop();
             (Stage::Runs, 0)
         }
-        Answer::Ends => (Stage::Over, 0),
+        Reply::Ends => (Stage::Over, 0),
     }
 }

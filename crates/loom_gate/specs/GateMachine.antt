@@ -16,7 +16,7 @@ use Rattle.loom_gate.specs.Record.{place_from, has_version, AreInOrder}
 abbrev pub IsThread : ℕ → ℕ → Type 0
 IsThread n t = (0 < t) × (t ≤ n)
 
-pub record Machine : Type 0 where
+pub record GateMachine : Type 0 where
   -- by thread
   pub passes : ℕ → PassView
   pub key : KeyView
@@ -53,11 +53,11 @@ pub record RowsFit (t version : ℕ) (p : PassView) : Type 0 where
   pub order : AreInOrder p.rows
 
 -- the place read at a switch is where the pass next entered from, or the place from which it still has to enter
-abbrev pub SwitchFits : ℕ → Machine → SwitchRow → Type 0
+abbrev pub SwitchFits : ℕ → GateMachine → SwitchRow → Type 0
 SwitchFits n m w = IsThread n w.thread × (w.version ≤ m.key.version) × (place_from w.thread w.version (place_of (m.passes w.thread).stage) (m.passes w.thread).rows ≡ w.place)
 
 -- what is so at every moment, in a gate of n threads
-pub record Lawful (n : ℕ) (m : Machine) : Type 0 where
+pub record Lawful (n : ℕ) (m : GateMachine) : Type 0 where
   pub stages : (t : ℕ) → IsThread n t → StageFits m.key.places m.key.version (m.passes t).tries (m.passes t).fresh (m.passes t).stage
   pub looks : (t : ℕ) → IsThread n t → LookFits m.key.up (slice_index_or m.key.looks t Unknown) (m.passes t)
   pub latest : (t : ℕ) → IsThread n t → LatestFits n m.key.ever (m.passes t).latest
@@ -75,13 +75,13 @@ abbrev pub AllStood : ℕ → KeyView → Type 0
 AllStood n k = (t : ℕ) → IsThread n t → (place : ℕ) × (slice_index_or k.looks t Unknown ≡ SawPlace place) × (has_place k.up place ≡ true)
 
 -- nobody is inside, and each stands or tries
-abbrev pub NobodyInside : ℕ → Machine → Type 0
+abbrev pub NobodyInside : ℕ → GateMachine → Type 0
 NobodyInside n m = (t : ℕ) → IsThread n t → (place : ℕ) × (((m.passes t).stage ≡ Stands place) ⊎ ((m.passes t).stage ≡ Tries place))
 
 -- there is a lawful machine in which the pass of thread t knows p, and F holds of it
-abbrev pub Amid : ℕ → PassView → (Machine → Type 0) → Type 0
-Amid t p F = (n : ℕ) × (m : Machine) × Lawful n m × IsThread n t × (m.passes t ≡ p) × F m
+abbrev pub Amid : ℕ → PassView → (GateMachine → Type 0) → Type 0
+Amid t p F = (n : ℕ) × (m : GateMachine) × Lawful n m × IsThread n t × (m.passes t ≡ p) × F m
 
 -- there is a lawful machine in which the key knows k, and F holds of it
-abbrev pub AmidKey : KeyView → (ℕ → Machine → Type 0) → Type 0
-AmidKey k F = (n : ℕ) × (m : Machine) × Lawful n m × (m.key ≡ k) × F n m
+abbrev pub AmidKey : KeyView → (ℕ → GateMachine → Type 0) → Type 0
+AmidKey k F = (n : ℕ) × (m : GateMachine) × Lawful n m × (m.key ≡ k) × F n m

@@ -1,9 +1,9 @@
--- The words of a command.
+-- The invocation: what the words of a call ask for.
 use Rattle.std.specs.Prelude.{ℕ, ◌≡◌, ◌≢◌, ◌≤◌, ◌⊎◌, List, [], ◌∷◌, codes}
 use Rattle.loom_tree.specs.Decimal.{decimal}
 
 -- what the words ask for: a run of the file of this name, of at most so many thread entries
-pub record Command : Type 0 where
+pub record Invocation : Type 0 where
   pub name : List ℕ
   pub limit : ℕ
 
@@ -20,17 +20,17 @@ IsFileName [] = ⊥
 IsFileName (b ∷ bs) = b ≢ 45
 
 -- `run PROG`
-pub record IsPlain (words : List (List ℕ)) (c : Command) : Type 0 where
+pub record IsWithoutLimit (words : List (List ℕ)) (c : Invocation) : Type 0 where
   pub is : words ≡ codes "run" ∷ c.name ∷ []
   pub limit : c.limit ≡ default_limit
 
 -- `run PROG --steps B`, with B in decimal
-pub record IsLimited (words : List (List ℕ)) (c : Command) : Type 0 where
+pub record IsWithLimit (words : List (List ℕ)) (c : Invocation) : Type 0 where
   pub is : words ≡ codes "run" ∷ c.name ∷ codes "--steps" ∷ decimal c.limit ∷ []
   pub least : 1 ≤ c.limit
   pub most : c.limit ≤ largest_limit
 
 -- the words ask for this
-pub record IsCommand (words : List (List ℕ)) (c : Command) : Type 0 where
-  pub form : IsPlain words c ⊎ IsLimited words c
+pub record IsInvocation (words : List (List ℕ)) (c : Invocation) : Type 0 where
+  pub form : IsWithoutLimit words c ⊎ IsWithLimit words c
   pub named : IsFileName c.name

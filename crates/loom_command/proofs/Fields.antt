@@ -1,9 +1,9 @@
 -- A line has its fields in one way.
-use Rattle.std.proofs.Common.{ℕ, ◌≡◌, inl, inr, Bool, true, false, not, List, [], ◌∷◌, ◌++◌, refl, sym, ap, subst, ◌∙◌}
+use Rattle.std.proofs.Common.{ℕ, ◌≡◌, Bool, true, false, not, List, [], ◌∷◌, ◌++◌, refl, sym, ap, ◌∙◌}
 use Rattle.loom_lexer.specs.Lexeme.{Each, BeginsWithout}
 use Rattle.loom_lexer.proofs.Unique.{one_cut}
 use Rattle.loom_command.specs.FilterText.{is_blank}
-use Rattle.loom_command.specs.Script.{is_dark, IsField, HasFields}
+use Rattle.loom_command.specs.Script.{is_dark, IsField}
 
 pub same_behind : (xs ys zs : List ℕ) → xs ++ ys ≡ xs ++ zs → ys ≡ zs
 same_behind [] ys zs e = e

@@ -1,9 +1,8 @@
 -- The same bytes are at most one script.
-use Rattle.std.proofs.Common.{ℕ, suc, ◌≡◌, inl, inr, Bool, true, false, List, [], ◌∷◌, ◌++◌, refl, sym, ap, subst, ◌∙◌, codes, arith}
-use Rattle.loom_lexer.specs.Lexeme.{Each, BeginsWithout}
-use Rattle.loom_tree.specs.Decimal.{decimal}
+use Rattle.std.proofs.Common.{ℕ, suc, ◌≡◌, inl, inr, Bool, false, List, [], ◌∷◌, ◌++◌, refl, sym, ap, subst, ◌∙◌, arith}
+use Rattle.loom_lexer.specs.Lexeme.{Each}
 use Rattle.loom_command.specs.FilterText.{is_blank}
-use Rattle.loom_command.specs.Script.{Trigger, at, stall, ScriptAction, install, remove, ScriptCommand, HasFields, IsSkipped, EndsDark, IsTrimmed, WhenFields, ActionFields, IsCommandLine, AreCommands, lines, IsScript}
+use Rattle.loom_command.specs.Script.{Trigger, at, stall, ScriptAction, install, remove, ScriptCommand, HasFields, IsSkipped, EndsDark, IsTrimmed, WhenFields, ActionFields, IsCommandLine, AreCommands, lines}
 use Rattle.loom_command.specs.Laws.{HasOneScript}
 use Rattle.loom_command.proofs.Digits.{one_decimal}
 use Rattle.loom_lexer.proofs.Unique.{one_cut}
@@ -122,7 +121,7 @@ not_hash : (x : Trigger) (f b : List ℕ) → WhenFields x (35 ∷ f) b → ⊥
 not_hash (at n) f b h = let e : 35 ≡ 97 = ap first_byte h.0 in omega (arith, e)
 not_hash stall f b h = let e : 35 ≡ 111 = ap first_byte h.0 in omega (arith, e)
 
-not_skipped : (n : ℕ) (line : List ℕ) (c : ScriptCommand) → IsCommandLine n line c → IsSkipped line → ⊥
+pub not_skipped : (n : ℕ) (line : List ℕ) (c : ScriptCommand) → IsCommandLine n line c → IsSkipped line → ⊥
 not_skipped n line c h (inl blank) = has_dark h.fields.0 h.when h.fields.1 h.fields.4 (subst (λ z. Each is_blank z) h.fields.2 blank)
 not_skipped n line c h (inr k) =
     let s = shorter h.when (35 ∷ k.0) (h.which ∷ h.verb ∷ c.name ∷ []) [] h.rest k.1 line h.fields k.2 in

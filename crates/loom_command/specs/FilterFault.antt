@@ -1,9 +1,9 @@
 -- Why the text of a filter is refused, whatever the program: where the grammar is left, and what is counted or said twice.
-use Rattle.std.specs.Prelude.{ℕ, suc, ◌+◌, ◌<◌, ◌≤◌, ◌≡◌, ◌⊎◌, ◌==◌, nat_lt, nat_le, Bool, true, false, ◌&&◌, ◌||◌, not, List, [], ◌∷◌, ◌++◌, length, map, flat_map, Option, Some, None, if◌then◌else◌}
+use Rattle.std.specs.Prelude.{ℕ, suc, ◌+◌, ◌<◌, ◌≤◌, ◌≡◌, ◌⊎◌, ◌==◌, nat_lt, nat_le, Bool, true, false, ◌&&◌, ◌||◌, List, [], ◌∷◌, length, Option, Some, None, if◌then◌else◌}
 use Rattle.std.specs.List.{list_any}
 use Rattle.loom_lexer.specs.Tokens.{value_from}
 use Rattle.loom_command.specs.Filter as tree
-use Rattle.loom_command.specs.FilterForm.{TestForm, EventForm, StepForm, RegionForm, between, whole, ClauseForm, order, exclusive, unilateral, test_tree, filter_tree}
+use Rattle.loom_command.specs.FilterForm.{EventForm, StepForm, RegionForm, between, whole, ClauseForm, order, exclusive, unilateral, test_tree, filter_tree}
 use Rattle.loom_command.specs.FilterText.{IsText, IsForm, BeginsWith}
 
 -- A fault stands in a clause, counted from 1, and has a number.
@@ -11,9 +11,9 @@ pub record FilterFault : Type 0 where
   pub clause : ℕ
   pub number : ℕ
 
--- The least clause counts, and in it the least number.
-abbrev pub IsBefore : FilterFault → FilterFault → Type 0
-IsBefore a b = (a.clause < b.clause) ⊎ ((a.clause ≡ b.clause) × (a.number ≤ b.number))
+-- The first is no later than the second: its clause is less, or the clauses are the same and its number isn't greater.
+abbrev pub IsNoLater : FilterFault → FilterFault → Type 0
+IsNoLater a b = (a.clause < b.clause) ⊎ ((a.clause ≡ b.clause) × (a.number ≤ b.number))
 
 -- the grammar is left
 
@@ -46,7 +46,7 @@ is_last_counted s [] = is_counted s
 is_last_counted s (t ∷ ts) = is_last_counted t ts
 
 abbrev pub is_region_counted : RegionForm → Bool
-is_region_counted (between es xs) = list_any is_counted es || list_any is_counted xs
+is_region_counted (between e es x xs) = list_any is_counted (e ∷ es) || list_any is_counted (x ∷ xs)
 is_region_counted (whole f test) = false
 
 abbrev pub is_miscounted : ClauseForm → Bool
@@ -82,7 +82,7 @@ abbrev pub most_events : ℕ
 most_events = 32
 
 abbrev pub region_events : RegionForm → ℕ
-region_events (between es xs) = length es + length xs
+region_events (between e es x xs) = length (e ∷ es) + length (x ∷ xs)
 -- a function is one event
 region_events (whole f test) = 1
 
@@ -115,7 +115,7 @@ pub record IsFaulty (bytes : List ℕ) (x : FilterFault) : Type 0 where
   pub others : List ClauseForm
   pub form : IsForm bytes first others
   pub is : IsFaultOf 1 0 (first ∷ others) x
-  pub least : (y : FilterFault) → IsFaultOf 1 0 (first ∷ others) y → IsBefore x y
+  pub least : (y : FilterFault) → IsFaultOf 1 0 (first ∷ others) y → IsNoLater x y
 
 abbrev pub IsRefusedText : List ℕ → FilterFault → Type 0
 IsRefusedText bytes x = ((x.number ≡ 1) × LeavesGrammar bytes x.clause) ⊎ IsFaulty bytes x

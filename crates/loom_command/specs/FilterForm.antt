@@ -1,15 +1,14 @@
 -- Filters as they are written: what the grammar has, before anything is asked of it.
-use Rattle.std.specs.Prelude.{ℕ, suc, ◌≤◌, ◌≡◌, List, [], ◌∷◌, ◌++◌, length, map, Option, Some, None, codes}
+use Rattle.std.specs.Prelude.{ℕ, ◌≤◌, ◌≡◌, Bool, true, false, not, ◌||◌, nat_eq, List, [], ◌∷◌, map, Option, Some, None}
 use Rattle.std.specs.List.{AllByRecursion}
 use Rattle.loom_tree.specs.Tree.{Expression}
-use Rattle.loom_tree.specs.Token.{LineToken, Token}
+use Rattle.loom_tree.specs.Token.{LineToken}
 use Rattle.loom_lexer.specs.declared.lexeme.LexemeKind.{LexemeKind}
 use Rattle.loom_lexer.specs.declared.lexeme.LexemeKind.TheVariants as k
-use Rattle.loom_lexer.specs.Lexeme.{Lexeme, Each, is, is_digit, is_part, IsLexed}
+use Rattle.loom_lexer.specs.Lexeme.{Lexeme, Each, is_digit, is_part, IsLexed}
 use Rattle.loom_lexer.specs.Name.{IsName}
 use Rattle.loom_lexer.specs.Tokens.{value_from, tokens_from}
 use Rattle.loom_expression.specs.Text.{IsExpression}
-use Rattle.std.specs.Prelude.{Bool, true, false, not, ◌||◌, nat_eq, nat_le}
 use Rattle.loom_command.specs.Filter as tree
 use Rattle.loom_command.specs.Filter.{Filter}
 
@@ -29,7 +28,8 @@ pub record StepForm : Type 0 where
   pub count : Option (List ℕ)
 
 pub data RegionForm : Type 0 where
-  between : List StepForm → List StepForm → RegionForm
+  -- the first event at which it is entered, and the others; the first at which it is left, and the others
+  between : StepForm → List StepForm → StepForm → List StepForm → RegionForm
   whole : List ℕ → Option TestForm → RegionForm
 
 pub data ClauseForm : Type 0 where
@@ -88,12 +88,8 @@ pub record IsStep (x : StepForm) : Type 0 where
   pub event : IsEvent x.event
   pub count : IsCountIf x.count
 
-abbrev pub IsSome : {A : Type 0} → List A → Type 0
-IsSome [] = ⊥
-IsSome (x ∷ xs) = Unit {0}
-
 abbrev pub IsRegion : RegionForm → Type 0
-IsRegion (between es xs) = IsSome es × AllByRecursion IsStep es × IsSome xs × AllByRecursion IsStep xs
+IsRegion (between e es x xs) = AllByRecursion IsStep (e ∷ es) × AllByRecursion IsStep (x ∷ xs)
 IsRegion (whole f test) = IsName f × IsTestIf test
 
 abbrev pub IsClause : ClauseForm → Type 0
@@ -101,7 +97,7 @@ IsClause (order a b ss) = IsStep a × IsStep b × AllByRecursion IsStep ss
 IsClause (exclusive r rs) = IsRegion r × AllByRecursion IsRegion rs
 IsClause (unilateral r) = IsRegion r
 
--- The tree that a written filter is. Where a step writes no count, 1 counts; those of a region count nothing.
+-- The tree that a written filter is. Where no count is written it is 1; the tree of a region has none.
 
 abbrev pub test_tree : Option TestForm → Option Expression
 test_tree None = None
@@ -121,7 +117,7 @@ abbrev pub events_tree : List StepForm → List tree.LineEvent
 events_tree ss = map (λ (s : StepForm). event_tree s.event) ss
 
 abbrev pub region_tree : RegionForm → tree.Region
-region_tree (between es xs) = tree.between (events_tree es) (events_tree xs)
+region_tree (between e es x xs) = tree.between (events_tree (e ∷ es)) (events_tree (x ∷ xs))
 region_tree (whole f test) = tree.whole f (test_tree test)
 
 abbrev pub clause_tree : ClauseForm → tree.Clause

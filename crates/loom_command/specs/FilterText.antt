@@ -1,9 +1,8 @@
 -- The text of a filter: tokens with blanks before, between and behind them.
-use Rattle.std.specs.Prelude.{ℕ, suc, ◌≤◌, ◌≡◌, List, [], ◌∷◌, ◌++◌, length, map, Option, Some, None, codes, Bool, ◌||◌, nat_eq}
+use Rattle.std.specs.Prelude.{ℕ, ◌≡◌, List, [], ◌∷◌, ◌++◌, length, map, Option, Some, None, codes, Bool, ◌||◌, nat_eq}
 use Rattle.std.specs.List.{AllByRecursion}
 use Rattle.loom_lexer.specs.Lexeme.{Each, BeginsWithout}
-use Rattle.loom_command.specs.Filter.{Filter}
-use Rattle.loom_command.specs.FilterForm.{TestForm, EventForm, StepForm, RegionForm, between, whole, ClauseForm, order, exclusive, unilateral, is_file_part, IsClause, filter_tree}
+use Rattle.loom_command.specs.FilterForm.{TestForm, EventForm, StepForm, RegionForm, between, whole, ClauseForm, order, exclusive, unilateral, is_file_part, IsClause}
 
 -- space and tab
 abbrev pub is_blank : ℕ → Bool
@@ -13,13 +12,13 @@ pub data Piece : Type 0 where
   -- a file's name, a name or a number: it goes on as long as it can
   word : List ℕ → Piece
   sign : List ℕ → Piece
-  -- what stands between the parentheses of a test, white space included
+  -- a test with its parentheses: all that stands between them is the test's, white space too
   test : List ℕ → Piece
 
 abbrev pub bytes_of : Piece → List ℕ
 bytes_of (word bs) = bs
 bytes_of (sign bs) = bs
-bytes_of (test bs) = bs
+bytes_of (test bs) = codes "(" ++ (bs ++ codes ")")
 
 -- with this behind it
 abbrev pub Stands : Piece → List ℕ → Type 0
@@ -44,7 +43,7 @@ signed bs = sign bs ∷ []
 
 abbrev pub test_pieces : Option TestForm → List Piece
 test_pieces None = []
-test_pieces (Some x) = sign (codes "(") ∷ test x.bytes ∷ sign (codes ")") ∷ []
+test_pieces (Some x) = test x.bytes ∷ []
 
 abbrev pub event_pieces : EventForm → List Piece
 event_pieces x = word x.file ∷ sign (codes ":") ∷ word x.line ∷ test_pieces x.test
@@ -60,7 +59,7 @@ abbrev pub events_pieces : List StepForm → List Piece
 events_pieces ss = joined (signed (codes ",")) (map step_pieces ss)
 
 abbrev pub region_pieces : RegionForm → List Piece
-region_pieces (between es xs) = sign (codes "{") ∷ events_pieces es ++ (sign (codes ";") ∷ events_pieces xs ++ signed (codes "}"))
+region_pieces (between e es x xs) = sign (codes "{") ∷ events_pieces (e ∷ es) ++ (sign (codes ";") ∷ events_pieces (x ∷ xs) ++ signed (codes "}"))
 region_pieces (whole f x) = word f ∷ sign (codes "(") ∷ sign (codes ")") ∷ test_pieces x
 
 abbrev pub clause_pieces : ClauseForm → List Piece

@@ -1,11 +1,11 @@
 -- Scripts: lines of an operator, each a command.
-use Rattle.std.specs.Prelude.{ℕ, suc, ◌+◌, ◌-◌, ◌≤◌, ◌≡◌, ◌⊎◌, Bool, true, false, not, ◌||◌, nat_eq, List, [], ◌∷◌, ◌++◌, length, take, slice_get, Option, Some, None, codes, if◌then◌else◌}
+use Rattle.std.specs.Prelude.{ℕ, suc, ◌-◌, ◌≤◌, ◌≡◌, ◌⊎◌, Bool, true, false, not, nat_eq, List, [], ◌∷◌, ◌++◌, length, take, slice_get, Some, codes, if◌then◌else◌}
 use Rattle.loom_lexer.specs.Lexeme.{Each, BeginsWithout, is_letter, is_part}
 use Rattle.loom_tree.specs.Decimal.{decimal}
 use Rattle.loom_command.specs.FilterText.{is_blank}
 
 pub data Trigger : Type 0 where
-  -- at so many thread entries
+  -- where threads have made at least so many entries
   at : ℕ → Trigger
   -- where no thread can go on
   stall : Trigger

@@ -6,6 +6,8 @@ use Rattle.loom_lang.specs.Trace.{Cause, division, index, not_held, not_spawned,
 use Rattle.loom_lang.specs.Acts.{Deed}
 use Rattle.loom_trace.specs.declared.entry.Entry.{Entry}
 use Rattle.loom_trace.specs.declared.entry.Entry.TheVariants as e
+use Rattle.loom_trace.specs.declared.entry.What.{What}
+use Rattle.loom_trace.specs.declared.entry.What.TheVariants as what
 use Rattle.loom_trace.specs.declared.request.Request.{Request}
 use Rattle.loom_trace.specs.declared.request.Request.TheVariants as r
 use Rattle.loom_event.specs.Event.{entry_by}
@@ -54,6 +56,18 @@ trapped (r.Spawn l f vs) = deed l (trap threads)
 trapped (r.Join l u) = deed l (trap (not_spawned u))
 trapped (r.Print l u) = None
 trapped (r.Tick l k) = None
+
+-- The deed grants the request, with some value, or it is the trap that may stand in its place.
+abbrev pub IsAnswered : Request → Deed → Type 0
+IsAnswered q d = ((v : ℤ) × (granted q v ≡ Some d)) ⊎ (trapped q ≡ Some d)
+
+-- the request on a line for which a thread may be blocked, where no filter makes it ask
+abbrev pub request_of : ℕ → What → Option Request
+request_of l (what.Lock m) = Some (r.Lock l m)
+request_of l (what.Down k) = Some (r.Down l k)
+request_of l (what.Join c) = Some (r.Join l (pos c))
+request_of l (what.Enter k c) = None
+request_of l (what.Wait k n) = None
 
 -- the entry of what a thread did
 abbrev pub IsEntryOf : ℕ → Option Deed → Entry → Type 0

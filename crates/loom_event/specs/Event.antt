@@ -11,6 +11,9 @@ pub record Event : Type 0 where
   pub line : ℕ
   pub act : Act
 
+abbrev pub event_of_deed : ℕ → Deed → Event
+event_of_deed t d = record { thread = t; line = d.line; act = d.act }
+
 -- The entry of an event. Of a trap it tells the reason's number alone.
 abbrev pub entry_by : ℕ → ℕ → Act → Entry
 entry_by t l begin = e.Begin t l

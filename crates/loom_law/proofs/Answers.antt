@@ -12,8 +12,8 @@ use Rattle.loom_lang.specs.Trace.{division, index, not_held, not_spawned, thread
 use Rattle.loom_lang.specs.Acts.{Deed, AnswerTheSame}
 use Rattle.loom_lang.specs.Alike.{AreAlike}
 use Rattle.loom_lang.proofs.NextItem.{one_next_item}
-use Rattle.loom_event.specs.Answer.{trapped}
-use Rattle.loom_event.specs.Event.{entry_by, targets}
+use Rattle.loom_event.specs.Answer.{trapped, IsAnswered}
+use Rattle.loom_event.specs.Event.{event_of_deed, entry_by, targets}
 use Rattle.loom_event.specs.Entries.{thread_of, is_thread}
 use Rattle.loom_event.specs.Replay.{ThreadState, start, thread_at, replay, IsAllowed}
 use Rattle.loom_law.specs.Walk.{Version, Plans, wait, enters, at, past, post, leave, back, tick, cross, blocked, Queue, PartStep, goes, makes, items, told, Walk, unborn, behind_entry, crossing, after, walk_from, request_place, place_of_item, place_of_next, Acts, AsksFor, MayCross, MayBlock, MayStand, AreWoven}
@@ -21,7 +21,7 @@ use Rattle.loom_law.specs.ThreadPart.{Own, IsPart, KeepsAway, AsksToAct, GoesOn}
 use Rattle.loom_law.specs.Control.{Control, control, versions_of, entries_of}
 use Rattle.loom_law.specs.Lawful.{Setting, Front, front_of, plans, own, IsFlagged, is_cross, IsLawful, MayFollow, Permits}
 use Rattle.loom_law.specs.Laws.{with_newest}
-use Rattle.loom_law.specs.TurnLaws.{IsAnswered, event_of_deed, HasAnswers, HasAnswerTurns}
+use Rattle.loom_law.specs.TurnLaws.{HasAnswers, HasAnswerTurns}
 use Rattle.loom_law.proofs.OnePart.{told_append}
 use Rattle.loom_law.proofs.Earlier.{items_ahead, to_take, an_own, stays, by_test, if_true, if_false, IsOf}
 use Rattle.loom_law.proofs.Lawful.{event_turns}

@@ -1,5 +1,5 @@
--- Lawful journals of runs with a filter that is installed before the first entry, or refused, or comes too late.
-use Rattle.std.proofs.Common.{ℕ, true, false, ◌≡◌, zero, suc, inl, inr, pos, List, [], ◌∷◌, Some, None, refl, codes, arith}
+-- Lawful journals of runs with a command that is answered before the first entry, or refused, or comes too late.
+use Rattle.std.proofs.Common.{ℕ, true, false, ◌≡◌, ◌⊎◌, zero, suc, inl, inr, pos, List, [], ◌∷◌, ◌++◌, Some, None, refl, sym, ap, subst, ◌∙◌, codes, arith}
 use Rattle.loom_tree.specs.declared.expression.Op.TheVariants as o
 use Rattle.loom_tree.specs.Tree.{num, var, bin, Right, Simple, let_, set, simple, if_, while_, Source}
 use Rattle.loom_tree.specs.Tree as tree
@@ -8,7 +8,7 @@ use Rattle.loom_trace.specs.declared.entry.Entry.TheVariants as e
 use Rattle.loom_trace.specs.declared.entry.What.TheVariants as w
 use Rattle.loom_trace.specs.declared.entry.Ending.TheVariants as k
 use Rattle.loom_lang.specs.Places.{nowhere}
-use Rattle.loom_lang.specs.Trace.{begin, end, read, write, spawn, join, print, made, begins, done, enter, out, Finished, Open, IsTrace}
+use Rattle.loom_lang.specs.Trace.{begin, end, read, write, lock, spawn, join, print, made, begins, done, enter, out, Finished, Open, IsTrace}
 use Rattle.loom_command.specs.Filter.{Region, Clause}
 use Rattle.loom_command.specs.Script as script
 use Rattle.loom_event.specs.Event.{Event}
@@ -17,14 +17,15 @@ use Rattle.loom_event.specs.Run.{AreRun}
 use Rattle.loom_event.proofs.Runs.{next, given, threads_traced, does}
 use Rattle.loom_event.proofs.Runs as runs
 use Rattle.loom_event.proofs.Stops as stops
-use Rattle.loom_event.proofs.Shown.{event}
+use Rattle.loom_event.proofs.Shown.{event, locks}
 use Rattle.loom_law.specs.Filter.{plan_of}
 use Rattle.loom_law.specs.Walk.{wait, past, post, blocked, PartStep, goes, makes, items}
 use Rattle.loom_law.specs.Walk as walk
-use Rattle.loom_law.specs.Control.{refused, means, install, Command}
-use Rattle.loom_law.specs.Lawful.{Setting, HasPart, StandsAt, running_thread, IsOutside, MayInstall, front_at, IsLawful}
+use Rattle.loom_law.specs.Control.{refused, means, install, remove, Command, command_at, Control, first_control, listed_places}
+use Rattle.loom_law.specs.Lawful.{Setting, Front, front_of, HasPart, Lives, IsBlocked, IsHeldOff, IsStalled, IsTriggered, IsDue, over, is_cross, owes_cross, IsParked, MayMove, StandsAt, running_thread, IsOutside, MayInstall, front_at, IsLawful}
 use Rattle.loom_law.proofs.Fronts.{Each, behind, each_one, FollowsBehind, nothing_made}
-use Rattle.loom_law.proofs.Journals.{not_due, moves}
+use Rattle.loom_law.proofs.Journals.{not_due, are_free, not_off, moves}
+use Rattle.loom_law.proofs.EvacuationJournal.{evacuated, evacuation_setting}
 
 -- A use waits for the initialisation.
 
@@ -265,28 +266,9 @@ nested_lawful = record {
 
 -- The limit comes before the command, and between the command and its answer.
 
--- 1  shared x;
--- 2  fn step() {
--- 3    x = x + 1;
--- 4  }
--- 5  fn main() {
--- 6    let i = 0;
--- 7    while (i < 3) {
--- 8      step();
--- 9      x = x * 2;
--- 10     i = i + 1;
--- 11   }
--- 12   print x;
--- 13 }
--- script: at 2 install f {call.lm:8; call.lm:9} <> *
-abbrev pub late_program : Source
-late_program = record { words = (record { name = (codes "x"); cells = None; first = (pos 0) } ∷ []); mutexes = []; semas = []; funcs = (record { name = (codes "step"); line = 2; params = []; body = (simple 3 (set (codes "x") (Right.value (bin o.Add (var (codes "x")) (num (pos 1))))) tree.end) } ∷ record { name = (codes "main"); line = 5; params = []; body = (simple 6 (let_ (codes "i") (Right.value (num (pos 0)))) (while_ 7 (bin o.Lt (var (codes "i")) (num (pos 3))) (simple 8 (Simple.call (codes "step") []) (simple 9 (set (codes "x") (Right.value (bin o.Mul (var (codes "x")) (num (pos 2))))) (simple 10 (set (codes "i") (Right.value (bin o.Add (var (codes "i")) (num (pos 1))))) tree.end))) (simple 12 (tree.print (var (codes "x"))) tree.end))) } ∷ []) }
-
-abbrev late_commands : List Command
-late_commands = (record { trigger = script.at 2; name = (codes "f"); action = install (means (plan_of late_program ((Clause.unilateral (Region.between (record { file = (codes "call.lm"); line = 8; test = None } ∷ []) (record { file = (codes "call.lm"); line = 9; test = None } ∷ []))) ∷ []))) } ∷ [])
-
+-- script: at 2 install f {call.lm:8; call.lm:9} <> *, for the program of `EvacuationJournal.antt`
 abbrev pub unreached_setting : Setting
-unreached_setting = record { program = late_program; commands = late_commands; limit = 2; stop = stops.never }
+unreached_setting = record evacuation_setting { limit = 2 }
 
 abbrev pub unreached_journal : List Entry
 unreached_journal =
@@ -302,10 +284,10 @@ unreached_steps_1 =
     ∷ goes (begins 7 ((codes "i", pos 0) ∷ [])) ∷ goes (begins 8 ((codes "i", pos 0) ∷ [])) ∷ goes (enter 0 []) ∷ goes (begins 3 [])
     ∷ goes (made 3 (read 0 (pos 0))) ∷ []
 
-unreached_trace_1 : IsTrace late_program 1 [] (items unreached_steps_1) Open
+unreached_trace_1 : IsTrace evacuated 1 [] (items unreached_steps_1) Open
 unreached_trace_1 = record { most_turns = 1; gives = next (next (next (next (next (next (next (next (given (pos 0) (next (inl (refl, refl))))))))))) }
 
-pub unreached_part_1 : HasPart unreached_setting unreached_journal 1 (thread_at (replay (start late_program) unreached_events) 1)
+pub unreached_part_1 : HasPart unreached_setting unreached_journal 1 (thread_at (replay (start evacuated) unreached_events) 1)
 unreached_part_1 = record {
   steps = unreached_steps_1;
   ahead = [];
@@ -316,14 +298,14 @@ unreached_part_1 = record {
   taken = refl;
 }
 
-pub unreached_parts : (t : ℕ) → HasPart unreached_setting unreached_journal t (thread_at (replay (start late_program) unreached_events) t)
+pub unreached_parts : (t : ℕ) → HasPart unreached_setting unreached_journal t (thread_at (replay (start evacuated) unreached_events) t)
 unreached_parts zero = refl
 unreached_parts (suc zero) = unreached_part_1
 unreached_parts (suc (suc t)) = nothing_made 2 (suc (suc t)) unreached_journal (omega arith) refl
 
-unreached_run : AreRun late_program unreached_events
+unreached_run : AreRun evacuated unreached_events
 unreached_run = record {
-  traced = threads_traced late_program unreached_events (record { items = items unreached_steps_1; outcome = Open; trace = unreached_trace_1; same = refl }, tt) refl refl;
+  traced = threads_traced evacuated unreached_events (record { items = items unreached_steps_1; outcome = Open; trace = unreached_trace_1; same = refl }, tt) refl refl;
   allowed =
       runs.begins refl refl (does refl refl (tt));
 }
@@ -343,7 +325,7 @@ unreached_lawful = record {
 }
 
 abbrev pub cut_setting : Setting
-cut_setting = record { program = late_program; commands = late_commands; limit = 3; stop = stops.never }
+cut_setting = record evacuation_setting { limit = 3 }
 
 abbrev pub cut_journal : List Entry
 cut_journal =
@@ -359,10 +341,10 @@ cut_steps_1 =
     ∷ goes (begins 7 ((codes "i", pos 0) ∷ [])) ∷ goes (begins 8 ((codes "i", pos 0) ∷ [])) ∷ goes (enter 0 []) ∷ goes (begins 3 [])
     ∷ goes (made 3 (read 0 (pos 0))) ∷ goes (made 3 (write 0 (pos 1))) ∷ []
 
-cut_trace_1 : IsTrace late_program 1 [] (items cut_steps_1) Open
+cut_trace_1 : IsTrace evacuated 1 [] (items cut_steps_1) Open
 cut_trace_1 = record { most_turns = 1; gives = next (next (next (next (next (next (next (next (given (pos 0) (next (next (inl (refl, refl)))))))))))) }
 
-pub cut_part_1 : HasPart cut_setting cut_journal 1 (thread_at (replay (start late_program) cut_events) 1)
+pub cut_part_1 : HasPart cut_setting cut_journal 1 (thread_at (replay (start evacuated) cut_events) 1)
 cut_part_1 = record {
   steps = cut_steps_1;
   ahead = [];
@@ -373,14 +355,14 @@ cut_part_1 = record {
   taken = refl;
 }
 
-pub cut_parts : (t : ℕ) → HasPart cut_setting cut_journal t (thread_at (replay (start late_program) cut_events) t)
+pub cut_parts : (t : ℕ) → HasPart cut_setting cut_journal t (thread_at (replay (start evacuated) cut_events) t)
 cut_parts zero = refl
 cut_parts (suc zero) = cut_part_1
 cut_parts (suc (suc t)) = nothing_made 2 (suc (suc t)) cut_journal (omega arith) refl
 
-cut_run : AreRun late_program cut_events
+cut_run : AreRun evacuated cut_events
 cut_run = record {
-  traced = threads_traced late_program cut_events (record { items = items cut_steps_1; outcome = Open; trace = cut_trace_1; same = refl }, tt) refl refl;
+  traced = threads_traced evacuated cut_events (record { items = items cut_steps_1; outcome = Open; trace = cut_trace_1; same = refl }, tt) refl refl;
   allowed =
       runs.begins refl refl (does refl refl (does refl tt (tt)));
 }
@@ -399,4 +381,127 @@ cut_lawful = record {
   run = cut_run;
   parts = cut_parts;
   follows = each_one (FollowsBehind cut_setting cut_events) cut_journal cut_follows;
+}
+
+-- A removal is asked where the run is stalled, and refused, since nothing is installed: the end is stuck.
+
+-- 1  mutex m;
+-- 2  fn main() {
+-- 3    lock m;
+-- 4    lock m;
+-- 5  }
+-- script: on stall remove a
+abbrev on_stall_commands : List Command
+on_stall_commands = record { trigger = script.stall; name = codes "a"; action = remove } ∷ []
+
+abbrev pub on_stall_setting : Setting
+on_stall_setting = record { program = locks; commands = on_stall_commands; limit = 100000; stop = stops.never }
+
+abbrev pub before_stall : List Entry
+before_stall = e.Begin 1 2 ∷ e.Lock 1 3 0 ∷ e.Blocked 1 4 (w.Lock 0) ∷ []
+
+abbrev pub on_stall_journal : List Entry
+on_stall_journal = e.Begin 1 2 ∷ e.Lock 1 3 0 ∷ e.Blocked 1 4 (w.Lock 0) ∷ e.Asked 1 ∷ e.Refused 1 12 0 ∷ e.Finish k.Stuck ∷ []
+
+abbrev pub on_stall_events : List Event
+on_stall_events = event 1 2 begin ∷ event 1 3 (lock 0) ∷ []
+
+abbrev stalled_front : List Entry → Front
+stalled_front es = front_of on_stall_setting es on_stall_events
+
+-- its only thread is blocked
+stalled_behind : (es : List Entry) → IsBlocked on_stall_setting (stalled_front es) 1 → IsStalled on_stall_setting (stalled_front es)
+stalled_behind es waiting = record { live = 1; lives = record { state = _; is = refl; not_ended = refl }; stuck = waits }
+  where
+    waits : (t : ℕ) → Lives (replay (start locks) on_stall_events) t → IsBlocked on_stall_setting (stalled_front es) t ⊎ IsHeldOff on_stall_setting (stalled_front es) t
+    waits zero g = let no : None ≡ Some g.state = g.is in cc
+    waits (suc zero) g = inl waiting
+    waits (suc (suc t)) g = let no : None ≡ Some g.state = g.is in cc
+
+pub stall_due : IsDue on_stall_setting (front_at on_stall_setting on_stall_events before_stall)
+stall_due = record {
+  command = _;
+  is = refl;
+  answered = refl;
+  not_closing = refl;
+  runs = refl;
+  triggered = stalled_behind before_stall ((1, refl), refl);
+}
+
+-- before that the thread goes on
+not_stalled : (f : Front) → f.control.next ≡ 1 → Lives f.store 1 → (IsBlocked on_stall_setting f 1 → ⊥) → (IsHeldOff on_stall_setting f 1 → ⊥) → IsDue on_stall_setting f → ⊥
+not_stalled f first lives free off due =
+    let is : command_at on_stall_commands 1 ≡ Some due.command = subst (λ n. command_at on_stall_commands n ≡ Some due.command) first due.is in
+    let command : record { trigger = script.stall; name = codes "a"; action = remove } ≡ due.command = cc in
+    let stalled : IsStalled on_stall_setting f = subst (IsTriggered on_stall_setting f) (sym (ap (λ (c : Command). c.trigger) command)) due.triggered in
+    neither (stalled.stuck 1 lives)
+  where
+    neither : IsBlocked on_stall_setting f 1 ⊎ IsHeldOff on_stall_setting f 1 → ⊥
+    neither (inl h) = free h
+    neither (inr h) = off h
+
+goes_on : {f : Front} {x : Entry} → over on_stall_setting f ≡ false → f.control ≡ first_control → Lives f.store 1 → (IsBlocked on_stall_setting f 1 → ⊥)
+    → is_cross x ≡ owes_cross x (listed_places 1 f.entries) → MayMove on_stall_setting f 1 x
+goes_on {f = f} {x = x} runs first lives free crosses =
+    let off : IsHeldOff on_stall_setting f 1 → ⊥ = not_off on_stall_setting f 1 (ap (λ (c : Control). are_free on_stall_setting 1 c.holders) first) in
+    record {
+      goes_on = record {
+        runs = runs;
+        not_closing = ap (λ (c : Control). c.closing) first;
+        not_due = not_stalled f (ap (λ (c : Control). c.next) first) lives free off;
+        not_refused = λ k is. absurd (nothing_asked k (sym (ap (λ (c : Control). c.asked) first) ∙ is));
+      };
+      not_held_off = off;
+      crosses = crosses;
+      parked = subst (IsParked on_stall_setting f 1 x) (sym (ap (λ (c : Control). c.asked) first)) tt;
+    }
+  where
+    nothing_asked : (k : ℕ) → None ≡ Some k → ⊥
+    nothing_asked k h = cc
+
+abbrev on_stall_steps_1 : List PartStep
+on_stall_steps_1 =
+    goes (made 2 begin) ∷ goes (enter 0 []) ∷ goes (begins 3 []) ∷ goes (made 3 (lock 0)) ∷ goes (done 3) ∷ goes (begins 4 [])
+    ∷ makes 4 (blocked (w.Lock 0)) ∷ []
+
+on_stall_trace_1 : IsTrace locks 0 [] (items on_stall_steps_1) Open
+on_stall_trace_1 = record { most_turns = 0; gives = next (next (next (next (next (next (inl (refl, refl))))))) }
+
+pub on_stall_part_1 : HasPart on_stall_setting on_stall_journal 1 (thread_at (replay (start locks) on_stall_events) 1)
+on_stall_part_1 = record {
+  steps = on_stall_steps_1;
+  ahead = made 4 (lock 0) ∷ [];
+  outcome = Open;
+  trace = record { most_turns = 0; gives = next (next (next (next (next (next (next (inl (refl, refl)))))))) };
+  woven = ((refl, tt), (refl, (refl, (refl, (refl, (refl, (record { asks = refl; not_yet = refl }, tt)))))));
+  tells = refl;
+  taken = refl;
+}
+
+pub on_stall_parts : (t : ℕ) → HasPart on_stall_setting on_stall_journal t (thread_at (replay (start locks) on_stall_events) t)
+on_stall_parts zero = refl
+on_stall_parts (suc zero) = on_stall_part_1
+on_stall_parts (suc (suc t)) = nothing_made 2 (suc (suc t)) on_stall_journal (omega arith) refl
+
+on_stall_run : AreRun locks on_stall_events
+on_stall_run = record {
+  traced = threads_traced locks on_stall_events (record { items = items on_stall_steps_1; outcome = Open; trace = on_stall_trace_1; same = refl }, tt) refl refl;
+  allowed = runs.begins refl refl (does refl refl tt);
+}
+
+on_stall_follows : Each (FollowsBehind on_stall_setting on_stall_events) [] on_stall_journal
+on_stall_follows =
+    behind (goes_on refl refl (record { state = _; is = refl; not_ended = refl }) (λ h. h) refl, tt) (
+    behind (goes_on refl refl (record { state = _; is = refl; not_ended = refl }) (λ h. h) refl, tt) (
+    behind (goes_on refl refl (record { state = _; is = refl; not_ended = refl }) (λ h. h) refl, (_, refl)) (
+    behind (stall_due, refl) (behind (refl, refl) (
+    behind (refl, (refl, (omega arith, (refl, (stalled_behind (before_stall ++ e.Asked 1 ∷ e.Refused 1 12 0 ∷ []) ((1, refl), refl), not_due on_stall_setting _ refl))))) (tt))))))
+
+pub on_stall_lawful : IsLawful on_stall_setting on_stall_journal
+on_stall_lawful = record {
+  events = on_stall_events;
+  tells = refl;
+  run = on_stall_run;
+  parts = on_stall_parts;
+  follows = each_one (FollowsBehind on_stall_setting on_stall_events) on_stall_journal on_stall_follows;
 }

@@ -1,5 +1,5 @@
 -- A filter is installed while a thread is inside: it is let out of the callee first, and takes the filter at the loop's back edge.
-use Rattle.std.proofs.Common.{ℕ, zero, suc, ◌<◌, ◌≡◌, ◌==◌, ◌⊎◌, inl, inr, Bool, true, false, ◌||◌, pos, List, [], ◌∷◌, length, take, Some, None, slice_get, slice_index_or, refl, sym, ap, subst, ◌∙◌, codes, arith}
+use Rattle.std.proofs.Common.{ℕ, zero, suc, ◌≡◌, ◌==◌, ◌⊎◌, inl, inr, Bool, true, false, ◌||◌, pos, List, [], ◌∷◌, take, Some, None, slice_get, refl, sym, ap, subst, ◌∙◌, codes, arith}
 use Rattle.std.specs.List.{Contains}
 use Rattle.loom_tree.specs.declared.expression.Op.TheVariants as o
 use Rattle.loom_tree.specs.Tree.{num, var, bin, Right, Simple, let_, set, Body, simple, while_, Function, Source}
@@ -10,7 +10,7 @@ use Rattle.loom_trace.specs.declared.entry.Ending.TheVariants as k
 use Rattle.loom_lang.specs.Places.{Place, nowhere, body_places}
 use Rattle.loom_lang.specs.Places as place
 use Rattle.loom_lang.specs.Numbers.{function_number}
-use Rattle.loom_lang.specs.Trace.{begin, end, read, write, made, begins, done, edge, enter, out, Finished, Open, IsTrace}
+use Rattle.loom_lang.specs.Trace.{begin, end, read, write, print, made, begins, done, edge, enter, out, Finished, Open, IsTrace}
 use Rattle.loom_command.specs.Filter.{LineEvent, Region, Clause, Filter}
 use Rattle.loom_command.specs.Script as script
 use Rattle.loom_event.specs.Event.{Event}
@@ -21,12 +21,12 @@ use Rattle.loom_event.proofs.Runs as runs
 use Rattle.loom_event.proofs.Stops as stops
 use Rattle.loom_event.proofs.Shown.{event}
 use Rattle.loom_law.specs.Filter.{Watch, statement, Range, between, Plan, plan_of}
-use Rattle.loom_law.specs.Walk.{enters, past, leave, cross, PartStep, goes, makes, items}
+use Rattle.loom_law.specs.Walk.{Version, enters, past, leave, cross, PartStep, goes, makes, items, unborn, AreWoven}
 use Rattle.loom_law.specs.Walk as walk
 use Rattle.loom_law.specs.Paths.{Node, leaves, complete, turns, links_of, statements, has_return, called_by, Begins, IsStatement, statements_of, places_of, Calls, Reaches, IsReached, IsReachedAt, watch_at, node_places, IsExit, Halts, Comes, IsUnsafeByEvent, IsUnsafeByPath, IsUnsafeByFunction, IsUnsafe}
 use Rattle.loom_law.specs.Paths as paths
 use Rattle.loom_law.specs.Control.{means, install, Command}
-use Rattle.loom_law.specs.Lawful.{Setting, HasPart, StandsAt, running_thread, IsOutside, MayInstall, front_at, own, StaysAway, IsLawful}
+use Rattle.loom_law.specs.Lawful.{Setting, plans, HasPart, StandsAt, running_thread, IsOutside, MayInstall, front_at, own, StaysAway, IsLawful}
 use Rattle.loom_law.proofs.Earlier.{same_number}
 use Rattle.loom_law.proofs.Sites.{outside_where_flagged}
 use Rattle.loom_law.proofs.Fronts.{Each, behind, each_one, FollowsBehind, nothing_made}
@@ -38,12 +38,13 @@ use Rattle.loom_law.proofs.Journals.{AllOf, each, not_due, moves}
 -- 4   }
 -- 5   fn main() {
 -- 6     let i = 0;
--- 7     while (i < 2) {
+-- 7     while (i < 3) {
 -- 8       step();
 -- 9       x = x * 2;
 -- 10      i = i + 1;
 -- 11    }
--- 12  }
+-- 12    print x;
+-- 13  }
 -- script: at 2 install f {call.lm:8; call.lm:9} <> *
 
 abbrev step_function : Function
@@ -55,11 +56,11 @@ main_function = record {
   line = 5;
   params = [];
   body = simple 6 (let_ (codes "i") (Right.value (num (pos 0))))
-      (while_ 7 (bin o.Lt (var (codes "i")) (num (pos 2)))
+      (while_ 7 (bin o.Lt (var (codes "i")) (num (pos 3)))
       (simple 8 (Simple.call (codes "step") [])
       (simple 9 (set (codes "x") (Right.value (bin o.Mul (var (codes "x")) (num (pos 2)))))
       (simple 10 (set (codes "i") (Right.value (bin o.Add (var (codes "i")) (num (pos 1))))) tree.end)))
-      tree.end);
+      (simple 12 (tree.print (var (codes "x"))) tree.end));
 }
 
 abbrev pub evacuated : Source
@@ -183,7 +184,13 @@ apart (suc zero) l x h at_line =
         (λ m b w. absurd (wrong_line 7 m b (λ z. omega arith) (λ z. omega arith) w)),
         (
           (λ m b w. apart_calling),
-          ((λ m b w. apart_doubling), ((λ m b w. absurd (wrong_line 10 m b (λ z. omega arith) (λ z. omega arith) w)), tt)),
+          (
+            (λ m b w. apart_doubling),
+            (
+              (λ m b w. absurd (wrong_line 10 m b (λ z. omega arith) (λ z. omega arith) w)),
+              ((λ m b w. absurd (wrong_line 12 m b (λ z. omega arith) (λ z. omega arith) w)), tt),
+            ),
+          ),
         ),
       ),
     ) x (subst (λ (f : Function). Contains (statements f.body) x) (sym same) h.there) l h.line at_line
@@ -241,7 +248,7 @@ near (paths.goes {m = m} {n = n} c link stop) =
                   (λ a s. a),
                   (
                     (λ a s. refl),
-                    ((λ a s. refl), ((λ a s. absurd (s halted)), ((λ a s. a), ((λ a s. a), ((λ a s. a), tt))))),
+                    ((λ a s. refl), ((λ a s. absurd (s halted)), ((λ a s. a), ((λ a s. a), ((λ a s. a), ((λ a s. a), ((λ a s. a), tt))))))),
                   ),
                 ),
               ),
@@ -311,12 +318,16 @@ evacuation_journal =
     e.Begin 1 5 ∷ e.Read 1 3 0 (pos 0) ∷ e.Asked 1 ∷ e.Write 1 3 0 (pos 1) ∷ e.Read 1 9 0 (pos 1) ∷ e.Write 1 9 0 (pos 2)
     ∷ e.Installed 1 1 (7 ∷ 0 ∷ 0 ∷ 0 ∷ 0 ∷ 0 ∷ 0 ∷ 0 ∷ []) ∷ e.Cross 1 7 7 1 0 ∷ e.Enter 1 8 1 1 ∷ e.At 1 8 1 (1 ∷ []) ∷ e.Read 1 3 0 (pos 2)
     ∷ e.Write 1 3 0 (pos 3) ∷ e.Past 1 8 1 (1 ∷ []) ∷ e.At 1 9 1 (2 ∷ []) ∷ e.Read 1 9 0 (pos 3) ∷ e.Write 1 9 0 (pos 6) ∷ e.Past 1 9 1 (2 ∷ [])
-    ∷ e.Leave 1 9 1 1 ∷ e.End 1 5 ∷ e.Finish k.Done ∷ []
+    ∷ e.Leave 1 9 1 1 ∷ e.Enter 1 8 1 1 ∷ e.At 1 8 1 (1 ∷ []) ∷ e.Read 1 3 0 (pos 6) ∷ e.Write 1 3 0 (pos 7) ∷ e.Past 1 8 1 (1 ∷ [])
+    ∷ e.At 1 9 1 (2 ∷ []) ∷ e.Read 1 9 0 (pos 7) ∷ e.Write 1 9 0 (pos 14) ∷ e.Past 1 9 1 (2 ∷ []) ∷ e.Leave 1 9 1 1 ∷ e.Read 1 12 0 (pos 14)
+    ∷ e.Print 1 12 (pos 14) ∷ e.End 1 5 ∷ e.Finish k.Done ∷ []
 
 abbrev evacuation_events : List Event
 evacuation_events =
     event 1 5 begin ∷ event 1 3 (read 0 (pos 0)) ∷ event 1 3 (write 0 (pos 1)) ∷ event 1 9 (read 0 (pos 1)) ∷ event 1 9 (write 0 (pos 2))
-    ∷ event 1 3 (read 0 (pos 2)) ∷ event 1 3 (write 0 (pos 3)) ∷ event 1 9 (read 0 (pos 3)) ∷ event 1 9 (write 0 (pos 6)) ∷ event 1 5 end ∷ []
+    ∷ event 1 3 (read 0 (pos 2)) ∷ event 1 3 (write 0 (pos 3)) ∷ event 1 9 (read 0 (pos 3)) ∷ event 1 9 (write 0 (pos 6))
+    ∷ event 1 3 (read 0 (pos 6)) ∷ event 1 3 (write 0 (pos 7)) ∷ event 1 9 (read 0 (pos 7)) ∷ event 1 9 (write 0 (pos 14))
+    ∷ event 1 12 (read 0 (pos 14)) ∷ event 1 12 (print (pos 14)) ∷ event 1 5 end ∷ []
 
 evacuation_ended : (t : ℕ) (x : ThreadState) → thread_at (replay (start evacuated) evacuation_events) t ≡ Some x → x.ended ≡ true
 evacuation_ended zero x h = cc
@@ -325,6 +336,9 @@ evacuation_ended (suc (suc t)) x h = cc
 
 abbrev inside_main : ThreadState
 inside_main = record { func = 1; args = []; begun = true; ended = false }
+
+abbrev evacuation_versions : List Version
+evacuation_versions = record { number = 0; active = [] } ∷ record { number = 1; active = 1 ∷ [] } ∷ []
 
 abbrev evacuation_front : List Entry
 evacuation_front =
@@ -419,19 +433,28 @@ evacuation_writes = record {
 
 abbrev evacuation_steps_1 : List PartStep
 evacuation_steps_1 =
-    goes (made 5 begin) ∷ goes (enter 1 ((codes "i", pos 0) ∷ [])) ∷ goes (begins 6 ((codes "i", pos 0) ∷ [])) ∷ goes (done 6)
-    ∷ goes (begins 7 ((codes "i", pos 0) ∷ [])) ∷ goes (begins 8 ((codes "i", pos 0) ∷ [])) ∷ goes (enter 0 []) ∷ goes (begins 3 [])
-    ∷ goes (made 3 (read 0 (pos 0))) ∷ goes (made 3 (write 0 (pos 1))) ∷ goes (done 3) ∷ goes (out 0) ∷ goes (done 8)
-    ∷ goes (begins 9 ((codes "i", pos 0) ∷ [])) ∷ goes (made 9 (read 0 (pos 1))) ∷ goes (made 9 (write 0 (pos 2))) ∷ goes (done 9)
-    ∷ goes (begins 10 ((codes "i", pos 0) ∷ [])) ∷ goes (done 10) ∷ makes 7 (cross 7 1 0) ∷ goes (edge 7) ∷ goes (begins 8 ((codes "i", pos 1) ∷ []))
-    ∷ makes 8 (enters 1 1) ∷ makes 8 (walk.at 1 (1 ∷ [])) ∷ goes (enter 0 []) ∷ goes (begins 3 []) ∷ goes (made 3 (read 0 (pos 2)))
-    ∷ goes (made 3 (write 0 (pos 3))) ∷ goes (done 3) ∷ goes (out 0) ∷ goes (done 8) ∷ makes 8 (past 1 (1 ∷ []))
-    ∷ goes (begins 9 ((codes "i", pos 1) ∷ [])) ∷ makes 9 (walk.at 1 (2 ∷ [])) ∷ goes (made 9 (read 0 (pos 3))) ∷ goes (made 9 (write 0 (pos 6)))
-    ∷ goes (done 9) ∷ makes 9 (past 1 (2 ∷ [])) ∷ makes 9 (leave 1 1) ∷ goes (begins 10 ((codes "i", pos 1) ∷ [])) ∷ goes (done 10) ∷ goes (edge 7)
-    ∷ goes (done 7) ∷ goes (out 1) ∷ goes (made 5 end) ∷ []
+    goes (made 5 begin) ∷ goes (enter 1 ((codes "i", pos 0) ∷ [])) ∷ goes (begins 6 ((codes "i", pos 0) ∷ [])) ∷ goes (done 6) ∷
+    goes (begins 7 ((codes "i", pos 0) ∷ [])) ∷ goes (begins 8 ((codes "i", pos 0) ∷ [])) ∷ goes (enter 0 []) ∷ goes (begins 3 []) ∷
+    goes (made 3 (read 0 (pos 0))) ∷ goes (made 3 (write 0 (pos 1))) ∷ goes (done 3) ∷ goes (out 0) ∷ goes (done 8) ∷
+    goes (begins 9 ((codes "i", pos 0) ∷ [])) ∷ goes (made 9 (read 0 (pos 1))) ∷ goes (made 9 (write 0 (pos 2))) ∷ goes (done 9) ∷
+    goes (begins 10 ((codes "i", pos 0) ∷ [])) ∷ goes (done 10) ∷ makes 7 (cross 7 1 0) ∷ goes (edge 7) ∷
+    goes (begins 8 ((codes "i", pos 1) ∷ [])) ∷ makes 8 (enters 1 1) ∷ makes 8 (walk.at 1 (1 ∷ [])) ∷ goes (enter 0 []) ∷ goes (begins 3 []) ∷
+    goes (made 3 (read 0 (pos 2))) ∷ goes (made 3 (write 0 (pos 3))) ∷ goes (done 3) ∷ goes (out 0) ∷ goes (done 8) ∷
+    makes 8 (past 1 (1 ∷ [])) ∷ goes (begins 9 ((codes "i", pos 1) ∷ [])) ∷ makes 9 (walk.at 1 (2 ∷ [])) ∷ goes (made 9 (read 0 (pos 3))) ∷
+    goes (made 9 (write 0 (pos 6))) ∷ goes (done 9) ∷ makes 9 (past 1 (2 ∷ [])) ∷ makes 9 (leave 1 1) ∷
+    goes (begins 10 ((codes "i", pos 1) ∷ [])) ∷ goes (done 10) ∷ goes (edge 7) ∷ goes (begins 8 ((codes "i", pos 2) ∷ [])) ∷
+    makes 8 (enters 1 1) ∷ makes 8 (walk.at 1 (1 ∷ [])) ∷ goes (enter 0 []) ∷ goes (begins 3 []) ∷ goes (made 3 (read 0 (pos 6))) ∷
+    goes (made 3 (write 0 (pos 7))) ∷ goes (done 3) ∷ goes (out 0) ∷ goes (done 8) ∷ makes 8 (past 1 (1 ∷ [])) ∷
+    goes (begins 9 ((codes "i", pos 2) ∷ [])) ∷ makes 9 (walk.at 1 (2 ∷ [])) ∷ goes (made 9 (read 0 (pos 7))) ∷
+    goes (made 9 (write 0 (pos 14))) ∷ goes (done 9) ∷ makes 9 (past 1 (2 ∷ [])) ∷ makes 9 (leave 1 1) ∷
+    goes (begins 10 ((codes "i", pos 2) ∷ [])) ∷ goes (done 10) ∷ goes (edge 7) ∷ goes (done 7) ∷ goes (begins 12 ((codes "i", pos 3) ∷ [])) ∷
+    goes (made 12 (read 0 (pos 14))) ∷ goes (made 12 (print (pos 14))) ∷ goes (done 12) ∷ goes (out 1) ∷ goes (made 5 end) ∷ []
 
 evacuation_trace_1 : IsTrace evacuated 1 [] (items evacuation_steps_1) Finished
-evacuation_trace_1 = record { most_turns = 3; gives = next (next (next (next (next (next (next (next (given (pos 0) (next (next (next (next (next (next (given (pos 1) (next (next (next (next (next (next (next (next (next (given (pos 2) (next (next (next (next (next (next (given (pos 3) (next (next (next (next (next (next (next (next (next ((refl, inl refl))))))))))))))))))))))))))))))))))))))))))) }
+evacuation_trace_1 = record { most_turns = 4; gives = next (next (next (next (next (next (next (next (given (pos 0) (next (next (next (next (next (next (given (pos 1) (next (next (next (next (next (next (next (next (next (given (pos 2) (next (next (next (next (next (next (given (pos 3) (next (next (next (next (next (next (next (next (next (given (pos 6) (next (next (next (next (next (next (given (pos 7) (next (next (next (next (next (next (next (next (given (pos 14) (next (next (next (next (next (refl, inl refl)))))))))))))))))))))))))))))))))))))))))))))))))))))))))))))))) }
+
+evacuation_woven_1 : AreWoven evacuated (plans evacuation_setting) (unborn evacuation_versions) evacuation_steps_1 []
+evacuation_woven_1 = ((refl, tt), (refl, (refl, (refl, (refl, (refl, (refl, (refl, (refl, (refl, (refl, (refl, (refl, (refl, (refl, (refl, (refl, (refl, (refl, (record { place = _; next = refl; number = refl; line = refl; version = refl; passed = refl }, (refl, (refl, (refl, (refl, (refl, (refl, (refl, (refl, (refl, (refl, (refl, (refl, (refl, (refl, (refl, (refl, (refl, (refl, (refl, (refl, (refl, (refl, (refl, (refl, (refl, (refl, (refl, (refl, (refl, (refl, (refl, (refl, (refl, (refl, (refl, (refl, (refl, (refl, (refl, (refl, (refl, (refl, (refl, (refl, (refl, (refl, (refl, (refl, (refl, (refl, tt))))))))))))))))))))))))))))))))))))))))))))))))))))))))))))))))))))))
 
 pub evacuation_part_1 : HasPart evacuation_setting evacuation_journal 1 (thread_at (replay (start evacuated) evacuation_events) 1)
 evacuation_part_1 = record {
@@ -439,7 +462,7 @@ evacuation_part_1 = record {
   ahead = [];
   outcome = Finished;
   trace = evacuation_trace_1;
-  woven = ((refl, tt), (refl, (refl, (refl, (refl, (refl, (refl, (refl, (refl, (refl, (refl, (refl, (refl, (refl, (refl, (refl, (refl, (refl, (refl, (record { place = _; next = refl; number = refl; line = refl; version = refl; passed = refl }, (refl, (refl, (refl, (refl, (refl, (refl, (refl, (refl, (refl, (refl, (refl, (refl, (refl, (refl, (refl, (refl, (refl, (refl, (refl, (refl, (refl, (refl, (refl, (refl, (refl, tt)))))))))))))))))))))))))))))))))))))))))))));
+  woven = evacuation_woven_1;
   tells = refl;
   taken = refl;
 }
@@ -453,24 +476,12 @@ evacuation_run : AreRun evacuated evacuation_events
 evacuation_run = record {
   traced = threads_traced evacuated evacuation_events (record { items = items evacuation_steps_1; outcome = Finished; trace = evacuation_trace_1; same = refl }, tt) refl refl;
   allowed =
-      runs.begins refl refl (does refl refl (does refl tt (does refl refl (does refl tt (does refl refl (does refl tt (does refl refl (does refl tt (does refl tt (tt))))))))));
+      runs.begins refl refl (does refl refl (does refl tt (does refl refl (does refl tt (does refl refl (does refl tt (does refl refl (does refl tt (does refl refl (does refl tt (does refl refl (does refl tt (does refl refl (does refl tt (does refl tt (tt))))))))))))))));
 }
 
 evacuation_follows : Each (FollowsBehind evacuation_setting evacuation_events) [] evacuation_journal
 evacuation_follows =
-    behind (moves {s = evacuation_setting} refl tt, tt) (behind (moves {s = evacuation_setting} refl tt, tt) (
-    behind (record { command = _; is = refl; answered = refl; not_closing = refl; runs = refl; triggered = omega arith }, refl) (
-    behind (moves {s = evacuation_setting} refl ((λ h. let no : false ≡ true = h in cc), (λ h. let no : false ≡ true = h in cc)), tt) (
-    behind (moves {s = evacuation_setting} refl ((λ h. evacuation_reads), (λ h. let no : false ≡ true = h in cc)), tt) (
-    behind (moves {s = evacuation_setting} refl ((λ h. evacuation_writes), (λ h. let no : false ≡ true = h in cc)), tt) (
-    behind (refl, evacuation_installs) (behind (moves {s = evacuation_setting} refl tt, (refl, tt)) (
-    behind (moves {s = evacuation_setting} refl tt, refl) (behind (moves {s = evacuation_setting} refl tt, (tt, tt)) (
-    behind (moves {s = evacuation_setting} refl tt, tt) (behind (moves {s = evacuation_setting} refl tt, tt) (
-    behind (moves {s = evacuation_setting} refl tt, tt) (behind (moves {s = evacuation_setting} refl tt, (tt, tt)) (
-    behind (moves {s = evacuation_setting} refl tt, tt) (behind (moves {s = evacuation_setting} refl tt, tt) (
-    behind (moves {s = evacuation_setting} refl tt, tt) (behind (moves {s = evacuation_setting} refl tt, tt) (
-    behind (moves {s = evacuation_setting} refl tt, tt) (
-    behind (refl, (refl, (omega arith, (refl, (evacuation_ended, not_due evacuation_setting _ refl))))) (tt))))))))))))))))))))
+    behind (moves {s = evacuation_setting} refl tt, tt) (behind (moves {s = evacuation_setting} refl tt, tt) (behind (record { command = _; is = refl; answered = refl; not_closing = refl; runs = refl; triggered = omega arith }, refl) (behind (moves {s = evacuation_setting} refl ((λ h. let no : false ≡ true = h in cc), (λ h. let no : false ≡ true = h in cc)), tt) (behind (moves {s = evacuation_setting} refl ((λ h. evacuation_reads), (λ h. let no : false ≡ true = h in cc)), tt) (behind (moves {s = evacuation_setting} refl ((λ h. evacuation_writes), (λ h. let no : false ≡ true = h in cc)), tt) (behind (refl, evacuation_installs) (behind (moves {s = evacuation_setting} refl tt, (refl, tt)) (behind (moves {s = evacuation_setting} refl tt, refl) (behind (moves {s = evacuation_setting} refl tt, (tt, tt)) (behind (moves {s = evacuation_setting} refl tt, tt) (behind (moves {s = evacuation_setting} refl tt, tt) (behind (moves {s = evacuation_setting} refl tt, tt) (behind (moves {s = evacuation_setting} refl tt, (tt, tt)) (behind (moves {s = evacuation_setting} refl tt, tt) (behind (moves {s = evacuation_setting} refl tt, tt) (behind (moves {s = evacuation_setting} refl tt, tt) (behind (moves {s = evacuation_setting} refl tt, tt) (behind (moves {s = evacuation_setting} refl tt, refl) (behind (moves {s = evacuation_setting} refl tt, (tt, tt)) (behind (moves {s = evacuation_setting} refl tt, tt) (behind (moves {s = evacuation_setting} refl tt, tt) (behind (moves {s = evacuation_setting} refl tt, tt) (behind (moves {s = evacuation_setting} refl tt, (tt, tt)) (behind (moves {s = evacuation_setting} refl tt, tt) (behind (moves {s = evacuation_setting} refl tt, tt) (behind (moves {s = evacuation_setting} refl tt, tt) (behind (moves {s = evacuation_setting} refl tt, tt) (behind (moves {s = evacuation_setting} refl tt, tt) (behind (moves {s = evacuation_setting} refl tt, tt) (behind (moves {s = evacuation_setting} refl tt, tt) (behind (refl, (refl, (omega arith, (refl, (evacuation_ended, not_due evacuation_setting _ refl))))) (tt))))))))))))))))))))))))))))))))
 
 pub evacuation_lawful : IsLawful evacuation_setting evacuation_journal
 evacuation_lawful = record {

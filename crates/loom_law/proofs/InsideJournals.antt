@@ -1,13 +1,14 @@
 -- Lawful journals of runs with regions from which all others are kept away, whole.
 use Rattle.std.proofs.Common.{ℕ, true, ◌≡◌, zero, suc, inl, inr, pos, List, [], ◌∷◌, Some, None, refl, codes, arith}
-use Rattle.loom_tree.specs.Tree.{num, var, Right, let_, set, return, simple, Source}
+use Rattle.loom_tree.specs.declared.expression.Op.TheVariants as o
+use Rattle.loom_tree.specs.Tree.{num, var, bin, Right, let_, set, return, simple, Source}
 use Rattle.loom_tree.specs.Tree as tree
 use Rattle.loom_trace.specs.declared.entry.Entry.{Entry}
 use Rattle.loom_trace.specs.declared.entry.Entry.TheVariants as e
 use Rattle.loom_trace.specs.declared.entry.Ending.TheVariants as k
 use Rattle.loom_lang.specs.Places.{nowhere}
-use Rattle.loom_lang.specs.Trace.{begin, end, read, write, spawn, join, print, made, begins, done, enter, out, Finished, IsTrace}
-use Rattle.loom_command.specs.Filter.{Region, Clause, Filter}
+use Rattle.loom_lang.specs.Trace.{division, begin, end, trap, read, write, spawn, join, print, made, begins, done, enter, out, Finished, IsTrace}
+use Rattle.loom_command.specs.Filter.{LineEvent, Region, Clause, Filter}
 use Rattle.loom_command.specs.Script as script
 use Rattle.loom_event.specs.Event.{Event}
 use Rattle.loom_event.specs.Replay.{ThreadState, start, thread_at, replay}
@@ -258,4 +259,119 @@ back_lawful = record {
   run = back_run;
   parts = back_parts;
   follows = each_one (FollowsBehind back_setting back_events) back_journal back_follows;
+}
+
+-- A trap inside a region: what is left is left behind the trap, before the end.
+
+-- 1  shared x;
+-- 2  fn main() {
+-- 3    x = 1;
+-- 4    print 1 / 0;
+-- 5    x = 2;
+-- 6  }
+-- script: at 0 install a {trap.lm:3; trap.lm:5}
+abbrev caught_program : Source
+caught_program = record {
+  words = record { name = codes "x"; cells = None; first = pos 0 } ∷ [];
+  mutexes = [];
+  semas = [];
+  funcs = record {
+    name = codes "main";
+    line = 2;
+    params = [];
+    body = simple 3 (set (codes "x") (Right.value (num (pos 1))))
+        (simple 4 (tree.print (bin o.Div (num (pos 1)) (num (pos 0))))
+        (simple 5 (set (codes "x") (Right.value (num (pos 2)))) tree.end));
+  } ∷ [];
+}
+
+abbrev trap_line : ℕ → LineEvent
+trap_line l = record { file = codes "trap.lm"; line = l; test = None }
+
+abbrev caught : Filter
+caught = Clause.exclusive (Region.between (trap_line 3 ∷ []) (trap_line 5 ∷ []) ∷ []) ∷ []
+
+abbrev caught_commands : List Command
+caught_commands = record { trigger = script.at 0; name = codes "a"; action = install (means (plan_of caught_program caught)) } ∷ []
+
+abbrev pub caught_setting : Setting
+caught_setting = record { program = caught_program; commands = caught_commands; limit = 100000; stop = stops.never }
+
+abbrev pub caught_journal : List Entry
+caught_journal =
+    e.Asked 1 ∷ e.Installed 1 1 (0 ∷ 0 ∷ 0 ∷ 0 ∷ 0 ∷ 0 ∷ 0 ∷ 0 ∷ []) ∷ e.Begin 1 2 ∷ e.Enter 1 3 1 1 ∷ e.At 1 3 1 (1 ∷ []) ∷ e.Write 1 3 0 (pos 1)
+    ∷ e.Past 1 3 1 (1 ∷ []) ∷ e.Trap 1 4 1 ∷ e.Leave 1 4 1 1 ∷ e.End 1 2 ∷ e.Finish k.Done ∷ []
+
+abbrev caught_events : List Event
+caught_events = event 1 2 begin ∷ event 1 3 (write 0 (pos 1)) ∷ event 1 4 (trap division) ∷ event 1 2 end ∷ []
+
+caught_ended : (t : ℕ) (x : ThreadState) → thread_at (replay (start caught_program) caught_events) t ≡ Some x → x.ended ≡ true
+caught_ended zero x h = cc
+caught_ended (suc zero) x h = cc
+caught_ended (suc (suc t)) x h = cc
+
+caught_nowhere : (t : ℕ) → StandsAt caught_setting (front_at caught_setting caught_events (e.Asked 1 ∷ [])) t nowhere
+caught_nowhere zero = refl
+caught_nowhere (suc zero) = refl
+caught_nowhere (suc (suc t)) = refl
+
+caught_outside : (t : ℕ) → IsOutside caught_setting (e.Asked 1 ∷ []) t (running_thread (thread_at (start caught_program) t)) (plan_of caught_program caught) nowhere
+caught_outside zero = tt
+caught_outside (suc zero) = tt
+caught_outside (suc (suc t)) = tt
+
+caught_installs : MayInstall caught_setting (front_at caught_setting caught_events (e.Asked 1 ∷ [])) 1 1 (0 ∷ 0 ∷ 0 ∷ 0 ∷ 0 ∷ 0 ∷ 0 ∷ 0 ∷ [])
+caught_installs = record {
+  command = _;
+  is = refl;
+  plan = plan_of caught_program caught;
+  installs = refl;
+  asked = refl;
+  not_refused = refl;
+  version = refl;
+  lists = record { count = refl; place = λ t. nowhere; are = refl; stands = caught_nowhere; flagged = λ t. inl refl };
+  outside = caught_outside;
+}
+
+abbrev caught_steps_1 : List PartStep
+caught_steps_1 =
+    goes (made 2 begin) ∷ goes (enter 0 []) ∷ goes (begins 3 []) ∷ makes 3 (enters 1 1) ∷ makes 3 (walk.at 1 (1 ∷ [])) ∷ goes (made 3 (write 0 (pos 1)))
+    ∷ goes (done 3) ∷ makes 3 (past 1 (1 ∷ [])) ∷ goes (begins 4 []) ∷ goes (made 4 (trap division)) ∷ makes 4 (leave 1 1) ∷ goes (made 2 end) ∷ []
+
+caught_trace_1 : IsTrace caught_program 0 [] (items caught_steps_1) Finished
+caught_trace_1 = record { most_turns = 0; gives = next (next (next (next (next (next (next (next ((refl, inl refl))))))))) }
+
+pub caught_part_1 : HasPart caught_setting caught_journal 1 (thread_at (replay (start caught_program) caught_events) 1)
+caught_part_1 = record {
+  steps = caught_steps_1;
+  ahead = [];
+  outcome = Finished;
+  trace = caught_trace_1;
+  woven = ((refl, tt), (refl, (refl, (refl, (refl, (refl, (refl, (refl, (refl, (refl, (refl, (refl, tt))))))))))));
+  tells = refl;
+  taken = refl;
+}
+
+pub caught_parts : (t : ℕ) → HasPart caught_setting caught_journal t (thread_at (replay (start caught_program) caught_events) t)
+caught_parts zero = refl
+caught_parts (suc zero) = caught_part_1
+caught_parts (suc (suc t)) = nothing_made 2 (suc (suc t)) caught_journal (omega arith) refl
+
+caught_run : AreRun caught_program caught_events
+caught_run = record {
+  traced = threads_traced caught_program caught_events (record { items = items caught_steps_1; outcome = Finished; trace = caught_trace_1; same = refl }, tt) refl refl;
+  allowed = runs.begins refl refl (does refl tt (does refl tt (does refl tt tt)));
+}
+
+caught_follows : Each (FollowsBehind caught_setting caught_events) [] caught_journal
+caught_follows =
+    behind (record { command = _; is = refl; answered = refl; not_closing = refl; runs = refl; triggered = omega arith }, refl) (behind (refl, caught_installs) (behind (moves {s = caught_setting} refl tt, tt) (behind (moves {s = caught_setting} refl tt, refl) (behind (moves {s = caught_setting} refl tt, (tt, tt)) (behind (moves {s = caught_setting} refl tt, tt) (behind (moves {s = caught_setting} refl tt, tt) (behind (moves {s = caught_setting} refl tt, tt) (behind (moves {s = caught_setting} refl tt, tt) (behind (moves {s = caught_setting} refl tt, tt) (behind (refl, (refl, (omega arith, (refl, (caught_ended, not_due caught_setting _ refl))))) (tt)))))))))))
+
+pub caught_lawful : IsLawful caught_setting caught_journal
+caught_lawful = record {
+  events = caught_events;
+  tells = refl;
+  run = caught_run;
+  parts = caught_parts;
+  follows = each_one (FollowsBehind caught_setting caught_events) caught_journal caught_follows;
 }

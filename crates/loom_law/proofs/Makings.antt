@@ -9,14 +9,14 @@ use Rattle.loom_trace.specs.declared.request.Request.{Request}
 use Rattle.loom_trace.specs.declared.request.Request.TheVariants as r
 use Rattle.loom_lang.specs.Trace.{Act, begin, end, trap, read, write, lock, unlock, down, up, spawn, join, print, Item, made, begins, done, edge, enter, out, not_spawned, Open, IsTrace}
 use Rattle.loom_lang.specs.Acts.{Deed}
-use Rattle.loom_event.specs.Answer.{granted}
+use Rattle.loom_event.specs.Answer.{granted, request_of}
 use Rattle.loom_event.specs.Replay.{ThreadState}
 use Rattle.loom_law.specs.Walk.{Version, Plans, Operation, wait, enters, at, past, post, leave, back, tick, cross, blocked, Queue, PartStep, goes, makes, items, told, entry_of_operation, Walk, unborn, behind_entry, taking, crossing, after, walk_from, first_number, Acts, AsksFor, MayCross, AreWoven}
 use Rattle.loom_law.specs.ThreadPart.{Own, walk_of, IsPart, HasMoved, KeepsAway}
 use Rattle.loom_law.specs.Control.{entries_of}
 use Rattle.loom_law.specs.Lawful.{Setting, plans, own, IsFlagged, is_begin, StaysAway}
 use Rattle.loom_law.specs.Laws.{own_with}
-use Rattle.loom_law.specs.TurnLaws.{AsksToDo, HasMakingTurns, blocked_behind, request_of, HasBlocks}
+use Rattle.loom_law.specs.TurnLaws.{AsksToDo, HasMakingTurns, blocked_behind, HasBlocks}
 use Rattle.loom_law.proofs.OnePart.{told_append, one_move}
 use Rattle.loom_law.proofs.Earlier.{append_assoc, items_ahead, woven_front, takings}
 use Rattle.loom_law.proofs.Turns.{BeforeOp, before_op, moved, walk_coming}

@@ -7,7 +7,8 @@ use Rattle.loom_trace.specs.declared.entry.Ending.TheVariants as k
 use Rattle.loom_trace.specs.declared.entry.What.{What}
 use Rattle.loom_trace.specs.declared.request.Request.{Request}
 use Rattle.loom_lang.specs.Acts.{Deed}
-use Rattle.loom_event.specs.Event.{Event, entry_by}
+use Rattle.loom_event.specs.Answer.{IsAnswered}
+use Rattle.loom_event.specs.Event.{Event, event_of_deed, entry_by}
 use Rattle.loom_event.specs.Entries.{thread_of, is_stopped, is_at_limit}
 use Rattle.loom_event.specs.Replay.{AllEnded}
 use Rattle.loom_event.specs.Replay.{ThreadState, start, thread_at, replay, IsAllowed}
@@ -16,7 +17,6 @@ use Rattle.loom_law.specs.ThreadPart.{AsksToMake, AsksToAct}
 use Rattle.loom_law.specs.Control.{Command, command_at, Control, control, first_control, control_after, after_entry, listed_places_after, listed_places, listed_places_from}
 use Rattle.loom_law.specs.Lawful.{Setting, Front, front_of, plans, own, over, owes_cross, is_held_by, is_installed, IsDisabledFor, IsHeldOff, IsDue, IsStalled, IsOpen, Ends, front_at, MayFollow, IsLawful}
 use Rattle.loom_law.specs.Laws.{Balances, IsUnfinished}
-use Rattle.loom_law.specs.TurnLaws.{IsAnswered, event_of_deed}
 use Rattle.loom_law.proofs.Lawful.{always_balanced, control_turns}
 use Rattle.loom_law.proofs.Answers.{answer_turns}
 use Rattle.loom_law.proofs.Makings.{making_turns}

@@ -1,24 +1,29 @@
 -- Journals that are not lawful: each is a lawful one with one thing turned.
-use Rattle.std.proofs.Common.{ℕ, zero, suc, ◌≤◌, ◌<◌, ◌≡◌, ◌⊎◌, true, false, pos, List, [], ◌∷◌, map, Some, None, refl, ap, subst, inl, codes, arith}
+use Rattle.std.proofs.Common.{ℕ, zero, suc, ◌≤◌, ◌<◌, ◌≡◌, ◌⊎◌, true, false, pos, List, [], ◌∷◌, ◌++◌, map, Some, None, refl, ap, subst, ◌∙◌, inl, codes, arith}
 use Rattle.loom_trace.specs.declared.entry.Entry.{Entry}
 use Rattle.loom_trace.specs.declared.entry.Entry.TheVariants as e
 use Rattle.loom_trace.specs.declared.entry.What.TheVariants as w
 use Rattle.loom_trace.specs.declared.entry.Ending.{Ending}
 use Rattle.loom_trace.specs.declared.entry.Ending.TheVariants as k
-use Rattle.loom_lang.specs.Trace.{begin, lock}
+use Rattle.loom_lang.specs.Places.{Place, nowhere}
+use Rattle.loom_lang.specs.Trace.{begin, lock, spawn, print}
 use Rattle.loom_command.specs.Script as script
 use Rattle.loom_event.specs.Event.{Event}
 use Rattle.loom_event.specs.Replay.{start, replay}
 use Rattle.loom_event.proofs.Runs.{event_of, events_told}
-use Rattle.loom_event.proofs.Shown.{event, locks}
+use Rattle.loom_event.proofs.Shown.{event, adds, locks, changed_is_no_run}
 use Rattle.loom_event.proofs.Stops as stops
-use Rattle.loom_law.specs.Control.{remove}
-use Rattle.loom_law.specs.Lawful.{Setting, Lives, IsBlocked, IsHeldOff, IsDue, Ends, EndsSo, front_at, IsLawful}
+use Rattle.loom_law.specs.Filter.{plan_of}
+use Rattle.loom_law.specs.Walk.{place_number}
+use Rattle.loom_law.specs.Control.{means, install, remove}
+use Rattle.loom_law.specs.Lawful.{Setting, StandsAt, Lives, IsBlocked, IsHeldOff, IsDue, Ends, EndsSo, front_at, IsLawful}
 use Rattle.loom_law.proofs.Lawful.{always_balanced}
-use Rattle.loom_law.proofs.Shown.{setting}
-use Rattle.loom_law.proofs.InsideJournals.{alone_setting, back_setting}
-use Rattle.loom_law.proofs.PlainJournals.{lost_setting}
-use Rattle.loom_law.proofs.EarlyJournals.{order_setting, nested_setting, unreached_setting, cut_setting}
+use Rattle.loom_law.proofs.Shown.{setting, fix}
+use Rattle.loom_law.proofs.InsideJournals.{alone_setting, back_setting, caught_setting}
+use Rattle.loom_law.proofs.PlainJournals.{lost_setting, stop_setting, limit_setting}
+use Rattle.loom_law.proofs.EarlyJournals.{order_setting, nested_setting, unreached_setting, cut_setting, on_stall_setting, before_stall, on_stall_events, stall_due}
+use Rattle.loom_law.proofs.RemovalJournal.{removal_program, removal_front, removal_setting}
+use Rattle.loom_law.proofs.EvacuationJournal.{evacuation_setting}
 
 same_first : (a b : ℕ × ℕ) → Some a ≡ Some b → a.0 ≡ b.0
 same_first a b h = let both : a ≡ b = cc in ap (λ (x : ℕ × ℕ). x.0) both
@@ -149,6 +154,65 @@ cut_early_unlawful h =
     let bad = h.follows (e.Begin 1 5 ∷ e.Read 1 3 0 (pos 0) ∷ e.Asked 1 ∷ []) (e.Cut 1) (e.Finish k.Limit ∷ []) refl in
     let no : false ≡ true = bad.0 in cc
 
+-- a thread that was spawned behind `Asked` begins before the answer
+abbrev pub early_setting : Setting
+early_setting = record setting { commands = record { trigger = script.at 1; name = codes "fix"; action = install (means (plan_of adds fix)) } ∷ [] }
+
+abbrev pub begun_when_asked : List Entry
+begun_when_asked = e.Begin 1 5 ∷ e.Asked 1 ∷ e.Spawn 1 6 2 0 [] ∷ e.Begin 2 2 ∷ []
+
+pub begun_when_asked_unlawful : IsLawful early_setting begun_when_asked → ⊥
+begun_when_asked_unlawful h =
+    let bad = h.follows (e.Begin 1 5 ∷ e.Asked 1 ∷ e.Spawn 1 6 2 0 [] ∷ []) (e.Begin 2 2) [] refl in
+    let no : true ≡ false = bad.0.parked.1 refl in cc
+
+-- Removals
+
+abbrev unasked_front : List Entry
+unasked_front =
+    e.Asked 1 ∷ e.Installed 1 1 (0 ∷ 0 ∷ 0 ∷ 0 ∷ 0 ∷ 0 ∷ 0 ∷ 0 ∷ []) ∷ e.Begin 1 9 ∷ e.Spawn 1 10 2 0 [] ∷ e.Begin 2 2 ∷ e.Spawn 1 11 3 0 []
+    ∷ e.Enter 2 3 1 1 ∷ e.Begin 3 2 ∷ e.Print 1 12 (pos 1) ∷ e.At 2 3 1 (1 ∷ 2 ∷ []) ∷ e.Blocked 3 3 (w.Enter 1 1) ∷ []
+
+-- a filter is removed by a command that wasn't asked
+abbrev pub removed_unasked : List Entry
+removed_unasked = unasked_front ++ e.Removed 2 2 (4 ∷ 2 ∷ 2 ∷ 0 ∷ 0 ∷ 0 ∷ 0 ∷ 0 ∷ []) ∷ []
+
+pub removed_unasked_unlawful : IsLawful removal_setting removed_unasked → ⊥
+removed_unasked_unlawful h =
+    let bad = h.follows unasked_front (e.Removed 2 2 (4 ∷ 2 ∷ 2 ∷ 0 ∷ 0 ∷ 0 ∷ 0 ∷ 0 ∷ [])) [] refl in
+    let no : None ≡ Some 2 = bad.1.asked in cc
+
+-- a version is left out
+abbrev pub removed_early : List Entry
+removed_early = removal_front ++ e.Removed 2 3 (4 ∷ 2 ∷ 2 ∷ 0 ∷ 0 ∷ 0 ∷ 0 ∷ 0 ∷ []) ∷ []
+
+pub removed_early_unlawful : IsLawful removal_setting removed_early → ⊥
+removed_early_unlawful h =
+    let bad = h.follows removal_front (e.Removed 2 3 (4 ∷ 2 ∷ 2 ∷ 0 ∷ 0 ∷ 0 ∷ 0 ∷ 0 ∷ [])) [] refl in
+    let no : 3 ≡ 2 = bad.1.version in cc
+
+-- a place is listed for a thread that wasn't spawned
+abbrev pub removed_elsewhere : List Entry
+removed_elsewhere = removal_front ++ e.Removed 2 2 (4 ∷ 2 ∷ 2 ∷ 1 ∷ 0 ∷ 0 ∷ 0 ∷ 0 ∷ []) ∷ []
+
+abbrev fourth : List ℕ → ℕ
+fourth (a ∷ b ∷ c ∷ d ∷ ns) = d
+fourth _ = 0
+
+none_there : ◌≡◌ {A = ℕ} 1 0 → ⊥
+none_there h = cc
+
+pub removed_elsewhere_unlawful : IsLawful removal_setting removed_elsewhere → ⊥
+removed_elsewhere_unlawful h =
+    let xs : List Event = (event 1 9 begin ∷ event 1 10 (spawn 2 0 []) ∷ event 2 2 begin ∷ event 1 11 (spawn 3 0 []) ∷ event 3 2 begin ∷ event 1 12 (print (pos 1)) ∷ []) in
+    let same : h.events ≡ xs = events_told h.events xs (ap (map event_of) h.tells) in
+    let bad = h.follows removal_front (e.Removed 2 2 (4 ∷ 2 ∷ 2 ∷ 1 ∷ 0 ∷ 0 ∷ 0 ∷ 0 ∷ [])) [] refl in
+    let x : Place = bad.1.lists.place 4 in
+    let P : List Event → Type 0 = λ ys. StandsAt removal_setting (front_at removal_setting ys removal_front) 4 x in
+    let stands : x ≡ nowhere = subst P same (bad.1.lists.stands 4) in
+    let listed_places : 1 ≡ place_number removal_program x = ap fourth bad.1.lists.are in
+    none_there (listed_places ∙ ap (place_number removal_program) stands)
+
 -- The end
 
 -- a thread goes on behind the limit
@@ -159,6 +223,37 @@ entry_behind_limit =
 pub entry_behind_limit_unlawful : IsLawful unreached_setting entry_behind_limit → ⊥
 entry_behind_limit_unlawful h =
     let bad = h.follows (e.Begin 1 5 ∷ e.Read 1 3 0 (pos 0) ∷ []) (e.Write 1 3 0 (pos 1)) (e.Unreached 1 ∷ e.Finish k.Limit ∷ []) refl in
+    let no : true ≡ false = bad.0.goes_on.runs in cc
+
+-- the limit is told before it is reached
+abbrev pub limit_early : List Entry
+limit_early = e.Begin 1 5 ∷ e.Spawn 1 6 2 0 [] ∷ e.Finish k.Limit ∷ []
+
+pub limit_early_unlawful : IsLawful limit_setting limit_early → ⊥
+limit_early_unlawful h =
+    let bad = h.follows (e.Begin 1 5 ∷ e.Spawn 1 6 2 0 [] ∷ []) (e.Finish k.Limit) [] refl in
+    let no : false ≡ true = bad.1.1.1.1 in cc
+
+-- the run is stopped before the stop test is met
+abbrev pub stopped_early : List Entry
+stopped_early =
+    e.Begin 1 5 ∷ e.Spawn 1 6 2 0 [] ∷ e.Begin 2 2 ∷ e.Read 1 7 0 (pos 0) ∷ e.Read 2 3 0 (pos 0) ∷ e.Write 1 7 0 (pos 1) ∷ e.Write 2 3 0 (pos 1)
+    ∷ e.Blocked 1 8 (w.Join 2) ∷ e.End 2 2 ∷ e.Join 1 8 2 ∷ e.Read 1 9 0 (pos 1) ∷ e.Finish k.Stopped ∷ []
+
+pub stopped_early_unlawful : IsLawful stop_setting stopped_early → ⊥
+stopped_early_unlawful h =
+    let bad = h.follows (e.Begin 1 5 ∷ e.Spawn 1 6 2 0 [] ∷ e.Begin 2 2 ∷ e.Read 1 7 0 (pos 0) ∷ e.Read 2 3 0 (pos 0) ∷ e.Write 1 7 0 (pos 1) ∷ e.Write 2 3 0 (pos 1) ∷ e.Blocked 1 8 (w.Join 2) ∷ e.End 2 2 ∷ e.Join 1 8 2 ∷ e.Read 1 9 0 (pos 1) ∷ []) (e.Finish k.Stopped) [] refl in
+    let no : false ≡ true = bad.1.1.1 in cc
+
+-- the stop test is met, and a thread goes on
+abbrev pub entry_behind_stop : List Entry
+entry_behind_stop =
+    e.Begin 1 5 ∷ e.Spawn 1 6 2 0 [] ∷ e.Begin 2 2 ∷ e.Read 1 7 0 (pos 0) ∷ e.Read 2 3 0 (pos 0) ∷ e.Write 1 7 0 (pos 1) ∷ e.Write 2 3 0 (pos 1)
+    ∷ e.Blocked 1 8 (w.Join 2) ∷ e.End 2 2 ∷ e.Join 1 8 2 ∷ e.Read 1 9 0 (pos 1) ∷ e.Print 1 9 (pos 1) ∷ e.End 1 5 ∷ e.Finish k.Done ∷ []
+
+pub entry_behind_stop_unlawful : IsLawful stop_setting entry_behind_stop → ⊥
+entry_behind_stop_unlawful h =
+    let bad = h.follows (e.Begin 1 5 ∷ e.Spawn 1 6 2 0 [] ∷ e.Begin 2 2 ∷ e.Read 1 7 0 (pos 0) ∷ e.Read 2 3 0 (pos 0) ∷ e.Write 1 7 0 (pos 1) ∷ e.Write 2 3 0 (pos 1) ∷ e.Blocked 1 8 (w.Join 2) ∷ e.End 2 2 ∷ e.Join 1 8 2 ∷ e.Read 1 9 0 (pos 1) ∷ e.Print 1 9 (pos 1) ∷ []) (e.End 1 5) (e.Finish k.Done ∷ []) refl in
     let no : true ≡ false = bad.0.goes_on.runs in cc
 
 -- an entry stands behind the end
@@ -187,46 +282,21 @@ done_early_unlawful h =
     cc
 
 -- The run is stuck though a command is due.
-abbrev pub stall_setting : Setting
-stall_setting = record { program = locks; commands = record { trigger = script.stall; name = codes "a"; action = remove } ∷ []; limit = 100000; stop = stops.never }
-
 abbrev pub stuck_when_due : List Entry
-stuck_when_due = e.Begin 1 2 ∷ e.Lock 1 3 0 ∷ e.Blocked 1 4 (w.Lock 0) ∷ e.Unreached 1 ∷ e.Finish k.Stuck ∷ []
+stuck_when_due = before_stall ++ e.Unreached 1 ∷ e.Finish k.Stuck ∷ []
 
-abbrev before_stuck : List Entry
-before_stuck = e.Begin 1 2 ∷ e.Lock 1 3 0 ∷ e.Blocked 1 4 (w.Lock 0) ∷ []
-
-abbrev stuck_events : List Event
-stuck_events = event 1 2 begin ∷ event 1 3 (lock 0) ∷ []
-
-stall_due : IsDue stall_setting (front_at stall_setting stuck_events before_stuck)
-stall_due = record {
-  command = _;
-  is = refl;
-  answered = refl;
-  not_closing = refl;
-  runs = refl;
-  triggered = record { live = 1; lives = record { state = _; is = refl; not_ended = refl }; stuck = stall_lives };
-}
-  where
-    stall_lives : (t : ℕ) → Lives (replay (start locks) stuck_events) t
-        → IsBlocked stall_setting (front_at stall_setting stuck_events before_stuck) t ⊎ IsHeldOff stall_setting (front_at stall_setting stuck_events before_stuck) t
-    stall_lives zero g = let no : None ≡ Some g.state = g.is in cc
-    stall_lives (suc zero) g = inl ((1, refl), refl)
-    stall_lives (suc (suc t)) g = let no : None ≡ Some g.state = g.is in cc
-
-no_end : (kind : Ending) → Ends stall_setting (front_at stall_setting stuck_events before_stuck) kind → ⊥
+no_end : (kind : Ending) → Ends on_stall_setting (front_at on_stall_setting on_stall_events before_stall) kind → ⊥
 no_end k.Stopped h = cc
 no_end k.Limit h = let no : false ≡ true = h.1 in cc
 no_end k.Done h = let no : false ≡ true = h.1.0 1 _ refl in cc
 no_end k.Stuck h = h.1.1 stall_due
 
-pub stuck_when_due_unlawful : IsLawful stall_setting stuck_when_due → ⊥
+pub stuck_when_due_unlawful : IsLawful on_stall_setting stuck_when_due → ⊥
 stuck_when_due_unlawful h =
-    let same : h.events ≡ stuck_events = events_told h.events stuck_events (ap (map event_of) h.tells) in
-    let bad = h.follows before_stuck (e.Unreached 1) (e.Finish k.Stuck ∷ []) refl in
-    let P : List Event → Type 0 = λ xs. EndsSo stall_setting (front_at stall_setting xs before_stuck) in
-    let ends : EndsSo stall_setting (front_at stall_setting stuck_events before_stuck) = subst P same bad.1.1.1 in
+    let same : h.events ≡ on_stall_events = events_told h.events on_stall_events (ap (map event_of) h.tells) in
+    let bad = h.follows before_stall (e.Unreached 1) (e.Finish k.Stuck ∷ []) refl in
+    let P : List Event → Type 0 = λ xs. EndsSo on_stall_setting (front_at on_stall_setting xs before_stall) in
+    let ends : EndsSo on_stall_setting (front_at on_stall_setting on_stall_events before_stall) = subst P same bad.1.1.1 in
     no_end ends.0 ends.1
 
 -- Orders and exclusion
@@ -300,10 +370,29 @@ clause_kept_unlawful h =
     let bad = always_balanced back_setting clause_kept h (e.Asked 1 ∷ e.Installed 1 1 (0 ∷ 0 ∷ 0 ∷ 0 ∷ 0 ∷ 0 ∷ 0 ∷ 0 ∷ []) ∷ e.Begin 1 6 ∷ e.Enter 1 2 1 1 ∷ e.At 1 2 1 (1 ∷ []) ∷ e.Write 1 3 0 (pos 1) ∷ e.Read 1 4 0 (pos 1) ∷ e.Back 1 2 ∷ e.Print 1 8 (pos 1) ∷ []) (e.End 1 6) (e.Finish k.Done ∷ []) refl in
     let no : true ≡ false = bad in cc
 
--- Versions
+-- a thread that trapped keeps the clause of the region in which it was
+abbrev pub trap_keeps : List Entry
+trap_keeps =
+    e.Asked 1 ∷ e.Installed 1 1 (0 ∷ 0 ∷ 0 ∷ 0 ∷ 0 ∷ 0 ∷ 0 ∷ 0 ∷ []) ∷ e.Begin 1 2 ∷ e.Enter 1 3 1 1 ∷ e.At 1 3 1 (1 ∷ []) ∷ e.Write 1 3 0 (pos 1)
+    ∷ e.Past 1 3 1 (1 ∷ []) ∷ e.Trap 1 4 1 ∷ e.End 1 2 ∷ e.Finish k.Done ∷ []
 
-abbrev pub late_setting : Setting
-late_setting = record unreached_setting { limit = 100000 }
+pub trap_keeps_unlawful : IsLawful caught_setting trap_keeps → ⊥
+trap_keeps_unlawful h =
+    let bad = always_balanced caught_setting trap_keeps h (e.Asked 1 ∷ e.Installed 1 1 (0 ∷ 0 ∷ 0 ∷ 0 ∷ 0 ∷ 0 ∷ 0 ∷ 0 ∷ []) ∷ e.Begin 1 2 ∷ e.Enter 1 3 1 1 ∷ e.At 1 3 1 (1 ∷ []) ∷ e.Write 1 3 0 (pos 1) ∷ e.Past 1 3 1 (1 ∷ []) ∷ e.Trap 1 4 1 ∷ []) (e.End 1 2) (e.Finish k.Done ∷ []) refl in
+    let no : true ≡ false = bad in cc
+
+-- Runs
+
+-- the last read gives 7, where the word is 1
+abbrev pub read_changed : List Entry
+read_changed =
+    e.Begin 1 5 ∷ e.Spawn 1 6 2 0 [] ∷ e.Begin 2 2 ∷ e.Read 1 7 0 (pos 0) ∷ e.Read 2 3 0 (pos 0) ∷ e.Write 1 7 0 (pos 1) ∷ e.Write 2 3 0 (pos 1)
+    ∷ e.Blocked 1 8 (w.Join 2) ∷ e.End 2 2 ∷ e.Join 1 8 2 ∷ e.Read 1 9 0 (pos 7) ∷ e.Print 1 9 (pos 7) ∷ e.End 1 5 ∷ e.Finish k.Done ∷ []
+
+pub read_changed_unlawful : IsLawful lost_setting read_changed → ⊥
+read_changed_unlawful h = changed_is_no_run (record { events = h.events; told = h.tells; run = h.run })
+
+-- Versions
 
 -- a thread goes on without the new version
 abbrev pub cross_missing : List Entry
@@ -315,7 +404,7 @@ cross_missing =
     ∷ e.Read 1 9 0 (pos 7) ∷ e.Write 1 9 0 (pos 14) ∷ e.Past 1 9 1 (2 ∷ []) ∷ e.Leave 1 9 1 1 ∷ e.Read 1 12 0 (pos 14) ∷ e.Print 1 12 (pos 14)
     ∷ e.End 1 5 ∷ e.Finish k.Done ∷ []
 
-pub cross_missing_unlawful : IsLawful late_setting cross_missing → ⊥
+pub cross_missing_unlawful : IsLawful evacuation_setting cross_missing → ⊥
 cross_missing_unlawful h =
     let bad = h.follows (e.Begin 1 5 ∷ e.Read 1 3 0 (pos 0) ∷ e.Asked 1 ∷ e.Write 1 3 0 (pos 1) ∷ e.Read 1 9 0 (pos 1) ∷ e.Write 1 9 0 (pos 2) ∷ e.Installed 1 1 (7 ∷ 0 ∷ 0 ∷ 0 ∷ 0 ∷ 0 ∷ 0 ∷ 0 ∷ []) ∷ []) (e.Enter 1 8 1 1) (e.At 1 8 1 (1 ∷ []) ∷ e.Read 1 3 0 (pos 2) ∷ e.Write 1 3 0 (pos 3) ∷ e.Past 1 8 1 (1 ∷ []) ∷ e.At 1 9 1 (2 ∷ []) ∷ e.Read 1 9 0 (pos 3) ∷ e.Write 1 9 0 (pos 6) ∷ e.Past 1 9 1 (2 ∷ []) ∷ e.Leave 1 9 1 1 ∷ e.Enter 1 8 1 1 ∷ e.At 1 8 1 (1 ∷ []) ∷ e.Read 1 3 0 (pos 6) ∷ e.Write 1 3 0 (pos 7) ∷ e.Past 1 8 1 (1 ∷ []) ∷ e.At 1 9 1 (2 ∷ []) ∷ e.Read 1 9 0 (pos 7) ∷ e.Write 1 9 0 (pos 14) ∷ e.Past 1 9 1 (2 ∷ []) ∷ e.Leave 1 9 1 1 ∷ e.Read 1 12 0 (pos 14) ∷ e.Print 1 12 (pos 14) ∷ e.End 1 5 ∷ e.Finish k.Done ∷ []) refl in
     let no : false ≡ true = bad.0.crosses in cc
@@ -330,7 +419,7 @@ cross_late =
     ∷ e.At 1 9 1 (2 ∷ []) ∷ e.Read 1 9 0 (pos 7) ∷ e.Write 1 9 0 (pos 14) ∷ e.Past 1 9 1 (2 ∷ []) ∷ e.Leave 1 9 1 1 ∷ e.Read 1 12 0 (pos 14)
     ∷ e.Print 1 12 (pos 14) ∷ e.End 1 5 ∷ e.Finish k.Done ∷ []
 
-pub cross_late_unlawful : IsLawful late_setting cross_late → ⊥
+pub cross_late_unlawful : IsLawful evacuation_setting cross_late → ⊥
 cross_late_unlawful h =
     let bad = h.follows (e.Begin 1 5 ∷ e.Read 1 3 0 (pos 0) ∷ e.Asked 1 ∷ e.Write 1 3 0 (pos 1) ∷ e.Read 1 9 0 (pos 1) ∷ e.Write 1 9 0 (pos 2) ∷ e.Installed 1 1 (7 ∷ 0 ∷ 0 ∷ 0 ∷ 0 ∷ 0 ∷ 0 ∷ 0 ∷ []) ∷ []) (e.Enter 1 8 1 1) (e.Cross 1 7 7 1 0 ∷ e.At 1 8 1 (1 ∷ []) ∷ e.Read 1 3 0 (pos 2) ∷ e.Write 1 3 0 (pos 3) ∷ e.Past 1 8 1 (1 ∷ []) ∷ e.At 1 9 1 (2 ∷ []) ∷ e.Read 1 9 0 (pos 3) ∷ e.Write 1 9 0 (pos 6) ∷ e.Past 1 9 1 (2 ∷ []) ∷ e.Leave 1 9 1 1 ∷ e.Enter 1 8 1 1 ∷ e.At 1 8 1 (1 ∷ []) ∷ e.Read 1 3 0 (pos 6) ∷ e.Write 1 3 0 (pos 7) ∷ e.Past 1 8 1 (1 ∷ []) ∷ e.At 1 9 1 (2 ∷ []) ∷ e.Read 1 9 0 (pos 7) ∷ e.Write 1 9 0 (pos 14) ∷ e.Past 1 9 1 (2 ∷ []) ∷ e.Leave 1 9 1 1 ∷ e.Read 1 12 0 (pos 14) ∷ e.Print 1 12 (pos 14) ∷ e.End 1 5 ∷ e.Finish k.Done ∷ []) refl in
     let no : false ≡ true = bad.0.crosses in cc
@@ -345,7 +434,7 @@ cross_twice =
     ∷ e.Past 1 8 1 (1 ∷ []) ∷ e.At 1 9 1 (2 ∷ []) ∷ e.Read 1 9 0 (pos 7) ∷ e.Write 1 9 0 (pos 14) ∷ e.Past 1 9 1 (2 ∷ []) ∷ e.Leave 1 9 1 1
     ∷ e.Read 1 12 0 (pos 14) ∷ e.Print 1 12 (pos 14) ∷ e.End 1 5 ∷ e.Finish k.Done ∷ []
 
-pub cross_twice_unlawful : IsLawful late_setting cross_twice → ⊥
+pub cross_twice_unlawful : IsLawful evacuation_setting cross_twice → ⊥
 cross_twice_unlawful h =
     let bad = h.follows (e.Begin 1 5 ∷ e.Read 1 3 0 (pos 0) ∷ e.Asked 1 ∷ e.Write 1 3 0 (pos 1) ∷ e.Read 1 9 0 (pos 1) ∷ e.Write 1 9 0 (pos 2) ∷ e.Installed 1 1 (7 ∷ 0 ∷ 0 ∷ 0 ∷ 0 ∷ 0 ∷ 0 ∷ 0 ∷ []) ∷ e.Cross 1 7 7 1 0 ∷ []) (e.Cross 1 7 7 1 0) (e.Enter 1 8 1 1 ∷ e.At 1 8 1 (1 ∷ []) ∷ e.Read 1 3 0 (pos 2) ∷ e.Write 1 3 0 (pos 3) ∷ e.Past 1 8 1 (1 ∷ []) ∷ e.At 1 9 1 (2 ∷ []) ∷ e.Read 1 9 0 (pos 3) ∷ e.Write 1 9 0 (pos 6) ∷ e.Past 1 9 1 (2 ∷ []) ∷ e.Leave 1 9 1 1 ∷ e.Enter 1 8 1 1 ∷ e.At 1 8 1 (1 ∷ []) ∷ e.Read 1 3 0 (pos 6) ∷ e.Write 1 3 0 (pos 7) ∷ e.Past 1 8 1 (1 ∷ []) ∷ e.At 1 9 1 (2 ∷ []) ∷ e.Read 1 9 0 (pos 7) ∷ e.Write 1 9 0 (pos 14) ∷ e.Past 1 9 1 (2 ∷ []) ∷ e.Leave 1 9 1 1 ∷ e.Read 1 12 0 (pos 14) ∷ e.Print 1 12 (pos 14) ∷ e.End 1 5 ∷ e.Finish k.Done ∷ []) refl in
     let no : true ≡ false = bad.0.crosses in cc
@@ -360,7 +449,7 @@ cross_elsewhere =
     ∷ e.At 1 9 1 (2 ∷ []) ∷ e.Read 1 9 0 (pos 7) ∷ e.Write 1 9 0 (pos 14) ∷ e.Past 1 9 1 (2 ∷ []) ∷ e.Leave 1 9 1 1 ∷ e.Read 1 12 0 (pos 14)
     ∷ e.Print 1 12 (pos 14) ∷ e.End 1 5 ∷ e.Finish k.Done ∷ []
 
-pub cross_elsewhere_unlawful : IsLawful late_setting cross_elsewhere → ⊥
+pub cross_elsewhere_unlawful : IsLawful evacuation_setting cross_elsewhere → ⊥
 cross_elsewhere_unlawful h =
     let bad = h.follows (e.Begin 1 5 ∷ e.Read 1 3 0 (pos 0) ∷ e.Asked 1 ∷ e.Write 1 3 0 (pos 1) ∷ e.Read 1 9 0 (pos 1) ∷ e.Write 1 9 0 (pos 2) ∷ e.Installed 1 1 (7 ∷ 0 ∷ 0 ∷ 0 ∷ 0 ∷ 0 ∷ 0 ∷ 0 ∷ []) ∷ []) (e.Cross 1 8 8 1 0) (e.Enter 1 8 1 1 ∷ e.At 1 8 1 (1 ∷ []) ∷ e.Read 1 3 0 (pos 2) ∷ e.Write 1 3 0 (pos 3) ∷ e.Past 1 8 1 (1 ∷ []) ∷ e.At 1 9 1 (2 ∷ []) ∷ e.Read 1 9 0 (pos 3) ∷ e.Write 1 9 0 (pos 6) ∷ e.Past 1 9 1 (2 ∷ []) ∷ e.Leave 1 9 1 1 ∷ e.Enter 1 8 1 1 ∷ e.At 1 8 1 (1 ∷ []) ∷ e.Read 1 3 0 (pos 6) ∷ e.Write 1 3 0 (pos 7) ∷ e.Past 1 8 1 (1 ∷ []) ∷ e.At 1 9 1 (2 ∷ []) ∷ e.Read 1 9 0 (pos 7) ∷ e.Write 1 9 0 (pos 14) ∷ e.Past 1 9 1 (2 ∷ []) ∷ e.Leave 1 9 1 1 ∷ e.Read 1 12 0 (pos 14) ∷ e.Print 1 12 (pos 14) ∷ e.End 1 5 ∷ e.Finish k.Done ∷ []) refl in
     let no : 7 ≡ 8 = bad.1.0 in cc
@@ -375,7 +464,7 @@ cross_number =
     ∷ e.At 1 9 1 (2 ∷ []) ∷ e.Read 1 9 0 (pos 7) ∷ e.Write 1 9 0 (pos 14) ∷ e.Past 1 9 1 (2 ∷ []) ∷ e.Leave 1 9 1 1 ∷ e.Read 1 12 0 (pos 14)
     ∷ e.Print 1 12 (pos 14) ∷ e.End 1 5 ∷ e.Finish k.Done ∷ []
 
-pub cross_number_unlawful : IsLawful late_setting cross_number → ⊥
+pub cross_number_unlawful : IsLawful evacuation_setting cross_number → ⊥
 cross_number_unlawful h =
-    let bad = always_balanced late_setting cross_number h (e.Begin 1 5 ∷ e.Read 1 3 0 (pos 0) ∷ e.Asked 1 ∷ e.Write 1 3 0 (pos 1) ∷ e.Read 1 9 0 (pos 1) ∷ e.Write 1 9 0 (pos 2) ∷ e.Installed 1 1 (7 ∷ 0 ∷ 0 ∷ 0 ∷ 0 ∷ 0 ∷ 0 ∷ 0 ∷ []) ∷ []) (e.Cross 1 7 7 2 0) (e.Enter 1 8 1 1 ∷ e.At 1 8 1 (1 ∷ []) ∷ e.Read 1 3 0 (pos 2) ∷ e.Write 1 3 0 (pos 3) ∷ e.Past 1 8 1 (1 ∷ []) ∷ e.At 1 9 1 (2 ∷ []) ∷ e.Read 1 9 0 (pos 3) ∷ e.Write 1 9 0 (pos 6) ∷ e.Past 1 9 1 (2 ∷ []) ∷ e.Leave 1 9 1 1 ∷ e.Enter 1 8 1 1 ∷ e.At 1 8 1 (1 ∷ []) ∷ e.Read 1 3 0 (pos 6) ∷ e.Write 1 3 0 (pos 7) ∷ e.Past 1 8 1 (1 ∷ []) ∷ e.At 1 9 1 (2 ∷ []) ∷ e.Read 1 9 0 (pos 7) ∷ e.Write 1 9 0 (pos 14) ∷ e.Past 1 9 1 (2 ∷ []) ∷ e.Leave 1 9 1 1 ∷ e.Read 1 12 0 (pos 14) ∷ e.Print 1 12 (pos 14) ∷ e.End 1 5 ∷ e.Finish k.Done ∷ []) refl in
+    let bad = always_balanced evacuation_setting cross_number h (e.Begin 1 5 ∷ e.Read 1 3 0 (pos 0) ∷ e.Asked 1 ∷ e.Write 1 3 0 (pos 1) ∷ e.Read 1 9 0 (pos 1) ∷ e.Write 1 9 0 (pos 2) ∷ e.Installed 1 1 (7 ∷ 0 ∷ 0 ∷ 0 ∷ 0 ∷ 0 ∷ 0 ∷ 0 ∷ []) ∷ []) (e.Cross 1 7 7 2 0) (e.Enter 1 8 1 1 ∷ e.At 1 8 1 (1 ∷ []) ∷ e.Read 1 3 0 (pos 2) ∷ e.Write 1 3 0 (pos 3) ∷ e.Past 1 8 1 (1 ∷ []) ∷ e.At 1 9 1 (2 ∷ []) ∷ e.Read 1 9 0 (pos 3) ∷ e.Write 1 9 0 (pos 6) ∷ e.Past 1 9 1 (2 ∷ []) ∷ e.Leave 1 9 1 1 ∷ e.Enter 1 8 1 1 ∷ e.At 1 8 1 (1 ∷ []) ∷ e.Read 1 3 0 (pos 6) ∷ e.Write 1 3 0 (pos 7) ∷ e.Past 1 8 1 (1 ∷ []) ∷ e.At 1 9 1 (2 ∷ []) ∷ e.Read 1 9 0 (pos 7) ∷ e.Write 1 9 0 (pos 14) ∷ e.Past 1 9 1 (2 ∷ []) ∷ e.Leave 1 9 1 1 ∷ e.Read 1 12 0 (pos 14) ∷ e.Print 1 12 (pos 14) ∷ e.End 1 5 ∷ e.Finish k.Done ∷ []) refl in
     let no : 2 ≡ 1 = bad in cc

@@ -6,10 +6,11 @@ use Rattle.loom_lang.specs.Trace.{Act, Item, made, begins, done, edge, enter, ou
 use Rattle.loom_lang.specs.Acts.{Deed}
 use Rattle.loom_lang.specs.Alike.{AreAlike}
 use Rattle.loom_lang.proofs.NextItem.{one_next_item, Agree, traces_agree}
+use Rattle.loom_event.specs.Answer.{IsAnswered}
 use Rattle.loom_law.specs.Walk.{Plans, Operation, wait, enters, at, past, post, leave, back, tick, cross, blocked, Queue, PartStep, goes, makes, items, told, entry_of_operation, Walk, unborn, after_operation, after, walk_from, Owes, MayStand, AreWoven}
 use Rattle.loom_law.specs.ThreadPart.{Own, walk_of, IsPart, with_entry, AsksToMake, AsksToAct}
 use Rattle.loom_law.specs.Laws.{SameSteps}
-use Rattle.loom_law.specs.TurnLaws.{IsAnswered, is_owed, HasOneRequest, HasNoSplit, HasOneOperation}
+use Rattle.loom_law.specs.TurnLaws.{is_owed, HasOneRequest, HasNoSplit, HasOneOperation}
 use Rattle.loom_law.proofs.OnePart.{one_made, told_append, same_front}
 use Rattle.loom_law.proofs.Earlier.{items_ahead, woven_front}
 use Rattle.loom_law.proofs.Turns.{stands_there}

@@ -1,5 +1,6 @@
 -- Lawful journals of runs without commands, whole.
-use Rattle.std.proofs.Common.{ℕ, true, ◌≡◌, ◌++◌, zero, suc, inl, inr, pos, List, [], ◌∷◌, Some, None, refl, codes, arith, ◌⊎◌}
+use Rattle.std.proofs.Common.{ℕ, Bool, true, false, ◌≡◌, ◌++◌, zero, suc, inl, inr, pos, List, [], ◌∷◌, Some, None, refl, codes, arith, ◌⊎◌}
+use Rattle.std.specs.List.{list_any}
 use Rattle.loom_tree.specs.declared.expression.Op.TheVariants as o
 use Rattle.loom_tree.specs.Tree.{num, var, bin, Right, simple, Source}
 use Rattle.loom_tree.specs.Tree as tree
@@ -111,6 +112,86 @@ lost_lawful = record {
   run = lost_run;
   parts = lost_parts;
   follows = each_one (FollowsBehind lost_setting lost_events) lost_journal lost_follows;
+}
+
+-- A stop test is met: a 1 is printed, and nobody makes an entry behind it.
+
+abbrev tells_one : Entry → Bool
+tells_one (e.Print t l (pos (suc zero))) = true
+tells_one _ = false
+
+abbrev prints_one : List Entry → Bool
+prints_one es = list_any tells_one es
+
+abbrev pub stop_setting : Setting
+stop_setting = record { program = adds; commands = []; limit = 100000; stop = prints_one }
+
+abbrev pub stop_journal : List Entry
+stop_journal =
+    e.Begin 1 5 ∷ e.Spawn 1 6 2 0 [] ∷ e.Begin 2 2 ∷ e.Read 1 7 0 (pos 0) ∷ e.Read 2 3 0 (pos 0) ∷ e.Write 1 7 0 (pos 1) ∷ e.Write 2 3 0 (pos 1)
+    ∷ e.Blocked 1 8 (w.Join 2) ∷ e.End 2 2 ∷ e.Join 1 8 2 ∷ e.Read 1 9 0 (pos 1) ∷ e.Print 1 9 (pos 1) ∷ e.Finish k.Stopped ∷ []
+
+abbrev stop_events : List Event
+stop_events =
+    event 1 5 begin ∷ event 1 6 (spawn 2 0 []) ∷ event 2 2 begin ∷ event 1 7 (read 0 (pos 0)) ∷ event 2 3 (read 0 (pos 0)) ∷ event 1 7 (write 0 (pos 1))
+    ∷ event 2 3 (write 0 (pos 1)) ∷ event 2 2 end ∷ event 1 8 (join 2) ∷ event 1 9 (read 0 (pos 1)) ∷ event 1 9 (print (pos 1)) ∷ []
+
+abbrev stop_steps_1 : List PartStep
+stop_steps_1 =
+    goes (made 5 begin) ∷ goes (enter 1 ((codes "a", pos 0) ∷ [])) ∷ goes (begins 6 ((codes "a", pos 0) ∷ [])) ∷ goes (made 6 (spawn 2 0 []))
+    ∷ goes (done 6) ∷ goes (begins 7 ((codes "a", pos 2) ∷ [])) ∷ goes (made 7 (read 0 (pos 0))) ∷ goes (made 7 (write 0 (pos 1))) ∷ goes (done 7)
+    ∷ goes (begins 8 ((codes "a", pos 2) ∷ [])) ∷ makes 8 (blocked (w.Join 2)) ∷ goes (made 8 (join 2)) ∷ goes (done 8)
+    ∷ goes (begins 9 ((codes "a", pos 2) ∷ [])) ∷ goes (made 9 (read 0 (pos 1))) ∷ goes (made 9 (print (pos 1))) ∷ []
+
+stop_trace_1 : IsTrace adds 1 [] (items stop_steps_1) Open
+stop_trace_1 = record { most_turns = 0; gives = next (next (next (inr (given 2 (next (next (next (given (pos 0) (next (next (next (next (inr (next (next (next (given (pos 1) (next (next (inl (refl, refl))))))))))))))))))))) }
+
+pub stop_part_1 : HasPart stop_setting stop_journal 1 (thread_at (replay (start adds) stop_events) 1)
+stop_part_1 = record {
+  steps = stop_steps_1;
+  ahead = [];
+  outcome = Open;
+  trace = stop_trace_1;
+  woven = ((refl, tt), (refl, (refl, (refl, (refl, (refl, (refl, (refl, (refl, (refl, (record { asks = refl; not_yet = refl }, (refl, (refl, (refl, (refl, (refl, tt))))))))))))))));
+  tells = refl;
+  taken = refl;
+}
+
+pub stop_part_2 : HasPart stop_setting stop_journal 2 (thread_at (replay (start adds) stop_events) 2)
+stop_part_2 = record {
+  steps = lost_steps_2;
+  ahead = [];
+  outcome = Finished;
+  trace = lost_trace_2;
+  woven = ((refl, tt), (refl, (refl, (refl, (refl, (refl, (refl, (refl, tt))))))));
+  tells = refl;
+  taken = refl;
+}
+
+pub stop_parts : (t : ℕ) → HasPart stop_setting stop_journal t (thread_at (replay (start adds) stop_events) t)
+stop_parts zero = refl
+stop_parts (suc zero) = stop_part_1
+stop_parts (suc (suc zero)) = stop_part_2
+stop_parts (suc (suc (suc t))) = nothing_made 3 (suc (suc (suc t))) stop_journal (omega arith) refl
+
+stop_run : AreRun adds stop_events
+stop_run = record {
+  traced = threads_traced adds stop_events (record { items = items stop_steps_1; outcome = Open; trace = stop_trace_1; same = refl }, (record { items = items lost_steps_2; outcome = Finished; trace = lost_trace_2; same = refl }, tt)) refl refl;
+  allowed =
+      runs.begins refl refl (does refl (refl, omega arith) (runs.begins refl refl (does refl refl (does refl refl (does refl tt (does refl tt (does refl tt (does refl (record { state = _; is = refl; ended = refl }) (does refl refl (does refl tt (tt)))))))))));
+}
+
+stop_follows : Each (FollowsBehind stop_setting stop_events) [] stop_journal
+stop_follows =
+    behind (moves {s = stop_setting} refl tt, tt) (behind (moves {s = stop_setting} refl tt, tt) (behind (moves {s = stop_setting} refl tt, tt) (behind (moves {s = stop_setting} refl tt, tt) (behind (moves {s = stop_setting} refl tt, tt) (behind (moves {s = stop_setting} refl tt, tt) (behind (moves {s = stop_setting} refl tt, tt) (behind (moves {s = stop_setting} refl tt, (_, refl, refl)) (behind (moves {s = stop_setting} refl tt, tt) (behind (moves {s = stop_setting} refl tt, tt) (behind (moves {s = stop_setting} refl tt, tt) (behind (moves {s = stop_setting} refl tt, tt) (behind (refl, (refl, (omega arith, refl))) (tt)))))))))))))
+
+pub stop_lawful : IsLawful stop_setting stop_journal
+stop_lawful = record {
+  events = stop_events;
+  tells = refl;
+  run = stop_run;
+  parts = stop_parts;
+  follows = each_one (FollowsBehind stop_setting stop_events) stop_journal stop_follows;
 }
 
 -- Three thread entries and no more.

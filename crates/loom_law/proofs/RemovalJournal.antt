@@ -52,7 +52,7 @@ abbrev removal_commands : List Command
 removal_commands = (record { trigger = script.at 0; name = (codes "m"); action = install (means (plan_of removal_program ((Clause.exclusive ((Region.between (record { file = (codes "hold.lm"); line = 3; test = None } ∷ []) (record { file = (codes "hold.lm"); line = 3; test = None } ∷ [])) ∷ [])) ∷ []))) } ∷ record { trigger = script.at 9; name = (codes "m"); action = remove } ∷ [])
 
 -- what stands before the removal
-abbrev removal_front : List Entry
+abbrev pub removal_front : List Entry
 removal_front =
     e.Asked 1 ∷ e.Installed 1 1 (0 ∷ 0 ∷ 0 ∷ 0 ∷ 0 ∷ 0 ∷ 0 ∷ 0 ∷ []) ∷ e.Begin 1 9 ∷ e.Spawn 1 10 2 0 [] ∷ e.Begin 2 2 ∷ e.Spawn 1 11 3 0 []
     ∷ e.Enter 2 3 1 1 ∷ e.Begin 3 2 ∷ e.Print 1 12 (pos 1) ∷ e.At 2 3 1 (1 ∷ 2 ∷ []) ∷ e.Blocked 3 3 (w.Enter 1 1) ∷ e.Asked 2 ∷ e.Blocked 2 3 (w.Down 0) ∷ []

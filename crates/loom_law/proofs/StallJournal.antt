@@ -1,7 +1,8 @@
 -- A command stalls: the thread that is parked holds the mutex for which the other parks.
-use Rattle.std.proofs.Common.{ℕ, zero, suc, ◌<◌, ◌≡◌, ◌==◌, ◌⊎◌, inl, inr, Bool, true, false, ◌||◌, pos, List, [], ◌∷◌, length, take, Some, None, slice_get, slice_index_or, refl, sym, ap, subst, ◌∙◌, codes, arith}
+use Rattle.std.proofs.Common.{ℕ, zero, suc, ◌<◌, ◌≡◌, ◌==◌, ◌⊎◌, inl, inr, Bool, true, false, ◌||◌, pos, List, [], ◌∷◌, take, Some, None, slice_get, refl, sym, ap, subst, ◌∙◌, codes, arith}
 use Rattle.std.specs.List.{Contains}
-use Rattle.loom_tree.specs.Tree.{num, var, Right, let_, set, Body, simple, Function, Source}
+use Rattle.loom_tree.specs.declared.expression.Op.TheVariants as o
+use Rattle.loom_tree.specs.Tree.{num, var, bin, Right, let_, set, Body, simple, while_, Function, Source}
 use Rattle.loom_tree.specs.Tree as tree
 use Rattle.loom_trace.specs.declared.entry.Entry.{Entry}
 use Rattle.loom_trace.specs.declared.entry.Entry.TheVariants as e
@@ -9,7 +10,7 @@ use Rattle.loom_trace.specs.declared.entry.What.TheVariants as w
 use Rattle.loom_trace.specs.declared.entry.Ending.TheVariants as k
 use Rattle.loom_lang.specs.Places.{Place, nowhere, body_places}
 use Rattle.loom_lang.specs.Places as place
-use Rattle.loom_lang.specs.Trace.{begin, end, write, lock, unlock, spawn, join, print, made, begins, done, enter, out, Finished, IsTrace}
+use Rattle.loom_lang.specs.Trace.{begin, end, write, lock, unlock, spawn, join, print, made, begins, done, edge, enter, out, Finished, IsTrace}
 use Rattle.loom_command.specs.Filter.{LineEvent, Region, Clause, Filter}
 use Rattle.loom_command.specs.Script as script
 use Rattle.loom_event.specs.Event.{Event}
@@ -38,11 +39,14 @@ use Rattle.loom_law.proofs.Journals.{AllOf, each, not_due, moves}
 -- 8   fn main() {
 -- 9     lock m;
 -- 10    let t = spawn w();
--- 11    print 0;
--- 12    print 1;
--- 13    unlock m;
--- 14    join t;
--- 15  }
+-- 11    let i = 0;
+-- 12    while (i < 2) {
+-- 13      print i;
+-- 14      i = i + 1;
+-- 15    }
+-- 16    unlock m;
+-- 17    join t;
+-- 18  }
 -- script: at 6 install f {park.lm:4; park.lm:6}
 
 abbrev locking : Body
@@ -66,10 +70,11 @@ main_function = record {
   params = [];
   body = simple 9 (tree.lock (codes "m"))
       (simple 10 (let_ (codes "t") (Right.spawn (codes "w") []))
-      (simple 11 (tree.print (num (pos 0)))
-      (simple 12 (tree.print (num (pos 1)))
-      (simple 13 (tree.unlock (codes "m"))
-      (simple 14 (tree.join (var (codes "t"))) tree.end)))));
+      (simple 11 (let_ (codes "i") (Right.value (num (pos 0))))
+      (while_ 12 (bin o.Lt (var (codes "i")) (num (pos 2)))
+      (simple 13 (tree.print (var (codes "i"))) (simple 14 (set (codes "i") (Right.value (bin o.Add (var (codes "i")) (num (pos 1))))) tree.end))
+      (simple 16 (tree.unlock (codes "m"))
+      (simple 17 (tree.join (var (codes "t"))) tree.end)))));
 }
 
 abbrev pub parks : Source
@@ -92,10 +97,10 @@ plan = plan_of parks one_locks
 abbrev stall_commands : List Command
 stall_commands = record { trigger = script.at 6; name = codes "f"; action = install (means plan) } ∷ []
 
--- The place of the second `print` is safe, that of the worker's `lock` isn't
+-- The loop's back edge is safe, the place of the worker's `lock` isn't
 
-abbrev printing : Place
-printing = place.inside 12
+abbrev turn : Place
+turn = place.back_edge 12
 
 abbrev NoCall : Body → Type 0
 NoCall x = (name : List ℕ) → called_by x ≡ Some name → ⊥
@@ -112,7 +117,7 @@ no_call zero l x h =
 no_call (suc zero) l x h =
     let same : main_function ≡ h.function = cc in
     each NoCall (statements main_function.body)
-    ((λ name g. cc), ((λ name g. cc), ((λ name g. cc), ((λ name g. cc), ((λ name g. cc), ((λ name g. cc), tt)))))) x
+    ((λ name g. cc), ((λ name g. cc), ((λ name g. cc), ((λ name g. cc), ((λ name g. cc), ((λ name g. cc), ((λ name g. cc), ((λ name g. cc), tt)))))))) x
     (subst (λ (f : Function). Contains (statements f.body) x) (sym same) h.there)
 no_call (suc (suc g)) l x h = let no : None ≡ Some h.function = h.is in absurd (none_there h.function no)
   where
@@ -122,17 +127,17 @@ no_call (suc (suc g)) l x h = let no : None ≡ Some h.function = h.is in absurd
 -- the statements at which the events are are the worker's, and their places other ones
 record IsApart (g : ℕ) (x : Body) : Type 0 where
   number : g ≡ 0
-  own : Contains (body_places x) printing → ⊥
+  own : Contains (body_places x) turn → ⊥
   returns : has_return x ≡ true → ⊥
-  inner : IsReached parks (statements x) printing → ⊥
+  inner : IsReached parks (statements x) turn → ⊥
 
 abbrev other : Place → Type 0
-other y = y ≡ printing → ⊥
+other y = y ≡ turn → ⊥
 
 apart_locking : IsApart 0 locking
 apart_locking = record {
   number = refl;
-  own = λ c. each other (body_places locking) ((λ g. cc), tt) printing c refl;
+  own = λ c. each other (body_places locking) ((λ g. cc), tt) turn c refl;
   returns = λ g. cc;
   inner = λ h. no_reach (locking ∷ []) ((λ name g. cc), tt) h.reached;
 }
@@ -140,7 +145,7 @@ apart_locking = record {
 apart_unlocking : IsApart 0 unlocking
 apart_unlocking = record {
   number = refl;
-  own = λ c. each other (body_places unlocking) ((λ g. cc), tt) printing c refl;
+  own = λ c. each other (body_places unlocking) ((λ g. cc), tt) turn c refl;
   returns = λ g. cc;
   inner = λ h. no_reach (unlocking ∷ []) ((λ name g. cc), tt) h.reached;
 }
@@ -163,22 +168,8 @@ apart zero l x h at_line =
     (subst (λ (f : Function). Contains (statements f.body) x) (sym same) h.there) l h.line at_line
 apart (suc zero) l x h at_line =
     let same : main_function ≡ h.function = cc in
-    each (IsSite 1) (statements main_function.body) (
-      (λ m b w. absurd (wrong_line 9 m b (λ z. omega arith) (λ z. omega arith) w)),
-      (
-        (λ m b w. absurd (wrong_line 10 m b (λ z. omega arith) (λ z. omega arith) w)),
-        (
-          (λ m b w. absurd (wrong_line 11 m b (λ z. omega arith) (λ z. omega arith) w)),
-          (
-            (λ m b w. absurd (wrong_line 12 m b (λ z. omega arith) (λ z. omega arith) w)),
-            (
-              (λ m b w. absurd (wrong_line 13 m b (λ z. omega arith) (λ z. omega arith) w)),
-              ((λ m b w. absurd (wrong_line 14 m b (λ z. omega arith) (λ z. omega arith) w)), tt),
-            ),
-          ),
-        ),
-      ),
-    ) x (subst (λ (f : Function). Contains (statements f.body) x) (sym same) h.there) l h.line at_line
+    each (IsSite 1) (statements main_function.body)
+    ((λ m b w. absurd (wrong_line 9 m b (λ z. omega arith) (λ z. omega arith) w)), ((λ m b w. absurd (wrong_line 10 m b (λ z. omega arith) (λ z. omega arith) w)), ((λ m b w. absurd (wrong_line 11 m b (λ z. omega arith) (λ z. omega arith) w)), ((λ m b w. absurd (wrong_line 12 m b (λ z. omega arith) (λ z. omega arith) w)), ((λ m b w. absurd (wrong_line 13 m b (λ z. omega arith) (λ z. omega arith) w)), ((λ m b w. absurd (wrong_line 14 m b (λ z. omega arith) (λ z. omega arith) w)), ((λ m b w. absurd (wrong_line 16 m b (λ z. omega arith) (λ z. omega arith) w)), ((λ m b w. absurd (wrong_line 17 m b (λ z. omega arith) (λ z. omega arith) w)), tt)))))))) x (subst (λ (f : Function). Contains (statements f.body) x) (sym same) h.there) l h.line at_line
 apart (suc (suc g)) l x h at_line = let no : None ≡ Some h.function = h.is in cc
 
 site_line : (w : Watch) (m l : ℕ) → record { site = statement m; test = None } ≡ w → w.site ≡ statement l → l ≡ m
@@ -193,10 +184,10 @@ watched (suc zero) w l h g = let is : record { site = statement 4; test = None }
 watched (suc (suc zero)) w l h g = let is : record { site = statement 6; test = None } ≡ w = cc in inr (site_line w 6 l is g)
 watched (suc (suc (suc n))) w l h g = cc
 
-no_event : IsUnsafeByEvent parks plan printing → ⊥
+no_event : IsUnsafeByEvent parks plan turn → ⊥
 no_event h = by_place (apart h.function h.line h.body h.there (watched h.event h.watch h.line h.is h.site)) h.place
   where
-    by_place : {g : ℕ} {x : Body} {R : Type 0} → IsApart g x → Contains (body_places x) printing ⊎ (((has_return x ≡ true) × R) ⊎ IsReached parks (statements x) printing) → ⊥
+    by_place : {g : ℕ} {x : Body} {R : Type 0} → IsApart g x → Contains (body_places x) turn ⊎ (((has_return x ≡ true) × R) ⊎ IsReached parks (statements x) turn) → ⊥
     by_place a (inl c) = a.own c
     by_place a (inr (inl c)) = a.returns c.0
     by_place a (inr (inr c)) = a.inner c
@@ -218,24 +209,12 @@ near (paths.goes {m = m} {n = n} c link stop) =
     each Leads (links_of worker)
     ((λ a s. refl), ((λ a s. refl), ((λ a s. refl), ((λ a s. refl), ((λ a s. absurd (s halted)), ((λ a s. a), tt)))))) (m, n) link (near c) stop
 
-no_place : (g : ℕ) (n : Node) → is_near n ≡ true → Contains (node_places g n) printing ⊎ IsReachedAt parks g n printing → ⊥
+no_place : (g : ℕ) (n : Node) → is_near n ≡ true → Contains (node_places g n) turn ⊎ IsReachedAt parks g n turn → ⊥
 no_place g (paths.begins l) a (inl c) =
-    each other (node_places g (paths.begins l)) (
-      (λ h.
-          let same : l ≡ 12 = cc in
-          let no : false ≡ true = subst (λ m. is_near (paths.begins m) ≡ true) same a in
-          cc),
-      tt,
-    ) printing c refl
+    each other (node_places g (paths.begins l)) ((λ h. cc), tt) turn c refl
 no_place g (paths.begins l) a (inr c) = no_reach (c.0 ∷ []) (no_call g l c.0 c.1, tt) (IsReached.reached c.2)
 no_place g (complete l) a (inl c) =
-    each other (node_places g (complete l)) (
-      (λ h.
-          let same : l ≡ 12 = cc in
-          let no : false ≡ true = subst (λ m. is_near (complete m) ≡ true) same a in
-          cc),
-      tt,
-    ) printing c refl
+    each other (node_places g (complete l)) ((λ h. cc), tt) turn c refl
 no_place g (complete l) a (inr c) = c
 no_place g (turns l) a c = cc
 no_place g leaves a c = cc
@@ -243,7 +222,7 @@ no_place g leaves a c = cc
 abbrev IsRegion : List ℕ → List ℕ → Range → Type 0
 IsRegion es xs r = r ≡ between es xs → (es ≡ 1 ∷ []) × (xs ≡ 2 ∷ [])
 
-no_path : IsUnsafeByPath parks plan printing → ⊥
+no_path : IsUnsafeByPath parks plan turn → ⊥
 no_path h =
     let region = each (IsRegion h.entries h.exits) (between (1 ∷ []) (2 ∷ []) ∷ []) ((λ g. let a : 1 ∷ [] ≡ h.entries = cc in let b : 2 ∷ [] ≡ h.exits = cc in (sym a, sym b)), tt)
     (between h.entries h.exits) h.region refl in
@@ -262,14 +241,14 @@ no_path h =
     subst (λ l. Comes (links_of worker) plan (2 ∷ []) (paths.begins l) h.node) line two in
     no_place h.number h.node (near three) h.place
 
-no_function : IsUnsafeByFunction parks plan printing → ⊥
+no_function : IsUnsafeByFunction parks plan turn → ⊥
 no_function h =
     each (λ (r : Range). r ≡ Range.whole h.event → ⊥) (between (1 ∷ []) (2 ∷ []) ∷ []) ((λ g. cc), tt) (Range.whole h.event) h.region refl
 
-printing_is_safe : IsUnsafe parks plan printing → ⊥
-printing_is_safe (inl h) = no_event h
-printing_is_safe (inr (inl h)) = no_path h
-printing_is_safe (inr (inr h)) = no_function h
+turn_is_safe : IsUnsafe parks plan turn → ⊥
+turn_is_safe (inl h) = no_event h
+turn_is_safe (inr (inl h)) = no_path h
+turn_is_safe (inr (inr h)) = no_function h
 
 locking_is_unsafe : IsUnsafe parks plan (place.inside 4)
 locking_is_unsafe = inl (record {
@@ -291,14 +270,14 @@ stall_setting = record { program = parks; commands = stall_commands; limit = 100
 
 abbrev pub stall_journal : List Entry
 stall_journal =
-    e.Begin 1 8 ∷ e.Lock 1 9 0 ∷ e.Spawn 1 10 2 0 [] ∷ e.Begin 2 3 ∷ e.Print 1 11 (pos 0) ∷ e.Blocked 2 4 (w.Lock 0) ∷ e.Asked 1 ∷ e.Stalled 1 2 4
-    ∷ e.Print 1 12 (pos 1) ∷ e.Unlock 1 13 0 ∷ e.Lock 2 4 0 ∷ e.Blocked 1 14 (w.Join 2) ∷ e.Write 2 5 0 (pos 1) ∷ e.Unlock 2 6 0 ∷ e.End 2 3
-    ∷ e.Join 1 14 2 ∷ e.End 1 8 ∷ e.Finish k.Done ∷ []
+    e.Begin 1 8 ∷ e.Lock 1 9 0 ∷ e.Spawn 1 10 2 0 [] ∷ e.Begin 2 3 ∷ e.Print 1 13 (pos 0) ∷ e.Blocked 2 4 (w.Lock 0) ∷ e.Asked 1 ∷ e.Stalled 1 2 4
+    ∷ e.Print 1 13 (pos 1) ∷ e.Unlock 1 16 0 ∷ e.Lock 2 4 0 ∷ e.Blocked 1 17 (w.Join 2) ∷ e.Write 2 5 0 (pos 1) ∷ e.Unlock 2 6 0 ∷ e.End 2 3
+    ∷ e.Join 1 17 2 ∷ e.End 1 8 ∷ e.Finish k.Done ∷ []
 
 abbrev stall_events : List Event
 stall_events =
-    event 1 8 begin ∷ event 1 9 (lock 0) ∷ event 1 10 (spawn 2 0 []) ∷ event 2 3 begin ∷ event 1 11 (print (pos 0)) ∷ event 1 12 (print (pos 1))
-    ∷ event 1 13 (unlock 0) ∷ event 2 4 (lock 0) ∷ event 2 5 (write 0 (pos 1)) ∷ event 2 6 (unlock 0) ∷ event 2 3 end ∷ event 1 14 (join 2)
+    event 1 8 begin ∷ event 1 9 (lock 0) ∷ event 1 10 (spawn 2 0 []) ∷ event 2 3 begin ∷ event 1 13 (print (pos 0)) ∷ event 1 13 (print (pos 1))
+    ∷ event 1 16 (unlock 0) ∷ event 2 4 (lock 0) ∷ event 2 5 (write 0 (pos 1)) ∷ event 2 6 (unlock 0) ∷ event 2 3 end ∷ event 1 17 (join 2)
     ∷ event 1 8 end ∷ []
 
 stall_ended : (t : ℕ) (x : ThreadState) → thread_at (replay (start parks) stall_events) t ≡ Some x → x.ended ≡ true
@@ -309,21 +288,21 @@ stall_ended (suc (suc (suc t))) x h = cc
 
 abbrev stall_front : List Entry
 stall_front =
-    e.Begin 1 8 ∷ e.Lock 1 9 0 ∷ e.Spawn 1 10 2 0 [] ∷ e.Begin 2 3 ∷ e.Print 1 11 (pos 0) ∷ e.Blocked 2 4 (w.Lock 0) ∷ e.Asked 1 ∷ []
+    e.Begin 1 8 ∷ e.Lock 1 9 0 ∷ e.Spawn 1 10 2 0 [] ∷ e.Begin 2 3 ∷ e.Print 1 13 (pos 0) ∷ e.Blocked 2 4 (w.Lock 0) ∷ e.Asked 1 ∷ []
 
 abbrev stall_before_1 : List PartStep
 stall_before_1 =
-    goes (made 8 begin) ∷ goes (enter 1 ((codes "t", pos 0) ∷ [])) ∷ goes (begins 9 ((codes "t", pos 0) ∷ [])) ∷ goes (made 9 (lock 0)) ∷ goes (done 9)
-    ∷ goes (begins 10 ((codes "t", pos 0) ∷ [])) ∷ goes (made 10 (spawn 2 0 [])) ∷ goes (done 10) ∷ goes (begins 11 ((codes "t", pos 2) ∷ []))
-    ∷ goes (made 11 (print (pos 0))) ∷ goes (done 11) ∷ goes (begins 12 ((codes "t", pos 2) ∷ [])) ∷ []
+    goes (made 8 begin) ∷ goes (enter 1 ((codes "t", pos 0) ∷ (codes "i", pos 0) ∷ [])) ∷ goes (begins 9 ((codes "t", pos 0) ∷ (codes "i", pos 0) ∷ [])) ∷ goes (made 9 (lock 0)) ∷ goes (done 9)
+    ∷ goes (begins 10 ((codes "t", pos 0) ∷ (codes "i", pos 0) ∷ [])) ∷ goes (made 10 (spawn 2 0 [])) ∷ goes (done 10) ∷ goes (begins 11 ((codes "t", pos 2) ∷ (codes "i", pos 0) ∷ [])) ∷ goes (done 11)
+    ∷ goes (begins 12 ((codes "t", pos 2) ∷ (codes "i", pos 0) ∷ [])) ∷ goes (begins 13 ((codes "t", pos 2) ∷ (codes "i", pos 0) ∷ [])) ∷ goes (made 13 (print (pos 0))) ∷ goes (done 13) ∷ goes (begins 14 ((codes "t", pos 2) ∷ (codes "i", pos 0) ∷ [])) ∷ goes (done 14) ∷ []
 
-stall_at_1 : StandsAt stall_setting (front_at stall_setting stall_events stall_front) 1 printing
+stall_at_1 : StandsAt stall_setting (front_at stall_setting stall_events stall_front) 1 turn
 stall_at_1 = record {
   point = record {
     steps = stall_before_1;
-    next = made 12 (print (pos 1));
-    trace = record { most_turns = 0; gives = next (next (next (next (next (next (inr (given 2 (next (next (next (next (next (next (next (inl (refl, refl)))))))))))))))) };
-    woven = ((refl, tt), (refl, (refl, (refl, (refl, (refl, (refl, (refl, (refl, (refl, (refl, (refl, tt))))))))))));
+    next = edge 12;
+    trace = record { most_turns = 2; gives = next (next (next (next (next (next (inr (given 2 (next (next (next (next (next (next (next (next (next (next (next (inl (refl, refl)))))))))))))))))))) };
+    woven = ((refl, tt), (refl, (refl, (refl, (refl, (refl, (refl, (refl, (refl, (refl, (refl, (refl, (refl, (refl, (refl, (refl, tt))))))))))))))));
     tells = refl;
     taken = refl;
   };
@@ -349,7 +328,7 @@ stall_at_2 = record {
 
 abbrev stall_place : ℕ → Place
 stall_place zero = nowhere
-stall_place (suc zero) = printing
+stall_place (suc zero) = turn
 stall_place (suc (suc zero)) = place.inside 4
 stall_place (suc (suc (suc t))) = nowhere
 
@@ -362,13 +341,13 @@ stall_stood (suc (suc (suc t))) = refl
 stall_waits : (t : ℕ) → Lives (replay (start parks) (take 5 stall_events)) t
     → IsFlagged stall_setting 1 (stall_place t) ⊎ (IsBlocked stall_setting (front_at stall_setting stall_events stall_front) t ⊎ IsHeldOff stall_setting (front_at stall_setting stall_events stall_front) t)
 stall_waits zero h = let no : None ≡ Some h.state = h.is in cc
-stall_waits (suc zero) h = inl (inr printing_is_safe)
+stall_waits (suc zero) h = inl (inr turn_is_safe)
 stall_waits (suc (suc zero)) h = inr (inl ((1, refl), refl))
 stall_waits (suc (suc (suc t))) h = let no : None ≡ Some h.state = h.is in cc
 
 stall_lowest : (t : ℕ) → Lives (replay (start parks) (take 5 stall_events)) t → t < 2 → IsFlagged stall_setting 1 (stall_place t)
 stall_lowest zero h less = let no : None ≡ Some h.state = h.is in cc
-stall_lowest (suc zero) h less = inr printing_is_safe
+stall_lowest (suc zero) h less = inr turn_is_safe
 stall_lowest (suc (suc t)) h less = let no : ⊥ = omega arith in absurd no
 
 stall_no_flag : (place.inside 4 ≡ nowhere) ⊎ (IsUnsafe parks plan (place.inside 4) → ⊥) → ⊥
@@ -390,14 +369,15 @@ stall_stalls = record {
 
 abbrev stall_steps_1 : List PartStep
 stall_steps_1 =
-    goes (made 8 begin) ∷ goes (enter 1 ((codes "t", pos 0) ∷ [])) ∷ goes (begins 9 ((codes "t", pos 0) ∷ [])) ∷ goes (made 9 (lock 0)) ∷ goes (done 9)
-    ∷ goes (begins 10 ((codes "t", pos 0) ∷ [])) ∷ goes (made 10 (spawn 2 0 [])) ∷ goes (done 10) ∷ goes (begins 11 ((codes "t", pos 2) ∷ []))
-    ∷ goes (made 11 (print (pos 0))) ∷ goes (done 11) ∷ goes (begins 12 ((codes "t", pos 2) ∷ [])) ∷ goes (made 12 (print (pos 1))) ∷ goes (done 12)
-    ∷ goes (begins 13 ((codes "t", pos 2) ∷ [])) ∷ goes (made 13 (unlock 0)) ∷ goes (done 13) ∷ goes (begins 14 ((codes "t", pos 2) ∷ []))
-    ∷ makes 14 (blocked (w.Join 2)) ∷ goes (made 14 (join 2)) ∷ goes (done 14) ∷ goes (out 1) ∷ goes (made 8 end) ∷ []
+    goes (made 8 begin) ∷ goes (enter 1 ((codes "t", pos 0) ∷ (codes "i", pos 0) ∷ [])) ∷ goes (begins 9 ((codes "t", pos 0) ∷ (codes "i", pos 0) ∷ [])) ∷ goes (made 9 (lock 0)) ∷ goes (done 9)
+    ∷ goes (begins 10 ((codes "t", pos 0) ∷ (codes "i", pos 0) ∷ [])) ∷ goes (made 10 (spawn 2 0 [])) ∷ goes (done 10) ∷ goes (begins 11 ((codes "t", pos 2) ∷ (codes "i", pos 0) ∷ [])) ∷ goes (done 11)
+    ∷ goes (begins 12 ((codes "t", pos 2) ∷ (codes "i", pos 0) ∷ [])) ∷ goes (begins 13 ((codes "t", pos 2) ∷ (codes "i", pos 0) ∷ [])) ∷ goes (made 13 (print (pos 0))) ∷ goes (done 13) ∷ goes (begins 14 ((codes "t", pos 2) ∷ (codes "i", pos 0) ∷ [])) ∷ goes (done 14) ∷ goes (edge 12)
+    ∷ goes (begins 13 ((codes "t", pos 2) ∷ (codes "i", pos 1) ∷ [])) ∷ goes (made 13 (print (pos 1))) ∷ goes (done 13) ∷ goes (begins 14 ((codes "t", pos 2) ∷ (codes "i", pos 1) ∷ [])) ∷ goes (done 14) ∷ goes (edge 12)
+    ∷ goes (done 12) ∷ goes (begins 16 ((codes "t", pos 2) ∷ (codes "i", pos 2) ∷ [])) ∷ goes (made 16 (unlock 0)) ∷ goes (done 16) ∷ goes (begins 17 ((codes "t", pos 2) ∷ (codes "i", pos 2) ∷ [])) ∷ makes 17 (blocked (w.Join 2))
+    ∷ goes (made 17 (join 2)) ∷ goes (done 17) ∷ goes (out 1) ∷ goes (made 8 end) ∷ []
 
 stall_trace_1 : IsTrace parks 1 [] (items stall_steps_1) Finished
-stall_trace_1 = record { most_turns = 0; gives = next (next (next (next (next (next (inr (given 2 (next (next (next (next (next (next (next (next (next (inr (next (next (next (inr (next (next (next (next ((refl, inl refl))))))))))))))))))))))))))) }
+stall_trace_1 = record { most_turns = 3; gives = next (next (next (next (next (next (inr (given 2 (next (next (next (next (next (next (next (next (next (next (next (next (next (next (next (next (next (next (next (inr (next (next (next (inr (next (next (next (next (refl, inl refl)))))))))))))))))))))))))))))))))))) }
 
 pub stall_part_1 : HasPart stall_setting stall_journal 1 (thread_at (replay (start parks) stall_events) 1)
 stall_part_1 = record {
@@ -405,7 +385,7 @@ stall_part_1 = record {
   ahead = [];
   outcome = Finished;
   trace = stall_trace_1;
-  woven = ((refl, tt), (refl, (refl, (refl, (refl, (refl, (refl, (refl, (refl, (refl, (refl, (refl, (refl, (refl, (refl, (refl, (refl, (refl, (record { asks = refl; not_yet = refl }, (refl, (refl, (refl, (refl, tt)))))))))))))))))))))));
+  woven = ((refl, tt), (refl, (refl, (refl, (refl, (refl, (refl, (refl, (refl, (refl, (refl, (refl, (refl, (refl, (refl, (refl, (refl, (refl, (refl, (refl, (refl, (refl, (refl, (refl, (refl, (refl, (refl, (refl, (record { asks = refl; not_yet = refl }, (refl, (refl, (refl, (refl, tt)))))))))))))))))))))))))))))))));
   tells = refl;
   taken = refl;
 }

@@ -2,7 +2,7 @@
 use Rattle.std.specs.Prelude.{ℕ, ◌≡◌, ◌==◌, ◌⊎◌, List, [], ◌∷◌, if◌then◌else◌}
 use Rattle.loom_tree.specs.Tree.{Source}
 use Rattle.loom_command.specs.Filter.{Filter}
-use Rattle.loom_command.specs.FilterFault.{FilterFault, IsBefore, IsRefusedText, IsFilter}
+use Rattle.loom_command.specs.FilterFault.{FilterFault, IsNoLater, IsRefusedText, IsFilter}
 use Rattle.loom_command.specs.Script.{ScriptAction, ScriptCommand, IsScript}
 use Rattle.loom_command.specs.Script as script
 use Rattle.loom_law.specs.Filter.{Plan, plan_of}
@@ -12,7 +12,7 @@ use Rattle.loom_law.specs.Control.{Judgement, refused, means, Action, install, r
 -- It is the first of such faults: the least clause counts, and in it the least number.
 pub record IsFirst (Q : FilterFault → Type 0) (x : FilterFault) : Type 0 where
   pub is : Q x
-  pub least : (y : FilterFault) → Q y → IsBefore x y
+  pub least : (y : FilterFault) → Q y → IsNoLater x y
 
 abbrev pub HasNone : (FilterFault → Type 0) → Type 0
 HasNone Q = (x : FilterFault) → Q x → ⊥

@@ -17,7 +17,8 @@ use Rattle.loom_law.specs.Paths.{IsUnsafe}
 use Rattle.loom_event.specs.Event.{Event, entry_of}
 use Rattle.loom_event.specs.Replay.{ThreadState, start, thread_at, replay, IsAllowed, thread_limit}
 use Rattle.loom_event.specs.Entries.{thread_of, IsFinished}
-use Rattle.loom_law.specs.Control.{Holder, Control, control, versions_of, entries_of, listed_places, since_asked, is_post, is_past}
+use Rattle.loom_law.specs.Judgement.{IsJudged, IsCommandList}
+use Rattle.loom_law.specs.Control.{Holder, Judgement, Command, Control, control, versions_of, entries_of, listed_places, since_asked, is_post, is_past}
 use Rattle.loom_law.specs.Lawful.{Setting, Front, front_of, front_at, plans, own, is_held_by, is_installed, IsHeldOff, IsFlagged, IsOpen, is_cross, is_begin, owes_cross, is_spawn_of, has_any, Permits, MayFollow, IsObeyed, IsLawful, SeesNothing}
 
 -- At each point of a full part a thread holds each clause whose regions it is inside.
@@ -220,3 +221,11 @@ HasControlTurns = (s : Setting) (es : List Entry) (h : IsLawful s es) → IsUnfi
 -- A place has one number, as a number has one place.
 abbrev pub HasOneNumber : Type 0
 HasOneNumber = (p : Source) → rules.KeepsRules p → (k : ℕ) (x : Place) → place_at p k ≡ Some x → place_number p x ≡ k
+
+-- In a program, in the file of this name, a filter's text is one thing at most: a refusal, or a plan.
+abbrev pub HasOneJudgement : Type 0
+HasOneJudgement = (p : Source) (file text : List ℕ) (x y : Judgement) → IsJudged p file text x → IsJudged p file text y → x ≡ y
+
+-- So a script's bytes are at most one list of commands.
+abbrev pub HasOneCommandList : Type 0
+HasOneCommandList = (p : Source) (word bytes : List ℕ) (cs ds : List Command) → IsCommandList p word bytes cs → IsCommandList p word bytes ds → cs ≡ ds

@@ -1,17 +1,15 @@
 -- From what a thread asks for to one more entry of a lawful journal.
-use Rattle.std.specs.Prelude.{ℕ, ◌≡◌, ◌⊎◌, ◌++◌, ◌∷◌, Bool, false, true, List, [], ℤ, pos, Option, Some, None}
+use Rattle.std.specs.Prelude.{ℕ, ◌≡◌, ◌++◌, ◌∷◌, Bool, false, true, List, [], Some}
 use Rattle.std.specs.List.{list_any}
 use Rattle.loom_tree.specs.Tree.{Source}
 use Rattle.loom_trace.specs.declared.entry.Entry.{Entry}
 use Rattle.loom_trace.specs.declared.entry.Entry.TheVariants as e
 use Rattle.loom_trace.specs.declared.entry.What.{What}
-use Rattle.loom_trace.specs.declared.entry.What.TheVariants as w
 use Rattle.loom_trace.specs.declared.request.Request.{Request}
-use Rattle.loom_trace.specs.declared.request.Request.TheVariants as r
 use Rattle.loom_lang.specs.Trace.{made}
 use Rattle.loom_lang.specs.Acts.{Deed, IsAlike}
-use Rattle.loom_event.specs.Answer.{granted, trapped}
-use Rattle.loom_event.specs.Event.{Event, entry_by}
+use Rattle.loom_event.specs.Answer.{IsAnswered, request_of}
+use Rattle.loom_event.specs.Event.{Event, event_of_deed, entry_by}
 use Rattle.loom_event.specs.Replay.{ThreadState, start, thread_at, replay, IsAllowed}
 use Rattle.loom_law.specs.Walk.{Plans, Operation, cross, blocked, goes, makes, entry_of_operation}
 use Rattle.loom_law.specs.Walk as walk
@@ -19,13 +17,6 @@ use Rattle.loom_law.specs.ThreadPart.{Own, walk_of, KeepsAway, AsksToMake, AsksT
 use Rattle.loom_law.specs.Control.{Control, control, listed_places, since_asked, entries_of}
 use Rattle.loom_law.specs.Lawful.{Setting, front_of, plans, own, IsFlagged, IsHeldOff, IsOpen, is_cross, owes_cross, is_begin, is_spawn_of, has_any, StaysAway, Permits, IsLawful}
 use Rattle.loom_law.specs.Laws.{IsUnfinished, own_with, MayTurn}
-
--- The deed grants the request, with some value, or it is the trap that may stand in its place.
-abbrev pub IsAnswered : Request → Deed → Type 0
-IsAnswered q d = ((v : ℤ) × (granted q v ≡ Some d)) ⊎ (trapped q ≡ Some d)
-
-abbrev pub event_of_deed : ℕ → Deed → Event
-event_of_deed t d = record { thread = t; line = d.line; act = d.act }
 
 -- Behind the entries and events so far thread t asks for an act, the store allows this answer, and nothing keeps the thread from making it.
 pub record MayAnswer (s : Setting) (es : List Entry) (xs : List Event) (t : ℕ) (q : Request) (d : Deed) : Type 0 where
@@ -90,14 +81,6 @@ blocked_behind b (x ∷ xs) = blocked_behind (is_blocked_entry x) xs
 
 abbrev pub ends_blocked : List Entry → Bool
 ends_blocked es = blocked_behind false es
-
--- the request on a line for which a thread may be blocked, where no filter makes it ask
-abbrev pub request_of : ℕ → What → Option Request
-request_of l (w.Lock m) = Some (r.Lock l m)
-request_of l (w.Down k) = Some (r.Down l k)
-request_of l (w.Join c) = Some (r.Join l (pos c))
-request_of l (w.Enter k c) = None
-request_of l (w.Wait k n) = None
 
 -- A thread that asks for it, and whose last entry isn't `Blocked`, may ask to be told as blocked there.
 abbrev pub HasBlocks : Type 0

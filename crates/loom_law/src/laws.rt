@@ -1,6 +1,6 @@
 //! Laws of full parts and of lawful journals, each the contract of a function that does nothing. Their statements stand in `specs/Laws.antt`.
 ghost use Rattle.loom_law.specs.Promises.{AlwaysPromises};
-ghost use Rattle.loom_law.specs.Laws.{HasHeldRegions, HasOnePart, HasOneMove, HasOneMade, HasBalance, IsAlwaysBalanced, HasNewInstalls, HasExclusion, IsAlwaysObeyed, HasNewest, HasOwedActive, HasOwedInstalled, HasHeldLeaves, HasRightLeaves, HasFronts, HasEmptyEnds, HasBeginning, HasEventTurns, HasOperationTurns, HasControlTurns, HasSoundPlaces, IsOutsideWhereFlagged, HasOneNumber};
+ghost use Rattle.loom_law.specs.Laws.{HasHeldRegions, HasOnePart, HasOneMove, HasOneMade, HasBalance, IsAlwaysBalanced, HasNewInstalls, HasExclusion, IsAlwaysObeyed, HasNewest, HasOwedActive, HasOwedInstalled, HasHeldLeaves, HasRightLeaves, HasFronts, HasEmptyEnds, HasBeginning, HasEventTurns, HasOperationTurns, HasControlTurns, HasSoundPlaces, IsOutsideWhereFlagged, HasOneNumber, HasOneJudgement, HasOneCommandList};
 
 /// At each point of its full part a thread holds each clause whose regions it is inside.
 pub fn held_regions()
@@ -118,6 +118,16 @@ pub fn outside_where_flagged()
 /// A place has one number.
 pub fn one_number()
     ensures { HasOneNumber }
+{}
+
+/// What a filter's text is for a program is determined: it is refused with one number and in one clause, or it is one plan, or neither.
+pub fn one_judgement()
+    ensures { HasOneJudgement }
+{}
+
+/// The bytes of a script are at most one list of commands for a program and the word that names its file.
+pub fn one_command_list()
+    ensures { HasOneCommandList }
 {}
 
 /// Each lawful journal keeps what is promised to an operator: it is a run of the program, filters are obeyed, nobody is inside at an

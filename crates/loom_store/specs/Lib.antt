@@ -1,0 +1,4 @@
+pub mod Threads
+pub mod Parts
+pub mod Answer
+pub mod Laws

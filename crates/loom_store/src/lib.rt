@@ -1,0 +1,9 @@
+//! The words, mutexes, semaphores and threads of a run.
+#![tactic(auto)]
+
+mod acts;
+pub mod answer;
+pub mod laws;
+pub mod start;
+pub mod store;
+mod threads;

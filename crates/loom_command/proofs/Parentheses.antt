@@ -15,7 +15,7 @@ use Rattle.loom_lexer.specs.declared.lexeme.Class.TheVariants as c
 use Rattle.loom_lexer.specs.declared.lexeme.LexemeKind.{LexemeKind}
 use Rattle.loom_lexer.specs.declared.lexeme.LexemeKind.TheVariants as k
 use Rattle.loom_lexer.specs.Lexeme.{is_part, is_digit, class_of, Each, Spells, Lexeme, IsLexed, IsPair, IsBad}
-use Rattle.loom_lexer.specs.Tokens.{keyword_of, word_of, value_from, filter_number_limit, number_of, signs, beside, kind_of, placed, line_ends, tokens_from}
+use Rattle.loom_lexer.specs.Tokens.{keyword_of, word_of, value_from, largest_number, number_of, signs, beside, kind_of, placed, line_ends, tokens_from}
 use Rattle.loom_lexer.proofs.Unique.{one_lexing}
 use Rattle.loom_expression.specs.Text.{Text, tokens, tree, IsExpression}
 use Rattle.loom_expression.proofs.Refusal.{ends, all_read}
@@ -91,7 +91,7 @@ word_marks None text = refl
 word_marks (Some w) text = refl
 
 number_marks : (v : ℕ) (text : List ℕ) → token_marks (token_by (number_of v) text) ≡ []
-number_marks v text = elim (nat_le v filter_number_limit) as (λ b. token_marks (token_by (cond b (t.Number v) t.Bad) text) ≡ []) [ true ↦ refl | false ↦ refl ]
+number_marks v text = elim (nat_le v largest_number) as (λ b. token_marks (token_by (cond b (t.Number v) t.Bad) text) ≡ []) [ true ↦ refl | false ↦ refl ]
 
 abbrev AreFlat : List (List ℕ × TokenKind) → List ℕ → Type 0
 AreFlat [] text = Unit {0}

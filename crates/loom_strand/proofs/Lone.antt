@@ -3,7 +3,7 @@ use Rattle.std.proofs.Common.{ℕ, suc, zero, ◌+◌, ◌≡◌, ◌&&◌, true
 use Rattle.loom_tree.specs.Tree.{Expression, num, var, cell, neg, inverse, bin, Right, Simple, let_, set, set_cell, return, Body, end, simple, if_, while_, Function, Source}
 use Rattle.loom_tree.specs.Tree as tree
 use Rattle.loom_lang.specs.Rules.{locals_of}
-use Rattle.loom_lang.specs.Numbers.{position}
+use Rattle.loom_lang.specs.Numbers.{index_of}
 use Rattle.loom_flow.specs.declared.code.Operand.{Operand}
 use Rattle.loom_flow.specs.declared.code.Operand.TheVariants as operand
 use Rattle.loom_flow.specs.declared.code.Target.{Target}
@@ -56,7 +56,7 @@ lone_unless (operand.Number n) xs h = tt
 
 lone_steps : (p : Source) (xs : List (List ℕ)) (d : Target) (e : Expression) → AllLone (steps_to p xs d e)
 lone_steps p xs d (num n) = (tt, tt)
-lone_steps p xs d (var x) = (lone_variable p d x (position x xs), tt)
+lone_steps p xs d (var x) = (lone_variable p d x (index_of x xs), tt)
 lone_steps p xs d (cell x i) = both (operand_steps p xs i) _ (lone_unless (operand_of xs i) _ (lone_steps p xs target.Push i)) (tt, tt)
 lone_steps p xs d (neg a) = both (operand_steps p xs a) _ (lone_unless (operand_of xs a) _ (lone_steps p xs target.Push a)) (tt, tt)
 lone_steps p xs d (inverse a) = both (operand_steps p xs a) _ (lone_unless (operand_of xs a) _ (lone_steps p xs target.Push a)) (tt, tt)
@@ -85,8 +85,8 @@ lone_value p xs x e None = both (operand_steps p xs e) _ (lone_operand p xs e) (
 lone_value p xs x e (Some j) = lone_steps p xs (target.Local j) e
 
 lone_set : (p : Source) (xs : List (List ℕ)) (x : List ℕ) (r : Right Expression) → right_alone r ≡ true → AllLone (set_steps p xs x r)
-lone_set p xs x (Right.value e) h = lone_value p xs x e (position x xs)
-lone_set p xs x (Right.call f es) h = both (call_steps p xs f es) _ (lone_call p xs f es) (lone_store p x (position x xs), tt)
+lone_set p xs x (Right.value e) h = lone_value p xs x e (index_of x xs)
+lone_set p xs x (Right.call f es) h = both (call_steps p xs f es) _ (lone_call p xs f es) (lone_store p x (index_of x xs), tt)
 lone_set p xs x (Right.spawn f es) h = cc
 
 lone_simple : (p : Source) (xs : List (List ℕ)) (x : Simple Expression) → simple_alone x ≡ true → AllLone (simple_steps p xs x)

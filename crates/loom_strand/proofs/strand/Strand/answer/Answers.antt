@@ -14,21 +14,21 @@ use Rattle.loom_strand.proofs.strand.Strand.answer.Goals as goal
 pub follow-stage-requires : goal.follow-stage-requires
 follow-stage-requires c =
     let s : Strand = the_view c.self.inside in
-    let question_lists : IsAnswer s.thread s.wanted c.args.e = subst (λ (z : Strand). IsAnswer z.thread z.wanted c.args.e) (sym c.self.view_is) c.requires.answers in
+    let asked : IsAnswer s.thread s.wanted c.args.e = subst (λ (z : Strand). IsAnswer z.thread z.wanted c.args.e) (sym c.self.view_is) c.requires.answers in
     let program : c.args.flow.now.program ≡ s.program = c.requires.program ∙ (let P : Strand → Type 0 = λ z. z.program ≡ s.program in subst P c.self.view_is refl) in
     let flat : c.args.flow.now ≡ lowered s.program = flat_is c.args.flow.now s.program c.code.ensures.lowered program in
-    subst (λ d. CanFollow d c.self.execution.machine c.in-Some.birth c.reply_of.result) (sym flat)
-    (subst (CanFollow (lowered s.program) c.self.execution.machine c.in-Some.birth) (sym c.reply_of.ensures) (can_answer s c.in-Some.birth s.wanted c.args.e c.self.invariant c.in-Some.is refl asked))
+    subst (λ d. CanFollow d c.self.inside.machine c.in-Some.birth c.reply_of.result) (sym flat)
+    (subst (CanFollow (lowered s.program) c.self.inside.machine c.in-Some.birth) (sym c.reply_of.ensures) (can_answer s c.in-Some.birth s.wanted c.args.e c.self.invariant c.in-Some.is refl asked))
 
 pub invariant_of-self : goal.invariant_of-self
 invariant_of-self c =
     let s : Strand = the_view c.self.inside in
-    let question_lists : IsAnswer s.thread s.wanted c.args.e = subst (λ (z : Strand). IsAnswer z.thread z.wanted c.args.e) (sym c.self.view_is) c.requires.answers in
+    let asked : IsAnswer s.thread s.wanted c.args.e = subst (λ (z : Strand). IsAnswer z.thread z.wanted c.args.e) (sym c.self.view_is) c.requires.answers in
     let program : c.args.flow.now.program ≡ s.program = c.requires.program ∙ (let P : Strand → Type 0 = λ z. z.program ≡ s.program in subst P c.self.view_is refl) in
     let flat : c.args.flow.now ≡ lowered s.program = flat_is c.args.flow.now s.program c.code.ensures.lowered program in
-    let follows : Follows (lowered s.program) c.self.execution.machine c.follow-stage.new.machine c.in-Some.birth (reply_of c.args.e) c.follow-stage.result.0 c.follow-stage.result.1 =
-    subst (λ y. Follows (lowered s.program) c.self.execution.machine c.follow-stage.new.machine c.in-Some.birth y c.follow-stage.result.0 c.follow-stage.result.1) c.reply_of.ensures
-    (subst (λ d. Follows d c.self.execution.machine c.follow-stage.new.machine c.in-Some.birth c.reply_of.result c.follow-stage.result.0 c.follow-stage.result.1) flat c.follow-stage.ensures) in
+    let follows : Follows (lowered s.program) c.self.inside.machine c.follow-stage.new.machine c.in-Some.birth (reply_of c.args.e) c.follow-stage.result.0 c.follow-stage.result.1 =
+    subst (λ y. Follows (lowered s.program) c.self.inside.machine c.follow-stage.new.machine c.in-Some.birth y c.follow-stage.result.0 c.follow-stage.result.1) c.reply_of.ensures
+    (subst (λ d. Follows d c.self.inside.machine c.follow-stage.new.machine c.in-Some.birth c.reply_of.result c.follow-stage.result.0 c.follow-stage.result.1) flat c.follow-stage.ensures) in
     let kept : StrandInvariant (after s c.args.e c.follow-stage.new.machine c.follow-stage.result.0 c.follow-stage.result.1) =
     answered_kept s c.in-Some.birth s.wanted c.args.e c.follow-stage.new.machine c.follow-stage.result.0 c.follow-stage.result.1 c.self.invariant c.in-Some.is refl asked follows in
     subst (λ n. StrandInvariant (with_entries s c.push_reserved.new.self.items n c.follow-stage.new.machine c.follow-stage.result.0 c.follow-stage.result.1)) (sym c.push_reserved.ensures.capacity)
@@ -37,7 +37,7 @@ invariant_of-self c =
 pub returns-clause-part : goal.returns-clause-part
 returns-clause-part c =
     let s : Strand = the_view c.self.inside in
-    let question_lists : IsAnswer s.thread s.wanted c.args.e = subst (λ (z : Strand). IsAnswer z.thread z.wanted c.args.e) (sym c.self.view_is) c.requires.answers in
+    let asked : IsAnswer s.thread s.wanted c.args.e = subst (λ (z : Strand). IsAnswer z.thread z.wanted c.args.e) (sym c.self.view_is) c.requires.answers in
     kept_part (with_entries s c.push_reserved.new.self.items (vec_capacity c.push_reserved.new.self) c.follow-stage.new.machine c.follow-stage.result.0 c.follow-stage.result.1) s.birth
     (invariant_of-self c) refl
     (answer_started s s.birth s.wanted c.args.e c.self.invariant refl refl asked)

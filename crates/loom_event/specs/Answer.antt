@@ -74,14 +74,21 @@ abbrev pub IsEntryOf : ℕ → Option Deed → Entry → Type 0
 IsEntryOf t None x = ⊥
 IsEntryOf t (Some d) x = x ≡ entry_by t d.line d.act
 
--- The entry answers the request of thread `t`: it grants the request with some value, or it is the trap that may stand in its place.
+-- The entry grants the request of thread `t`, with some value.
+abbrev pub IsGrantOf : ℕ → Request → Entry → Type 0
+IsGrantOf t q x = (v : ℤ) × IsEntryOf t (granted q v) x
+
+-- The entry answers the request of thread `t`: it grants the request, or it is the trap that may stand in its place.
 abbrev pub IsAnswerTo : ℕ → Request → Entry → Type 0
 IsAnswerTo t (r.Tick l k) x = x ≡ e.Tick t l k
-IsAnswerTo t q x = ((v : ℤ) × IsEntryOf t (granted q v) x) ⊎ IsEntryOf t (trapped q) x
+IsAnswerTo t q x = IsGrantOf t q x ⊎ IsEntryOf t (trapped q) x
 
-abbrev pub IsAnswer : ℕ → Option Request → Entry → Type 0
-IsAnswer t None x = ⊥
-IsAnswer t (Some q) x = IsAnswerTo t q x
+-- The entry tells thread `t` that its request is disabled. Only what waits for a mutex, a semaphore or a thread can be.
+abbrev pub IsBlockedFor : ℕ → Request → Entry → Type 0
+IsBlockedFor t (r.Lock l m) x = x ≡ e.Blocked t l (what.Lock m)
+IsBlockedFor t (r.Down l s) x = x ≡ e.Blocked t l (what.Down s)
+IsBlockedFor t (r.Join l (pos c)) x = x ≡ e.Blocked t l (what.Join c)
+IsBlockedFor t _ x = ⊥
 
 -- the function of this number has as many parameters
 abbrev pub IsFunctionWith : Source → ℕ → List ℤ → Type 0

@@ -9,14 +9,14 @@ use Rattle.loom_trace.specs.declared.request.Request.{Request}
 use Rattle.loom_trace.specs.declared.request.Request.TheVariants as r
 use Rattle.loom_lang.specs.Trace.{Act, begin, end, trap, read, write, lock, unlock, down, up, spawn, join, print, Item, made, begins, done, edge, enter, out, not_spawned, Open, IsTrace}
 use Rattle.loom_lang.specs.Acts.{Deed}
-use Rattle.loom_event.specs.Answer.{granted, request_of}
+use Rattle.loom_event.specs.Answer.{granted}
 use Rattle.loom_event.specs.Replay.{ThreadState}
 use Rattle.loom_law.specs.Walk.{Version, Plans, Operation, wait, enters, at, past, post, leave, back, tick, cross, blocked, Queue, PartStep, goes, makes, items, told, entry_of_operation, Walk, unborn, behind_entry, taking, crossing, after, walk_from, first_number, Acts, AsksFor, MayCross, AreWoven}
 use Rattle.loom_law.specs.ThreadPart.{Own, walk_of, IsPart, HasMoved, KeepsAway}
 use Rattle.loom_law.specs.Control.{entries_of}
 use Rattle.loom_law.specs.Lawful.{Setting, plans, own, IsFlagged, is_begin, StaysAway}
 use Rattle.loom_law.specs.Laws.{own_with}
-use Rattle.loom_law.specs.TurnLaws.{AsksToDo, HasMakingTurns, blocked_behind, HasBlocks}
+use Rattle.loom_law.specs.TurnLaws.{AsksToDo, HasMakingTurns, blocked_behind}
 use Rattle.loom_law.proofs.OnePart.{told_append, one_move}
 use Rattle.loom_law.proofs.Earlier.{append_assoc, items_ahead, woven_front, takings}
 use Rattle.loom_law.proofs.Turns.{BeforeOp, before_op, moved, walk_coming}
@@ -147,56 +147,3 @@ walk_blocked p plans t z (makes l (leave k c) ∷ ss) ahead h = walk_blocked p p
 walk_blocked p plans t z (makes l back ∷ ss) ahead h = walk_blocked p plans t (after p plans z (makes l back)) ss ahead h.1
 walk_blocked p plans t z (makes l (tick x) ∷ ss) ahead h = walk_blocked p plans t (after p plans z (makes l (tick x))) ss ahead h.1
 walk_blocked p plans t z (makes l (blocked what) ∷ ss) ahead h = walk_blocked p plans t (after p plans z (makes l (blocked what))) ss ahead h.1
-
--- A request that can be disabled
-
-abbrev act_of_what : What → Option Act
-act_of_what (w.Lock m) = Some (lock m)
-act_of_what (w.Down k) = Some (down k)
-act_of_what (w.Join c) = Some (join c)
-act_of_what _ = None
-
-record CanWait (q : Request) (l : ℕ) (what : What) : Type 0 where
-  act : Act
-  grants : granted q (pos 0) ≡ Some (record { line = l; act = act })
-  no_trap : (c : ℕ) → act ≡ trap (not_spawned (pos c)) → ⊥
-  asks : (z : Walk) → z.owed ≡ [] → AsksFor z (made l act ∷ []) l what
-
-acts_there : (os : Queue) (l : ℕ) (a : Act) → os ≡ [] → Acts os (made l a ∷ []) l a
-acts_there [] l a h = refl
-acts_there (o ∷ os) l a h = cc
-
-can_wait : (l : ℕ) (what : What) (q : Request) → request_of l what ≡ Some q → CanWait q l what
-can_wait l (w.Lock m) q h =
-    let is : r.Lock l m ≡ q = cc in
-    subst (λ u. CanWait u l (w.Lock m)) is (record { act = lock m; grants = refl; no_trap = λ c g. cc; asks = λ z none. acts_there z.owed l (lock m) none })
-can_wait l (w.Down k) q h =
-    let is : r.Down l k ≡ q = cc in
-    subst (λ u. CanWait u l (w.Down k)) is (record { act = down k; grants = refl; no_trap = λ c g. cc; asks = λ z none. acts_there z.owed l (down k) none })
-can_wait l (w.Join d) q h =
-    let is : r.Join l (pos d) ≡ q = cc in
-    subst (λ u. CanWait u l (w.Join d)) is (record { act = join d; grants = refl; no_trap = λ c g. cc; asks = λ z none. acts_there z.owed l (join d) none })
-can_wait l (w.Enter k c) q h = cc
-can_wait l (w.Wait k n) q h = cc
-
-pub blocks : HasBlocks
-blocks p plans x q l what h is free =
-    let c : CanWait q l what = can_wait l what q is in
-    let d : Deed = record { line = l; act = c.act } in
-    let steps : List PartStep = h.steps in
-    let last : List PartStep = makes l (blocked what) ∷ [] in
-    let ahead : List Item = made l c.act ∷ [] in
-    let trace : IsTrace p x.func x.args (items steps ++ ahead) Open = goes_with p plans x q d h (inl (pos 0, c.grants)) in
-    let woven : AreWoven p plans (unborn x.versions) steps ahead =
-    woven_ahead p plans x q d h (inl (pos 0, c.grants)) (λ before m e behind whole trapped. c.no_trap e trapped) in
-    let not_yet : Walk.is_blocked (walk_of p plans x steps) ≡ false =
-    walk_blocked p plans x.thread (unborn x.versions) steps ahead woven ∙ (ap (blocked_behind false) h.tells ∙ free) in
-    record {
-      steps = steps ++ last;
-      ahead = ahead;
-      outcome = Open;
-      trace = subst (λ us. IsTrace p x.func x.args us Open) (sym (items_ahead steps last ahead)) trace;
-      woven = woven_last p plans (unborn x.versions) steps (makes l (blocked what)) ahead woven (record { asks = c.asks (walk_of p plans x steps) h.rests; not_yet = not_yet });
-      tells = told_append x.thread steps last ∙ ap (λ us. us ++ e.Blocked x.thread l what ∷ []) h.tells;
-      taken = ap (λ z. Walk.coming z) (walk_append p plans (unborn x.versions) steps last) ∙ h.taken;
-    }

@@ -8,12 +8,12 @@ use Rattle.loom_trace.specs.declared.entry.What.{What}
 use Rattle.loom_trace.specs.declared.request.Request.{Request}
 use Rattle.loom_lang.specs.Trace.{made}
 use Rattle.loom_lang.specs.Acts.{Deed, IsAlike}
-use Rattle.loom_event.specs.Answer.{IsAnswered, request_of}
+use Rattle.loom_event.specs.Answer.{IsAnswered, IsBlockedFor}
 use Rattle.loom_event.specs.Event.{Event, event_of_deed, entry_by}
 use Rattle.loom_event.specs.Replay.{ThreadState, start, thread_at, replay, IsAllowed}
 use Rattle.loom_law.specs.Walk.{Plans, Operation, cross, blocked, goes, makes, entry_of_operation}
 use Rattle.loom_law.specs.Walk as walk
-use Rattle.loom_law.specs.ThreadPart.{Own, walk_of, KeepsAway, AsksToMake, AsksToCross, AsksToAct}
+use Rattle.loom_law.specs.ThreadPart.{Own, walk_of, KeepsAway, with_entry, AsksToMake, AsksToCross, AsksToAct}
 use Rattle.loom_law.specs.Control.{Control, control, listed_places, since_asked, entries_of}
 use Rattle.loom_law.specs.Lawful.{Setting, front_of, plans, own, IsFlagged, IsHeldOff, IsOpen, is_cross, owes_cross, is_begin, is_spawn_of, has_any, StaysAway, Permits, IsLawful}
 use Rattle.loom_law.specs.Laws.{IsUnfinished, own_with, MayTurn}
@@ -82,10 +82,16 @@ blocked_behind b (x ∷ xs) = blocked_behind (is_blocked_entry x) xs
 abbrev pub ends_blocked : List Entry → Bool
 ends_blocked es = blocked_behind false es
 
--- A thread that asks for it, and whose last entry isn't `Blocked`, may ask to be told as blocked there.
+-- A thread that asks for what can be disabled, and whose last entry isn't `Blocked`, may ask to be told as blocked there.
 abbrev pub HasBlocks : Type 0
-HasBlocks = (p : Source) (plans : Plans) (x : Own) (q : Request) (l : ℕ) (what : What) → AsksToAct p plans x q → request_of l what ≡ Some q
-    → ends_blocked x.entries ≡ false → AsksToMake p plans x l (blocked what)
+HasBlocks = (p : Source) (plans : Plans) (x : Own) (q : Request) (l : ℕ) (what : What) → AsksToAct p plans x q
+    → IsBlockedFor x.thread q (e.Blocked x.thread l what) → ends_blocked x.entries ≡ false → AsksToMake p plans x l (blocked what)
+
+-- And behind that it asks for the same.
+abbrev pub HasSameRequest : Type 0
+HasSameRequest = (p : Source) (plans : Plans) (x : Own) (q : Request) (l : ℕ) (what : What) → AsksToAct p plans x q
+    → IsBlockedFor x.thread q (e.Blocked x.thread l what) → ends_blocked x.entries ≡ false
+    → AsksToAct p plans (with_entry x (e.Blocked x.thread l what)) q
 
 -- What a thread asks for is one
 

@@ -1,5 +1,5 @@
 //! Laws that lead from what a thread asks for to a turn, stated as the contracts of functions that do nothing.
-ghost use Rattle.loom_law.specs.TurnLaws.{HasAnswers, HasAnswerTurns, HasMakingTurns, HasBlocks, HasOneRequest, HasNoSplit, HasOneOperation};
+ghost use Rattle.loom_law.specs.TurnLaws.{HasAnswers, HasAnswerTurns, HasMakingTurns, HasBlocks, HasSameRequest, HasOneRequest, HasNoSplit, HasOneOperation};
 
 /// From a thread's request and the answer that the store allows to the premises of a turn.
 pub fn answers()
@@ -19,6 +19,11 @@ pub fn making_turns()
 /// A thread that asks for what can be disabled may be told as blocked there, but not twice.
 pub fn blocks()
     ensures { HasBlocks }
+{}
+
+/// Behind `Blocked` a thread asks for the same as before.
+pub fn same_request()
+    ensures { HasSameRequest }
 {}
 
 /// Two acts for which a thread asks are answered the same.

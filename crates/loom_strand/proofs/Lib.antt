@@ -1,4 +1,5 @@
 pub mod Advance
+pub mod Again
 pub mod AnswerLaws
 pub mod RequestKinds
 pub mod Cells

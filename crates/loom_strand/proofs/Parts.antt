@@ -16,7 +16,7 @@ use Rattle.loom_event.specs.Answer.{granted, trapped, cause_of, trap_at}
 use Rattle.loom_law.specs.Walk.{Plans, tick, PartStep, makes, items, Queue}
 use Rattle.loom_law.specs.ThreadPart.{Own, IsPart, AsksToMake, AsksToAct, GoesOn}
 use Rattle.loom_strand.specs.PlainWalk.{first_version, IsPlainWalk}
-use Rattle.loom_strand.specs.Life.{has_none, versions_with}
+use Rattle.loom_strand.specs.Life.{is_end, has_none, has_ended, versions_with}
 use Rattle.loom_strand.specs.PositionRequest.{question_request}
 use Rattle.loom_strand.specs.Strand.{AsksNext, IsWholePart}
 use Rattle.loom_strand.specs.StrandInvariant.{GoesOnFrom, end_line, thread_with}
@@ -58,9 +58,14 @@ whole_part p plans t f vs steps es os n some w trace = subst (IsWholePart p plan
   taken = (w.plain plans).coming;
 })
 
-some_more : (es : List Entry) (x : Entry) → has_none (es ++ x ∷ []) ≡ false
+pub some_more : (es : List Entry) (x : Entry) → has_none (es ++ x ∷ []) ≡ false
 some_more [] x = refl
 some_more (y ∷ es) x = refl
+
+pub last_ends : (es : List Entry) (x : Entry) → has_ended (es ++ x ∷ []) ≡ is_end x
+last_ends [] x = refl
+last_ends (y ∷ []) x = refl
+last_ends (y ∷ z ∷ es) x = last_ends (z ∷ es) x
 
 -- What it asks for
 

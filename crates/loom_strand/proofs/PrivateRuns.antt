@@ -58,7 +58,11 @@ free_at : (c : Flow) (s : Strand) (b : Birth) (x : Stage) → IsFree c s b x →
 free_at c s b x h = subst (λ y. StageInvariant y s (Some b)) h.stage (subst (StageInvariant s.execution.stage s) h.birth h.kept.stage)
 
 free_running : (c : Flow) (s : Strand) (b : Birth) → IsFree c s b stage.Runs → RunningInvariant s.program s.thread b s.entries None s.execution.passed (position s.execution.machine)
-free_running c s b h = subst (λ o. RunningInvariant s.program s.thread b s.entries o s.execution.passed (position s.execution.machine)) h.wanted (free_at c s b stage.Runs h)
+free_running c s b h = subst (λ o. RunningInvariant s.program s.thread b s.entries o s.execution.passed (position s.execution.machine)) h.wanted (runs (free_at c s b stage.Runs h))
+  where
+    runs : StageInvariant stage.Runs s (Some b) → RunningInvariant s.program s.thread b s.entries s.wanted s.execution.passed (position s.execution.machine)
+    runs (inl x) = x
+    runs (inr x) = absurd (no_request x.request (sym h.wanted ∙ x.asks))
 
 idle : (p : Source) (t n : ℕ) (b : Birth) (es : List Entry) (z : Position) → (h : RunningInvariant p t b es None n z) → IsIdle None h.owed n
 idle p t n b es z h = by_owed h.asks
@@ -84,7 +88,8 @@ function_there p q b e f = slice_get_within p.funcs b.func f.0 (ap (λ (z : Sour
 
 function_at : (p : Source) (s : Strand) (b : Birth) (x : Stage) → p ≡ s.program → StageInvariant x s (Some b) → (x ≡ stage.Over → ⊥) → b.func < length p.funcs
 function_at p s b stage.Waits e h lives = function_there p s.program b e h.function
-function_at p s b stage.Runs e h lives = function_there p s.program b e h.function
+function_at p s b stage.Runs e (inl h) lives = function_there p s.program b e h.function
+function_at p s b stage.Runs e (inr h) lives = function_there p s.program b e h.runs.function
 function_at p s b stage.Over e h lives = absurd (lives refl)
 
 pub has_function : (p : Source) (s : Strand) (b : Birth) (x : Stage) → p ≡ s.program → StrandInvariant s → s.birth ≡ Some b → s.execution.stage ≡ x → (x ≡ stage.Over → ⊥) → b.func < length p.funcs
@@ -105,6 +110,7 @@ gone_running p t b es n k old new wanted os h g asks = record {
   asks = asks;
   begun = h.begun;
   lives = h.lives;
+  free = h.free;
 }
 
 kept_as : (c : Flow) (s : Strand) (b : Birth) (q : Option Request) (m : Machine) (k : ℕ) → IsFree c s b stage.Runs → HasRoom (lowered s.program) m
@@ -113,7 +119,7 @@ kept_as c s b q m k h room at = subst (λ x. StrandInvariant (resumed s q m x k)
   lawful = h.kept.lawful;
   room = room;
   blank = tt;
-  stage = subst (StageInvariant stage.Runs (resumed s q m stage.Runs k)) (sym h.birth) at;
+  stage = subst (StageInvariant stage.Runs (resumed s q m stage.Runs k)) (sym h.birth) (inl at);
 })
 
 pub resumed_asks : (c : Flow) (s : Strand) (b : Birth) (q : Request) (m : Machine) (k : ℕ) → IsFree c s b stage.Runs → Stops c s.execution.machine m s.execution.passed k (stop.Asks q)

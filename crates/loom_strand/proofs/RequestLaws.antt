@@ -13,6 +13,7 @@ use Rattle.loom_trace.specs.declared.request.Request.TheVariants as r
 use Rattle.loom_event.specs.Answer.{HasNumbers}
 use Rattle.loom_law.specs.Walk.{tick, items}
 use Rattle.loom_law.specs.ThreadPart.{IsPart}
+use Rattle.loom_law.specs.TurnLaws.{ends_blocked}
 use Rattle.loom_strand.specs.declared.stage.Birth.{Birth}
 use Rattle.loom_strand.specs.declared.stage.Stage.{Stage}
 use Rattle.loom_strand.specs.declared.stage.Stage.TheVariants as stage
@@ -20,12 +21,13 @@ use Rattle.loom_strand.specs.declared.stage.Want.TheVariants as w
 use Rattle.loom_strand.specs.Machine.{position}
 use Rattle.loom_strand.specs.PositionRequest.{question_request, request_at}
 use Rattle.loom_strand.specs.Alone.{has_one_thread, NeedsNoOther}
-use Rattle.loom_strand.specs.Life.{asks_begin, has_none, has_ended}
+use Rattle.loom_strand.specs.Life.{asks_begin, has_none, has_ended, IsLastBlockedFor}
 use Rattle.loom_strand.specs.Strand.{Strand, IsStarted, HasOwnPart, AsksNext, Requests, Wants}
 use Rattle.loom_strand.specs.PlainWalk.{IsPlainWalk}
-use Rattle.loom_strand.specs.StrandInvariant.{end_line, thread_with, IsIdle, AsksTick, AsksHere, AsksBegin, WaitingInvariant, RunningInvariant, EndInvariant, StageInvariant, StrandInvariant}
+use Rattle.loom_strand.specs.StrandInvariant.{end_line, thread_with, IsIdle, AsksTick, AsksHere, AsksBegin, WaitingInvariant, RunningInvariant, AsksAgain, EndInvariant, StageInvariant, StrandInvariant}
 use Rattle.loom_strand.proofs.GoesOn.{is_lowered, tree_trace, open_so_far, begin_open, none_open}
-use Rattle.loom_strand.proofs.Parts.{own_with, plain_part, whole_part, asks_tick, asks_act, question_acts, trap_acts, end_acts, question_next}
+use Rattle.loom_strand.proofs.Again.{free_last, blocked_last, blocked_lives, asks_behind, part_behind}
+use Rattle.loom_strand.proofs.Parts.{own_with, plain_part, whole_part, some_more, last_ends, asks_tick, asks_act, question_acts, trap_acts, end_acts, question_next}
 use Rattle.loom_strand.proofs.RequestKinds.{Asked, asks_numbers, asks_no_other}
 
 -- What comes of the position
@@ -107,7 +109,22 @@ running_here p l t n b es z q h = by_owed h.asks
 running_requests : (s : Strand) (b : Birth) (n : ℕ) (z : Position) (q : Request) → KeepsRules s.program → s.wanted ≡ Some q → RunningInvariant s.program s.thread b s.entries (Some q) n z → Requests s b q
 running_requests s b n z q l e h =
     let a : IsAskedHere s.program s.thread b s.entries q = running_here s.program l s.thread n b s.entries z q h in
-    record { wanted = e; next = a.next; numbers = a.numbers; begins = a.begins ∙ sym h.begun; lives = h.lives; alone = a.alone }
+    record { wanted = e; next = a.next; numbers = a.numbers; begins = a.begins ∙ sym h.begun; lives = h.lives; blocked = free_last s.thread q s.entries h.free; alone = a.alone }
+
+-- Where it was told that its request is disabled, it asks for the same again.
+again_requests : (s : Strand) (b : Birth) (n : ℕ) (z : Position) (q : Request) → KeepsRules s.program → s.wanted ≡ Some q → AsksAgain s.program s.thread b s.entries (Some q) n z → Requests s b q
+again_requests s b n z q l e h =
+    let a : IsAskedHere s.program s.thread b h.front h.request = running_here s.program l s.thread h.count b h.front z h.request h.runs in
+    subst (Requests s b) (sym (same_request q h.request h.asks)) (record {
+      wanted = e ∙ h.asks;
+      next = subst (λ es. AsksNext s.program (own_with s.thread b.func b.args es) h.request) (sym h.entries)
+          (asks_behind s.program s.thread b.func b.args h.front h.request h.last h.runs.begun h.runs.free h.blocked a.next);
+      numbers = a.numbers;
+      begins = a.begins ∙ (sym (some_more h.front h.last) ∙ sym (ap has_none h.entries));
+      lives = ap has_ended h.entries ∙ (last_ends h.front h.last ∙ blocked_lives s.thread h.request h.last h.blocked);
+      blocked = subst (IsLastBlockedFor s.thread h.request) (sym h.entries) (blocked_last s.thread h.request h.front h.last h.blocked);
+      alone = a.alone;
+    })
 
 -- Before the begin
 
@@ -145,6 +162,7 @@ waiting_requests s b q l e h =
       numbers = tt;
       begins = sym (ap has_none h.none);
       lives = ap has_ended h.none;
+      blocked = free_last s.thread (r.Begin (end_line s.program b.func)) s.entries (ap ends_blocked h.none);
       alone = λ a. tt;
     })
 
@@ -152,8 +170,10 @@ waiting_requests s b q l e h =
 
 requests_at : (s : Strand) (b : Birth) (q : Request) (x : Stage) → KeepsRules s.program → s.wanted ≡ Some q → StageInvariant x s (Some b) → Requests s b q
 requests_at s b q stage.Waits l e h = waiting_requests s b q l e h
-requests_at s b q stage.Runs l e h =
+requests_at s b q stage.Runs l e (inl h) =
     running_requests s b s.execution.passed (position s.execution.machine) q l e (subst (λ o. RunningInvariant s.program s.thread b s.entries o s.execution.passed (position s.execution.machine)) e h)
+requests_at s b q stage.Runs l e (inr h) =
+    again_requests s b s.execution.passed (position s.execution.machine) q l e (subst (λ o. AsksAgain s.program s.thread b s.entries o s.execution.passed (position s.execution.machine)) e h)
 requests_at s b q stage.Over l e h = absurd (no_request q (sym h.asks ∙ e))
 
 -- what a thread asks for
@@ -187,7 +207,11 @@ part_at s b stage.Waits l h = λ plans. subst (λ es. IsPart s.program plans (ow
   tells = refl;
   taken = refl;
 })
-part_at s b stage.Runs l h = λ plans.
+part_at s b stage.Runs l (inr h) = λ plans.
+    let a : IsAskedHere s.program s.thread b h.front h.request = running_here s.program l s.thread h.count b h.front (position s.execution.machine) h.request h.runs in
+    subst (λ es. IsPart s.program plans (own_with s.thread b.func b.args es)) (sym h.entries)
+    (part_behind s.program plans s.thread b.func b.args h.front h.request h.last h.runs.begun h.runs.free h.blocked a.next)
+part_at s b stage.Runs l (inl h) = λ plans.
     plain_part s.program plans s.thread b.func b.args h.steps s.entries h.owed s.execution.passed h.begun h.walk Open
     (tree_trace s.program l b.func b.args (items h.steps) Open
     (open_so_far (lowered s.program) (thread_with s.program b.func) b.func b.args (items h.steps) (position s.execution.machine) h.goes))

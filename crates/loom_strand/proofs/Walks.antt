@@ -8,7 +8,11 @@ use Rattle.loom_trace.specs.declared.entry.Entry.TheVariants as e
 use Rattle.loom_event.specs.Event.{entry_by}
 use Rattle.loom_law.specs.Walk.{tick_after}
 use Rattle.loom_law.specs.Filter.{statement, function}
-use Rattle.loom_law.specs.Walk.{Version, Plans, Operation, tick, PartStep, goes, makes, items, told_item, told, entry_of_operation, Walk, Queue, unborn, owed_at, owed_behind, owed_out, owed_trap, with_tick, with_back, place_number, function_line, begun_with, without_first, after, walk_from, Owes, MayStand, AreWoven}
+use Rattle.loom_trace.specs.declared.entry.What.{What}
+use Rattle.loom_law.specs.Walk.{Version, Plans, Operation, tick, blocked, AsksFor, PartStep, goes, makes, items, told_item, told, entry_of_operation, Walk, Queue, unborn, owed_at, owed_behind, owed_out, owed_trap, with_tick, with_back, place_number, function_line, begun_with, without_first, after, walk_from, Owes, MayStand, AreWoven}
+use Rattle.loom_law.specs.TurnLaws.{blocked_behind, ends_blocked}
+use Rattle.loom_law.proofs.Answers.{woven_last}
+use Rattle.loom_law.proofs.Makings.{walk_blocked}
 use Rattle.loom_strand.specs.PlainWalk.{first_version, IsPlain, IsPlainWalk}
 
 -- Lists of steps
@@ -154,6 +158,31 @@ pub walk_tick : (p : Source) (t : ℕ) (ss : List PartStep) (es : List Entry) (n
 walk_tick p t ss es n l k h =
     walk_more p t ss es (e.Tick t l k ∷ []) ((l, tick k) ∷ []) [] n 0 (makes l (tick k)) h (λ z g ahead. subst (λ os. Owes os l (tick k)) (sym g.owed) refl)
     (λ plans z g. record { coming = g.coming; active = g.active; held = g.held; owed = ap without_first g.owed; passed = refl }) refl
+
+-- an act behind the entry that tells that it is disabled
+pub walk_blocked : (p : Source) (t : ℕ) (ss : List PartStep) (es : List Entry) (n l : ℕ) (what : What) (a : Act) → is_begin a ≡ false → ends_blocked es ≡ false
+    → ((z : Walk) (ahead : List Item) → z.owed ≡ [] → AsksFor z (made l a ∷ ahead) l what) → IsPlainWalk p t ss es [] n
+    → IsPlainWalk p t ((ss ++ makes l (blocked what) ∷ []) ++ goes (made l a) ∷ []) ((es ++ e.Blocked t l what ∷ []) ++ entry_by t l a ∷ []) [] 0
+walk_blocked p t ss es n l what a other free asks h =
+    let told_so : List PartStep = ss ++ makes l (blocked what) ∷ [] in
+    record {
+      woven = λ plans ahead. woven_last p plans (unborn (first_version ∷ [])) told_so (goes (made l a)) ahead
+          (woven_last p plans (unborn (first_version ∷ [])) ss (makes l (blocked what)) (made l a ∷ ahead) (h.woven plans (made l a ∷ ahead))
+          (record {
+            asks = asks (walk_from p plans (unborn (first_version ∷ [])) ss) ahead (h.plain plans).owed;
+            not_yet = walk_blocked p plans t (unborn (first_version ∷ [])) ss (made l a ∷ ahead) (h.woven plans (made l a ∷ ahead)) ∙ (ap (blocked_behind false) h.tells ∙ free);
+          }))
+          (may_act p (walk_from p plans (unborn (first_version ∷ [])) told_so) l a ahead other (waits plans).owed);
+      tells = told_append t told_so (goes (made l a) ∷ [])
+          ∙ ap (λ gs. gs ++ entry_by t l a ∷ []) (told_append t ss (makes l (blocked what) ∷ []) ∙ ap (λ gs. gs ++ e.Blocked t l what ∷ []) h.tells);
+      plain = λ plans. subst (IsPlain [] 0) (sym (walk_append p plans (unborn (first_version ∷ [])) told_so (goes (made l a) ∷ [])))
+          (acted p plans (walk_from p plans (unborn (first_version ∷ [])) told_so) 0 l a other (waits plans));
+    }
+  where
+    waits : (plans : Plans) → IsPlain [] 0 (walk_from p plans (unborn (first_version ∷ [])) (ss ++ makes l (blocked what) ∷ []))
+    waits plans = subst (IsPlain [] 0) (sym (walk_append p plans (unborn (first_version ∷ [])) ss (makes l (blocked what) ∷ [])))
+        (let g : IsPlain [] n (walk_from p plans (unborn (first_version ∷ [])) ss) = h.plain plans in
+        record { coming = g.coming; active = g.active; held = g.held; owed = g.owed; passed = refl })
 
 -- the begin, which takes the first version
 pub walk_begin : (p : Source) (t l : ℕ) → IsPlainWalk p t (goes (made l begin) ∷ []) (e.Begin t l ∷ []) [] 0

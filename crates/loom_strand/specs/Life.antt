@@ -1,10 +1,12 @@
 -- The life of a thread, by its entries and its requests.
-use Rattle.std.specs.Prelude.{Bool, true, false, List, [], ◌∷◌}
+use Rattle.std.specs.Prelude.{ℕ, ◌≡◌, Bool, true, false, List, [], ◌∷◌, ◌++◌}
 use Rattle.loom_trace.specs.declared.entry.Entry.{Entry}
 use Rattle.loom_trace.specs.declared.entry.Entry.TheVariants as e
 use Rattle.loom_trace.specs.declared.request.Request.{Request}
 use Rattle.loom_trace.specs.declared.request.Request.TheVariants as r
+use Rattle.loom_event.specs.Answer.{IsBlockedFor}
 use Rattle.loom_law.specs.Walk.{Version}
+use Rattle.loom_law.specs.TurnLaws.{is_blocked_entry}
 use Rattle.loom_strand.specs.PlainWalk.{first_version}
 
 abbrev pub asks_begin : Request → Bool
@@ -24,6 +26,10 @@ abbrev pub has_ended : List Entry → Bool
 has_ended [] = false
 has_ended (x ∷ []) = is_end x
 has_ended (x ∷ y ∷ xs) = has_ended (y ∷ xs)
+
+-- Where the last of these entries is `Blocked`, it is so for this request of thread `t`.
+abbrev pub IsLastBlockedFor : ℕ → Request → List Entry → Type 0
+IsLastBlockedFor t q es = (front : List Entry) (x : Entry) → es ≡ front ++ x ∷ [] → is_blocked_entry x ≡ true → IsBlockedFor t q x
 
 -- the versions that a thread with these entries has taken: with its begin the first one
 abbrev pub versions_with : List Entry → List Version

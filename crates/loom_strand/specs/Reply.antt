@@ -7,6 +7,7 @@ use Rattle.loom_flow.specs.Position.{before, over}
 use Rattle.loom_flow.specs.Progress.{Progress, asks, progress}
 use Rattle.loom_trace.specs.declared.entry.Entry.{Entry}
 use Rattle.loom_trace.specs.declared.entry.Entry.TheVariants as e
+use Rattle.loom_trace.specs.declared.request.Request.{Request}
 use Rattle.loom_strand.specs.declared.stage.Birth.{Birth}
 use Rattle.loom_strand.specs.declared.stage.Stage.{Stage}
 use Rattle.loom_strand.specs.declared.stage.Stage.TheVariants as stage
@@ -23,7 +24,13 @@ reply_of (e.Trap t l n) = a.Traps
 reply_of (e.Tick t l k) = a.Ticks
 reply_of (e.Read t l w v) = a.Gives v
 reply_of (e.Spawn t l c f vs) = a.Gives (pos c)
+reply_of (e.Blocked t l x) = a.Waits
 reply_of _ = a.Gives (pos 0)
+
+-- The request that waits for its answer behind this one: the same where the thread waits, and else none.
+abbrev pub still_wanted : Reply → Option Request → Option Request
+still_wanted a.Waits wanted = wanted
+still_wanted _ wanted = None
 
 -- It asks at this position.
 abbrev pub IsAsking : Progress → Type 0
@@ -46,5 +53,6 @@ abbrev pub Follows : Flow → Machine → Machine → Birth → Reply → Stage 
 Follows c old new b a.Begins x n = BeginsAt old new b (slice_get c.entrances b.func) × ((x ≡ stage.Runs) × (n ≡ 1))
 Follows c old new b a.Ticks x n = (new ≡ old) × ((x ≡ stage.Runs) × (n ≡ 0))
 Follows c old new b (a.Gives v) x n = TakesAnswer old new v (progress c (position old)) × ((x ≡ stage.Runs) × (n ≡ 0))
+Follows c old new b a.Waits x n = (new ≡ old) × ((x ≡ stage.Runs) × (n ≡ 0))
 Follows c old new b a.Traps x n = (new ≡ with_position old over) × ((x ≡ stage.Runs) × (n ≡ 0))
 Follows c old new b a.Ends x n = (new ≡ old) × ((x ≡ stage.Over) × (n ≡ 0))

@@ -1,20 +1,21 @@
 -- A thread.
-use Rattle.std.specs.Prelude.{ℕ, ◌≡◌, true, false, List, [], Option, Some, None}
+use Rattle.std.specs.Prelude.{ℕ, ◌≡◌, ◌⊎◌, Bool, true, false, List, [], Option, Some, None}
 use Rattle.loom_tree.specs.Tree.{Source}
 use Rattle.loom_lang.specs.Trace.{Finished, IsTrace}
 use Rattle.loom_trace.specs.declared.entry.Entry.{Entry}
 use Rattle.loom_trace.specs.declared.request.Request.{Request}
 use Rattle.loom_trace.specs.declared.request.Request.TheVariants as r
-use Rattle.loom_event.specs.Answer.{HasNumbers}
+use Rattle.loom_event.specs.Answer.{IsGrantOf, IsAnswerTo, IsBlockedFor, HasNumbers}
 use Rattle.loom_law.specs.Walk.{Plans, tick, PartStep, items, told, unborn, AreWoven}
 use Rattle.loom_law.specs.ThreadPart.{Own, walk_of, IsPart, AsksToMake, AsksToAct}
+use Rattle.loom_law.specs.TurnLaws.{ends_blocked}
 use Rattle.loom_strand.specs.declared.stage.Birth.{Birth}
 use Rattle.loom_strand.specs.declared.stage.Stage.{Stage}
 use Rattle.loom_strand.specs.declared.stage.Want.{Want}
 use Rattle.loom_strand.specs.declared.stage.Want.TheVariants as w
 use Rattle.loom_strand.specs.Machine.{Machine, frames_below}
 use Rattle.loom_strand.specs.Alone.{has_one_thread, NeedsNoOther}
-use Rattle.loom_strand.specs.Life.{asks_begin, has_none, has_ended, versions_with}
+use Rattle.loom_strand.specs.Life.{asks_begin, has_none, has_ended, IsLastBlockedFor, versions_with}
 
 -- What a thread keeps of its run: how far it is, how many entry and back-edge places it passed since its last entry, and its machine.
 pub record Execution : Type 0 where
@@ -78,8 +79,19 @@ pub record Requests (s : Strand) (b : Birth) (q : Request) : Type 0 where
   pub numbers : HasNumbers s.program q
   pub begins : asks_begin q ≡ has_none s.entries
   pub lives : has_ended s.entries ≡ false
+  -- where it was told that a request is disabled, it is this one
+  pub blocked : IsLastBlockedFor s.thread q s.entries
   -- no other thread, where the program makes none
   pub alone : has_one_thread s.program ≡ true → NeedsNoOther q
+
+-- The entry answers the request, or tells that it is disabled. Where the thread was told so already, the entry grants the request.
+abbrev pub IsReplyTo : Bool → ℕ → Option Request → Entry → Type 0
+IsReplyTo blocked t None x = ⊥
+IsReplyTo false t (Some q) x = IsAnswerTo t q x ⊎ IsBlockedFor t q x
+IsReplyTo true t (Some q) x = IsGrantOf t q x
+
+abbrev pub IsReply : Strand → Entry → Type 0
+IsReply s x = IsReplyTo (ends_blocked s.entries) s.thread s.wanted x
 
 -- The entries are a whole part, whatever filters mean: nothing comes behind them.
 pub record IsWholePart (p : Source) (plans : Plans) (x : Own) : Type 0 where

@@ -14,8 +14,9 @@ use Rattle.loom_flow.specs.Depth.{depth_before}
 use Rattle.loom_trace.specs.declared.entry.Entry.{Entry}
 use Rattle.loom_trace.specs.declared.request.Request.{Request}
 use Rattle.loom_trace.specs.declared.request.Request.TheVariants as r
-use Rattle.loom_event.specs.Answer.{IsFunctionWith}
+use Rattle.loom_event.specs.Answer.{IsBlockedFor, IsFunctionWith}
 use Rattle.loom_law.specs.Walk.{tick_after, tick, PartStep, items, Queue}
+use Rattle.loom_law.specs.TurnLaws.{ends_blocked}
 use Rattle.loom_strand.specs.declared.stage.Birth.{Birth}
 use Rattle.loom_strand.specs.declared.stage.Stage.{Stage}
 use Rattle.loom_strand.specs.declared.stage.Stage.TheVariants as stage
@@ -111,6 +112,19 @@ pub record RunningInvariant (p : Source) (t : ℕ) (b : Birth) (es : List Entry)
   pub asks : IsIdle wanted owed n ⊎ (AsksTick wanted owed ⊎ AsksHere (lowered p) (end_line p b.func) z wanted owed)
   pub begun : has_none es ≡ false
   pub lives : has_ended es ≡ false
+  pub free : ends_blocked es ≡ false
+
+-- Its last entry tells that its request is disabled: it asks for the same again. But for that entry it runs.
+pub record AsksAgain (p : Source) (t : ℕ) (b : Birth) (es : List Entry) (wanted : Option Request) (n : ℕ) (z : Position) : Type 0 where
+  pub front : List Entry
+  pub request : Request
+  pub count : ℕ
+  pub runs : RunningInvariant p t b front (Some request) count z
+  pub last : Entry
+  pub blocked : IsBlockedFor t request last
+  pub entries : es ≡ front ++ last ∷ []
+  pub asks : wanted ≡ Some request
+  pub passed : n ≡ 0
 
 pub record EndInvariant (p : Source) (t : ℕ) (b : Birth) (es : List Entry) (wanted : Option Request) : Type 0 where
   pub steps : List PartStep
@@ -124,7 +138,9 @@ pub record EndInvariant (p : Source) (t : ℕ) (b : Birth) (es : List Entry) (wa
 abbrev pub StageInvariant : Stage → Strand → Option Birth → Type 0
 StageInvariant stage.Waits s None = (s.entries ≡ []) × (s.wanted ≡ None)
 StageInvariant stage.Waits s (Some b) = WaitingInvariant s.program b s.entries s.wanted
-StageInvariant stage.Runs s (Some b) = RunningInvariant s.program s.thread b s.entries s.wanted s.execution.passed (position s.execution.machine)
+StageInvariant stage.Runs s (Some b) =
+    RunningInvariant s.program s.thread b s.entries s.wanted s.execution.passed (position s.execution.machine)
+    ⊎ AsksAgain s.program s.thread b s.entries s.wanted s.execution.passed (position s.execution.machine)
 StageInvariant stage.Over s (Some b) = EndInvariant s.program s.thread b s.entries s.wanted
 StageInvariant _ s None = ⊥
 

@@ -2,7 +2,7 @@
 ghost use Rattle.std.specs.Prelude.{◌≡◌, ◌<◌, length};
 ghost use Rattle.loom_flow.specs.Progress.{progress};
 ghost use Rattle.loom_strand.specs.Machine.{position, TakesAnswer};
-ghost use Rattle.loom_strand.specs.Reply.{reply_of, IsAsking, CanFollow, Follows};
+ghost use Rattle.loom_strand.specs.Reply.{reply_of, still_wanted, IsAsking, CanFollow, Follows};
 
 use crate::ask::take;
 use crate::machine::Machine;
@@ -10,6 +10,7 @@ use crate::stage::{Birth, Stage};
 use loom_flow::code::Step;
 use loom_flow::flow::Flow;
 use loom_trace::entry::Entry;
+use loom_trace::request::Request;
 
 /// What an answer does to a thread.
 #[derive(Clone, Copy, Debug, Drop)]
@@ -18,6 +19,8 @@ pub(crate) enum Reply {
     Begins,
     /// It goes on behind its tick.
     Ticks,
+    /// Its request is disabled, and waits for another answer.
+    Waits,
     /// Its instruction takes this value; of no account where it gives none.
     Gives(i64),
     /// It goes to its end.
@@ -38,12 +41,28 @@ pub(crate) fn reply_of(e: &Entry) -> Reply
         Reply::Traps
     } else if let Entry::Tick { .. } = e {
         Reply::Ticks
+    } else if let Entry::Blocked { .. } = e {
+        Reply::Waits
     } else if let Entry::Read { value, .. } = e {
         Reply::Gives(*value)
     } else if let Entry::Spawn { child, .. } = e {
         Reply::Gives(*child as i64)
     } else {
         Reply::Gives(0)
+    }
+}
+
+/// The request that waits for an answer behind this one.
+pub(crate) fn still_wanted(answer: Reply, wanted: Option<Request>) -> Option<Request>
+    ensures { result ≡ still_wanted answer wanted }
+{
+    match answer {
+        Reply::Begins => None,
+        Reply::Ticks => None,
+        Reply::Waits => wanted,
+        Reply::Gives(_) => None,
+        Reply::Traps => None,
+        Reply::Ends => None,
     }
 }
 
@@ -78,6 +97,7 @@ pub(crate) fn follow(
             (Stage::Runs, 1)
         }
         Reply::Ticks => (Stage::Runs, 0),
+        Reply::Waits => (Stage::Runs, 0),
         Reply::Gives(value) => {
             give(machine, flow, value);
             (Stage::Runs, 0)

@@ -1,14 +1,15 @@
 //! Threads.
-ghost use Rattle.std.specs.Prelude.{◌≡◌, ◌<◌, [], ◌∷◌, ◌++◌, IfOk, Some, None, length, slice_get};
+ghost use Rattle.std.specs.Prelude.{◌≡◌, ◌<◌, true, [], ◌∷◌, ◌++◌, IfOk, Some, None, length, slice_get};
 ghost use Rattle.loom_lang.specs.Places.{line_of_function};
 ghost use Rattle.loom_flow.specs.Code.{IsLowered};
 ghost use Rattle.loom_trace.specs.declared.request.Request.{Request};
-ghost use Rattle.loom_event.specs.Answer.{IsAnswer, IsFunctionWith};
+ghost use Rattle.loom_event.specs.Answer.{IsFunctionWith};
+ghost use Rattle.loom_law.specs.TurnLaws.{is_blocked_entry};
 ghost use Rattle.loom_strand.specs.declared.stage.Stage.TheVariants as stage;
-ghost use Rattle.loom_strand.specs.Strand.{IsNew, IsSame, IsStarted, HasOwnPart, Wants};
+ghost use Rattle.loom_strand.specs.Strand.{IsNew, IsSame, IsStarted, HasOwnPart, Wants, IsReply};
 
 use crate::machine::Machine;
-use crate::reply::{follow, reply_of};
+use crate::reply::{follow, reply_of, still_wanted};
 use crate::run::run;
 use crate::stage::{Birth, Stage, Want};
 use crate::step_result::Stop;
@@ -159,23 +160,26 @@ impl Strand {
         }
     }
 
-    /// The thread takes an answer to what it asked for, and keeps the entry.
+    /// The thread takes an answer to what it asked for, and keeps the entry. Where it is told that its request is disabled, it waits, and asks
+    /// for the same again; the next answer then grants the request.
     pub fn answer(&mut self, flow: &Flow, e: Entry)
         requires program { flow.now.program ≡ self.old.program }
-        requires answers { IsAnswer self.old.thread self.old.wanted e }
+        requires answers { IsReply self.old e }
         requires room { length self.old.entries < self.old.limit }
         ensures same { IsSame self.old self.old.birth (self.old.entries ++ e ∷ []) self.new }
         ensures part { HasOwnPart self.new self.new.birth }
+        ensures waits { is_blocked_entry e ≡ true → self.new.wanted ≡ self.old.wanted }
     {
         let Some(birth) = self.birth else {
             unreachable!();
         };
         // the flat code is that of its program
         let _ = flow.code();
-        let (stage, passed) = follow(&mut self.machine, flow, birth, reply_of(&e));
+        let answer = reply_of(&e);
+        let (stage, passed) = follow(&mut self.machine, flow, birth, answer);
         self.stage = stage;
         self.passed = passed;
-        self.wanted = None;
+        self.wanted = still_wanted(answer, self.wanted);
         self.entries.push_reserved(e);
     }
 }

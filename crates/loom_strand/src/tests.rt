@@ -1,8 +1,9 @@
 //! What thread 1 of small programs does.
-ghost use Rattle.std.specs.Prelude.{◌≡◌, ◌<◌, ◌≤◌, ◌+◌, [], length, slice_get, IfOk, IfSome, true};
+ghost use Rattle.std.specs.Prelude.{◌≡◌, ◌<◌, ◌≤◌, ◌+◌, [], length, slice_get, IfOk, IfSome, true, false};
 ghost use Rattle.loom_flow.specs.Code.{IsLowered};
 ghost use Rattle.loom_event.specs.Answer.{IsAnswerTo, IsFunctionWith};
 ghost use Rattle.loom_trace.specs.declared.request.Request.TheVariants as r;
+ghost use Rattle.loom_law.specs.TurnLaws.{ends_blocked};
 ghost use Rattle.loom_strand.specs.Strand.{IsSame, IsStarted};
 
 mod rows;
@@ -14,12 +15,12 @@ use loom_flow::flow::Flow;
 use loom_flow::lower::lower;
 use loom_lang::limits::FILE_LIMIT;
 use loom_lang::parse::{LangError, parse_program};
-use loom_trace::entry::Entry;
+use loom_trace::entry::{Entry, What};
 use loom_trace::line::Line;
 use loom_trace::request::Request;
 use loom_trace::text::put_entry;
 use loom_tree::name::NoMemory;
-use rows::{ROWS, SUM};
+use rows::{LOCK, ROWS, SUM};
 use std::alloc::Global;
 use std::test::Fail;
 
@@ -136,8 +137,10 @@ fn next(flow: &Flow, strand: &mut Strand, values: &[i64]) -> Option<Entry>
     requires program { flow.now.program ≡ strand.old.program }
     requires thread { strand.old.thread ≡ 1 }
     requires room { length strand.old.entries < strand.old.limit }
+    requires free { ends_blocked strand.old.entries ≡ false }
     ensures same { IsSame strand.old strand.old.birth strand.new.entries strand.new }
     ensures more { length strand.new.entries ≤ length strand.old.entries + 1 }
+    ensures free { ends_blocked strand.new.entries ≡ false }
 {
     match strand.run_private(flow) {
         Want::Ended => None,
@@ -147,6 +150,35 @@ fn next(flow: &Flow, strand: &mut Strand, values: &[i64]) -> Option<Entry>
             Some(entry)
         }
     }
+}
+
+// A lock is told as disabled, asked for again and granted. It tells whether the thread asked for one lock both times.
+fn lock_later(flow: &Flow, strand: &mut Strand) -> bool
+    requires started { IsStarted strand.old.birth }
+    requires program { flow.now.program ≡ strand.old.program }
+    requires thread { strand.old.thread ≡ 1 }
+    requires room { length strand.old.entries + 1 < strand.old.limit }
+    requires free { ends_blocked strand.old.entries ≡ false }
+{
+    let thread = 1;
+    let Want::Ask(Request::Lock { line, m }) = strand.run_private(flow) else {
+        return false;
+    };
+    let what = What::Lock(m);
+    strand.answer(flow, Entry::Blocked { thread, line, what });
+    let Want::Ask(Request::Lock { line: second, m: n }) = strand.run_private(flow) else {
+        return false;
+    };
+    let line_again = second == line;
+    strand.answer(
+        flow,
+        Entry::Lock {
+            thread,
+            line: second,
+            m: n,
+        },
+    );
+    line_again && n == m
 }
 
 fn put_line(text: &mut Vec<u8>, line: &Line) -> Result<(), NoMemory> {
@@ -200,5 +232,17 @@ fn asks_again(rt: HostRuntime) -> Result<(), Fail> {
     for want in ended {
         assert!(rt; matches!(want, Want::Ended));
     }
+    Ok(())
+}
+
+// A thread that is told as blocked asks again. Behind the grant it goes on, and has passed no place yet.
+#[test]
+fn waits_for_a_lock(rt: HostRuntime) -> Result<(), Fail> {
+    let flow = flow_of(rt.alloc(), LOCK)?;
+    let mut strand = main_thread(rt.alloc(), &flow)?;
+    next(&flow, &mut strand, &[]);
+    assert!(rt; lock_later(&flow, &mut strand));
+    let want = strand.run_private(&flow);
+    assert!(rt; matches!(want, Want::Ask(Request::Print { line: 11, value: 1599 })));
     Ok(())
 }

@@ -1,5 +1,5 @@
 -- Each turn of a run of one thread keeps what is known of it.
-use Rattle.std.proofs.Common.{ℕ, ◌<◌, ◌≡◌, inl, inr, ℤ, pos, Bool, true, false, not, List, [], ◌∷◌, ◌++◌, length, slice_set, Option, Some, None, refl, sym, ap, subst, ◌∙◌, arith}
+use Rattle.std.proofs.Common.{ℕ, ◌<◌, ◌≡◌, inl, inr, ℤ, pos, negsuc, Bool, true, false, not, List, [], ◌∷◌, ◌++◌, length, slice_set, Option, Some, None, refl, sym, ap, subst, ◌∙◌, arith}
 use Rattle.std.proofs.lemmas.Bool.{and_parts}
 use Rattle.std.proofs.lemmas.List.{length-set}
 use Rattle.loom_tree.specs.Tree.{Source}
@@ -10,15 +10,17 @@ use Rattle.loom_trace.specs.declared.request.Request.TheVariants as r
 use Rattle.loom_lang.specs.Trace.{division, index, frames, begin, end, trap, read, write, print}
 use Rattle.loom_lang.specs.Acts.{Deed}
 use Rattle.loom_lang.specs.Rules.{cell_count}
-use Rattle.loom_event.specs.Answer.{IsAnswerTo, HasNumbers}
+use Rattle.loom_event.specs.Answer.{IsAnswerTo, IsBlockedFor, HasNumbers}
 use Rattle.loom_event.specs.Event.{entry_by}
 use Rattle.loom_event.specs.Replay.{IsRunning}
 use Rattle.loom_law.specs.Walk.{Plans, tick}
 use Rattle.loom_law.specs.ThreadPart.{AsksToMake, AsksToAct}
 use Rattle.loom_law.specs.Lawful.{plans}
-use Rattle.loom_strand.specs.Life.{asks_begin, has_none, has_ended}
+use Rattle.loom_law.specs.TurnLaws.{ends_blocked}
+use Rattle.loom_strand.specs.Life.{asks_begin, has_none, has_ended, IsLastBlockedFor}
 use Rattle.loom_strand.specs.Alone.{has_one_thread, NeedsNoOther}
-use Rattle.loom_strand.specs.Strand.{AsksNext}
+use Rattle.loom_strand.specs.Strand.{AsksNext, IsReplyTo}
+use Rattle.loom_strand.proofs.Again.{blocked_by}
 use Rattle.loom_top.specs.Runnable.{is_nil, is_runnable}
 use Rattle.loom_top.specs.Grant.{AsksAlone, IsGranted}
 use Rattle.loom_top.specs.Answers.{plain}
@@ -108,7 +110,7 @@ trap_answers p l k (inl h) = subst (λ (z : ℕ). IsAnswerTo 1 (r.Trap l z) (e.T
 trap_answers p l k (inr (inl h)) = subst (λ (z : ℕ). IsAnswerTo 1 (r.Trap l z) (e.Trap 1 l z)) (sym h) (inr refl)
 trap_answers p l k (inr (inr h)) = subst (λ (z : ℕ). IsAnswerTo 1 (r.Trap l z) (e.Trap 1 l z)) (sym h) (inr refl)
 
-pub answers : (p : Source) (vs us : List ℤ) (q : Request) (x : Entry) → HasNumbers p q → IsGranted vs us q x → IsAnswerTo 1 q x
+answers : (p : Source) (vs us : List ℤ) (q : Request) (x : Entry) → HasNumbers p q → IsGranted vs us q x → IsAnswerTo 1 q x
 answers p vs us (r.Begin l) x n g = inl (pos 0, g.0)
 answers p vs us (r.End l) x n g = inl (pos 0, g.0)
 answers p vs us (r.Trap l k) x n g = subst (λ (z : Entry). IsAnswerTo 1 (r.Trap l k) z) (sym g.0) (trap_answers p l k n)
@@ -122,3 +124,16 @@ answers p vs us (r.Spawn l m ws) x n g = absurd g
 answers p vs us (r.Join l u) x n g = absurd g
 answers p vs us (r.Print l u) x n g = inl (pos 0, g.0)
 answers p vs us (r.Tick l k) x n g = g.0
+
+-- Nothing is granted that could be disabled.
+never_blocked : (vs us : List ℤ) (q : Request) (x y : Entry) → IsBlockedFor 1 q y → IsGranted vs us q x → ⊥
+never_blocked vs us (r.Lock l m) x y b g = g
+never_blocked vs us (r.Down l m) x y b g = g
+never_blocked vs us (r.Join l (pos c)) x y b g = g
+never_blocked vs us (r.Join l (negsuc c)) x y b g = b
+never_blocked vs us _ x y b g = b
+
+pub replies : (p : Source) (vs us : List ℤ) (q : Request) (x : Entry) (es : List Entry) (b : Bool) → ends_blocked es ≡ b → IsLastBlockedFor 1 q es → HasNumbers p q → IsGranted vs us q x
+    → IsReplyTo b 1 (Some q) x
+replies p vs us q x es false e h n g = inl (answers p vs us q x n g)
+replies p vs us q x es true e h n g = let last = blocked_by 1 q es e h in absurd (never_blocked vs us q x last.0 last.1 g)

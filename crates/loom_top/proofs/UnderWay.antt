@@ -9,20 +9,21 @@ use Rattle.loom_trace.specs.declared.request.Request.{Request}
 use Rattle.loom_trace.specs.declared.request.Request.TheVariants as r
 use Rattle.loom_trace.specs.Journal.{Contents}
 use Rattle.loom_event.specs.Replay.{start}
-use Rattle.loom_event.specs.Answer.{HasNumbers, IsAnswer}
+use Rattle.loom_event.specs.Answer.{HasNumbers}
 use Rattle.loom_law.specs.ThreadPart.{Own}
+use Rattle.loom_law.specs.TurnLaws.{ends_blocked}
 use Rattle.loom_strand.specs.declared.stage.Birth.{Birth}
 use Rattle.loom_strand.specs.declared.stage.Want.{Want}
 use Rattle.loom_strand.specs.declared.stage.Want.TheVariants as want
 use Rattle.loom_strand.specs.Alone.{has_one_thread, NeedsNoOther}
-use Rattle.loom_strand.specs.Life.{asks_begin, has_none, has_ended, versions_with}
-use Rattle.loom_strand.specs.Strand.{Strand, IsNew, IsSame, own_of, AsksNext, Requests, IsOver, Wants}
+use Rattle.loom_strand.specs.Life.{asks_begin, has_none, has_ended, IsLastBlockedFor, versions_with}
+use Rattle.loom_strand.specs.Strand.{Strand, IsNew, IsSame, own_of, AsksNext, Requests, IsOver, Wants, IsReplyTo, IsReply}
 use Rattle.loom_top.specs.Runnable.{is_runnable}
 use Rattle.loom_top.specs.Answers.{IsRunOf}
 use Rattle.loom_top.specs.Grant.{AsksAlone, IsGranted}
 use Rattle.loom_top.specs.OneThread.{main_own, IsOneThread, IsUnderWay}
 use Rattle.loom_top.proofs.Begun.{many_cells}
-use Rattle.loom_top.proofs.Turns.{asks_alone, answers, turn_goes}
+use Rattle.loom_top.proofs.Turns.{asks_alone, replies, turn_goes}
 use Rattle.loom_top.proofs.Ends.{first_run, done_ends}
 
 abbrev main : ℕ → Birth
@@ -72,6 +73,7 @@ pub record IsAsking (p : Source) (f n : ℕ) (s : Strand) (j : Contents) (vs : L
   pub alone : has_one_thread p ≡ true → NeedsNoOther q
   pub begins : asks_begin q ≡ has_none j.entries
   pub lives : has_ended j.entries ≡ false
+  pub blocked : IsLastBlockedFor 1 q j.entries
 
 own_same : (s : Strand) (f : ℕ) (es : List Entry) → s.thread ≡ 1 → s.entries ≡ es → own_of s (main f) ≡ main_own f es
 own_same s f es one same = rw (one, same) refl
@@ -89,14 +91,16 @@ asking {p = p} {f = f} {z = z} {j = j} {q = q} before same wants is =
       alone = subst (λ (o : Source). has_one_thread o ≡ true → NeedsNoOther q) u.program a.alone;
       begins = a.begins ∙ ap has_none u.entries;
       lives = sym (ap has_ended u.entries) ∙ a.lives;
+      blocked = subst (IsLastBlockedFor 1 q) u.entries (subst (λ (t : ℕ). IsLastBlockedFor t q z.entries) u.thread a.blocked);
     }
 
 pub way_alone : {p : Source} {f n : ℕ} {s : Strand} {j : Contents} {vs : List ℤ} {q : Request} → is_runnable p ≡ true → IsAsking p f n s j vs q → AsksAlone (length vs) q
 way_alone {p = p} {q = q} b a = subst (λ (m : ℕ). AsksAlone m q) (sym a.way.run.cells) (asks_alone p q b a.numbers a.alone)
 
 pub way_answers : {p : Source} {f n : ℕ} {s : Strand} {j : Contents} {vs : List ℤ} {q : Request} {x y : Entry} (us : List ℤ) → IsAsking p f n s j vs q
-    → IsGranted vs us q x → y ≡ x → IsAnswer s.thread s.wanted y
-way_answers {p = p} {vs = vs} {q = q} {x = x} us a g same = rw (same, a.wanted, a.way.thread) (answers p vs us q x a.numbers g)
+    → IsGranted vs us q x → y ≡ x → IsReply s y
+way_answers {p = p} {s = s} {j = j} {vs = vs} {q = q} {x = x} us a g same =
+    rw (same, a.wanted, a.way.thread, a.way.entries) (replies p vs us q x j.entries (ends_blocked j.entries) refl a.blocked a.numbers g)
 
 -- behind an answer
 pub way_on : {p : Source} {f n : ℕ} {s z : Strand} {i j : Contents} {vs us : List ℤ} {q : Request} {x y : Entry} → IsAsking p f n s i vs q → length i.entries < n → IsGranted vs us q x → y ≡ x

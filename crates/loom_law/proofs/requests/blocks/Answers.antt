@@ -1,4 +1,4 @@
-use Rattle.loom_law.proofs.Makings.{blocks}
+use Rattle.loom_law.proofs.SameRequest.{blocks}
 use Rattle.loom_law.proofs.requests.blocks.Goals as goal
 
 pub returns : goal.returns

@@ -1,12 +1,13 @@
-use Rattle.std.proofs.Common.{◌≡◌, ◌∙◌, refl, sym, subst}
+use Rattle.std.proofs.Common.{◌≡◌, ◌∙◌, Option, refl, sym, ap, subst}
 use Rattle.std.specs.Vec.{vec_capacity}
 use Rattle.loom_flow.specs.FlatCode.{lowered}
-use Rattle.loom_event.specs.Answer.{IsAnswer}
-use Rattle.loom_strand.specs.Strand.{Strand}
+use Rattle.loom_trace.specs.declared.request.Request.{Request}
+use Rattle.loom_strand.specs.Strand.{Strand, IsReply}
 use Rattle.loom_strand.specs.StrandInvariant.{StrandInvariant}
-use Rattle.loom_strand.specs.Reply.{reply_of, CanFollow, Follows}
+use Rattle.loom_strand.specs.Reply.{reply_of, still_wanted, CanFollow, Follows}
 use Rattle.loom_strand.specs.contracts.strand.Strand.{the_view}
 use Rattle.loom_strand.proofs.PrivateRuns.{flat_is}
+use Rattle.loom_strand.proofs.Again.{blocked_wanted}
 use Rattle.loom_strand.proofs.AnswerLaws.{after, with_entries, can_answer, answered_kept, answer_started}
 use Rattle.loom_strand.proofs.RequestLaws.{kept_part}
 use Rattle.loom_strand.proofs.strand.Strand.answer.Goals as goal
@@ -14,30 +15,40 @@ use Rattle.loom_strand.proofs.strand.Strand.answer.Goals as goal
 pub follow-stage-requires : goal.follow-stage-requires
 follow-stage-requires c =
     let s : Strand = the_view c.self.inside in
-    let asked : IsAnswer s.thread s.wanted c.args.e = subst (λ (z : Strand). IsAnswer z.thread z.wanted c.args.e) (sym c.self.view_is) c.requires.answers in
+    let reply : IsReply s c.args.e = subst (λ (z : Strand). IsReply z c.args.e) (sym c.self.view_is) c.requires.answers in
     let program : c.args.flow.now.program ≡ s.program = c.requires.program ∙ (let P : Strand → Type 0 = λ z. z.program ≡ s.program in subst P c.self.view_is refl) in
     let flat : c.args.flow.now ≡ lowered s.program = flat_is c.args.flow.now s.program c.code.ensures.lowered program in
-    subst (λ d. CanFollow d c.self.inside.machine c.in-Some.birth c.reply_of.result) (sym flat)
-    (subst (CanFollow (lowered s.program) c.self.inside.machine c.in-Some.birth) (sym c.reply_of.ensures) (can_answer s c.in-Some.birth s.wanted c.args.e c.self.invariant c.in-Some.is refl asked))
+    subst (λ d. CanFollow d c.self.inside.machine c.in-Some.birth c.reply_of-answer.result) (sym flat)
+    (subst (CanFollow (lowered s.program) c.self.inside.machine c.in-Some.birth) (sym c.reply_of-answer.ensures) (can_answer s c.in-Some.birth s.wanted c.args.e c.self.invariant c.in-Some.is refl reply))
 
 pub invariant_of-self : goal.invariant_of-self
 invariant_of-self c =
     let s : Strand = the_view c.self.inside in
-    let asked : IsAnswer s.thread s.wanted c.args.e = subst (λ (z : Strand). IsAnswer z.thread z.wanted c.args.e) (sym c.self.view_is) c.requires.answers in
+    let reply : IsReply s c.args.e = subst (λ (z : Strand). IsReply z c.args.e) (sym c.self.view_is) c.requires.answers in
     let program : c.args.flow.now.program ≡ s.program = c.requires.program ∙ (let P : Strand → Type 0 = λ z. z.program ≡ s.program in subst P c.self.view_is refl) in
     let flat : c.args.flow.now ≡ lowered s.program = flat_is c.args.flow.now s.program c.code.ensures.lowered program in
     let follows : Follows (lowered s.program) c.self.inside.machine c.follow-stage.new.machine c.in-Some.birth (reply_of c.args.e) c.follow-stage.result.0 c.follow-stage.result.1 =
-    subst (λ y. Follows (lowered s.program) c.self.inside.machine c.follow-stage.new.machine c.in-Some.birth y c.follow-stage.result.0 c.follow-stage.result.1) c.reply_of.ensures
-    (subst (λ d. Follows d c.self.inside.machine c.follow-stage.new.machine c.in-Some.birth c.reply_of.result c.follow-stage.result.0 c.follow-stage.result.1) flat c.follow-stage.ensures) in
-    let kept : StrandInvariant (after s c.args.e c.follow-stage.new.machine c.follow-stage.result.0 c.follow-stage.result.1) =
-    answered_kept s c.in-Some.birth s.wanted c.args.e c.follow-stage.new.machine c.follow-stage.result.0 c.follow-stage.result.1 c.self.invariant c.in-Some.is refl asked follows in
-    subst (λ n. StrandInvariant (with_entries s c.push_reserved.new.self.items n c.follow-stage.new.machine c.follow-stage.result.0 c.follow-stage.result.1)) (sym c.push_reserved.ensures.capacity)
-    (subst (λ es. StrandInvariant (with_entries s es s.limit c.follow-stage.new.machine c.follow-stage.result.0 c.follow-stage.result.1)) (sym c.push_reserved.ensures.items) kept)
+    subst (λ y. Follows (lowered s.program) c.self.inside.machine c.follow-stage.new.machine c.in-Some.birth y c.follow-stage.result.0 c.follow-stage.result.1) c.reply_of-answer.ensures
+    (subst (λ d. Follows d c.self.inside.machine c.follow-stage.new.machine c.in-Some.birth c.reply_of-answer.result c.follow-stage.result.0 c.follow-stage.result.1) flat c.follow-stage.ensures) in
+    let wanted : c.still_wanted-self-inside.result ≡ still_wanted (reply_of c.args.e) s.wanted = c.still_wanted-self-inside.ensures ∙ ap (λ y. still_wanted y s.wanted) c.reply_of-answer.ensures in
+    let kept : StrandInvariant (after s c.args.e (still_wanted (reply_of c.args.e) s.wanted) c.follow-stage.new.machine c.follow-stage.result.0 c.follow-stage.result.1) =
+    answered_kept s c.in-Some.birth s.wanted c.args.e c.follow-stage.new.machine c.follow-stage.result.0 c.follow-stage.result.1 c.self.invariant c.in-Some.is refl reply follows in
+    subst (λ n. StrandInvariant (with_entries s c.push_reserved.new.self.items c.still_wanted-self-inside.result n c.follow-stage.new.machine c.follow-stage.result.0 c.follow-stage.result.1)) (sym c.push_reserved.ensures.capacity)
+    (subst (λ es. StrandInvariant (with_entries s es c.still_wanted-self-inside.result s.limit c.follow-stage.new.machine c.follow-stage.result.0 c.follow-stage.result.1)) (sym c.push_reserved.ensures.items)
+    (subst (λ o. StrandInvariant (after s c.args.e o c.follow-stage.new.machine c.follow-stage.result.0 c.follow-stage.result.1)) (sym wanted) kept))
 
 pub returns-clause-part : goal.returns-clause-part
 returns-clause-part c =
     let s : Strand = the_view c.self.inside in
-    let asked : IsAnswer s.thread s.wanted c.args.e = subst (λ (z : Strand). IsAnswer z.thread z.wanted c.args.e) (sym c.self.view_is) c.requires.answers in
-    kept_part (with_entries s c.push_reserved.new.self.items (vec_capacity c.push_reserved.new.self) c.follow-stage.new.machine c.follow-stage.result.0 c.follow-stage.result.1) s.birth
+    let reply : IsReply s c.args.e = subst (λ (z : Strand). IsReply z c.args.e) (sym c.self.view_is) c.requires.answers in
+    kept_part (with_entries s c.push_reserved.new.self.items c.still_wanted-self-inside.result (vec_capacity c.push_reserved.new.self) c.follow-stage.new.machine c.follow-stage.result.0 c.follow-stage.result.1) s.birth
     (invariant_of-self c) refl
-    (answer_started s s.birth s.wanted c.args.e c.self.invariant refl refl asked)
+    (answer_started s s.birth s.wanted c.args.e c.self.invariant refl refl reply)
+
+pub returns-clause-waits : goal.returns-clause-waits
+returns-clause-waits c told =
+    let s : Strand = the_view c.self.inside in
+    let same : still_wanted (reply_of c.args.e) s.wanted ≡ s.wanted = blocked_wanted c.args.e s.wanted told in
+    let wanted : c.still_wanted-self-inside.result ≡ s.wanted = c.still_wanted-self-inside.ensures ∙ (ap (λ y. still_wanted y s.wanted) c.reply_of-answer.ensures ∙ same) in
+    let P : Strand → Type 0 = λ z. c.still_wanted-self-inside.result ≡ z.wanted in
+    subst P c.self.view_is wanted

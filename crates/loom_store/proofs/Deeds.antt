@@ -5,7 +5,7 @@ use Rattle.loom_trace.specs.declared.request.Request.TheVariants as r
 use Rattle.loom_lang.specs.Trace.{Act, trap}
 use Rattle.loom_lang.specs.Acts.{Deed}
 use Rattle.loom_event.specs.Event.{Event, event_of_deed}
-use Rattle.loom_event.specs.Replay.{Store, IsAllowed, after_act, after, replay, AreAllowed}
+use Rattle.loom_event.specs.Replay.{Store, IsAllowed, after_act, after_event, replay, AreAllowed}
 use Rattle.loom_event.specs.Answer.{granted, trapped, IsAnswered}
 use Rattle.loom_store.specs.declared.answer.Answer.{Answer}
 use Rattle.loom_store.specs.declared.answer.Answer.TheVariants as a
@@ -25,7 +25,7 @@ granted_leads : (s : Store) (t : ℕ) (q : Request) (v : ℤ) (new : Store) → 
 granted_leads s t (r.Tick l k) v new h = h
 granted_leads s t q v new h = does_leads s t q (done q v) new h (done_answers q v)
 
-behind_trap : (s : Store) (t : ℕ) (d : Deed) (n : ℕ) → HasReason d.act n → after s (event_of_deed t d) ≡ s
+behind_trap : (s : Store) (t : ℕ) (d : Deed) (n : ℕ) → HasReason d.act n → after_event s (event_of_deed t d) ≡ s
 behind_trap s t d n h = by_act d.act h
   where
     by_act : (a : Act) → HasReason a n → after_act s t a ≡ s
@@ -48,13 +48,13 @@ deeds s t q (a.Trapped n) new h = trap_leads s t q (trapped q) n new (trap_of s 
 
 -- One event more
 
-replay_more : (s : Store) (xs : List Event) (y : Event) → replay s (xs ++ y ∷ []) ≡ after (replay s xs) y
+replay_more : (s : Store) (xs : List Event) (y : Event) → replay s (xs ++ y ∷ []) ≡ after_event (replay s xs) y
 replay_more s [] y = refl
-replay_more s (x ∷ xs) y = replay_more (after s x) xs y
+replay_more s (x ∷ xs) y = replay_more (after_event s x) xs y
 
 allowed_more : (s : Store) (xs : List Event) (y : Event) → AreAllowed s xs → IsAllowed (replay s xs) y → AreAllowed s (xs ++ y ∷ [])
 allowed_more s [] y h may = (may, tt)
-allowed_more s (x ∷ xs) y h may = (h.0, allowed_more (after s x) xs y h.1 may)
+allowed_more s (x ∷ xs) y h may = (h.0, allowed_more (after_event s x) xs y h.1 may)
 
 none_more : (xs : List Event) → xs ++ [] ≡ xs
 none_more [] = refl

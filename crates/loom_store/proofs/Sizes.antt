@@ -11,7 +11,7 @@ use Rattle.loom_lang.specs.Trace.{Act, begin, end, trap, read, write, lock, unlo
 use Rattle.loom_trace.specs.declared.entry.What.TheVariants as w
 use Rattle.loom_trace.specs.declared.request.Request.TheVariants as r
 use Rattle.loom_event.specs.Event.{Event}
-use Rattle.loom_event.specs.Replay.{ThreadState, Store, first_values, nobody, start, new_thread, thread_at, with_thread, counted_down, counted_up, after_act, after, replay}
+use Rattle.loom_event.specs.Replay.{ThreadState, Store, first_values, nobody, start, new_thread, thread_at, with_thread, counted_down, counted_up, after_act, after_event, replay}
 use Rattle.loom_store.specs.Laws.{CanAllWait, HasLastingWaits, CanAlwaysAnswer}
 
 record HasSizes (old new : Store) : Type 0 where
@@ -61,7 +61,7 @@ act_sizes s t (print v) = same_sizes s
 
 replay_sizes : (s : Store) (xs : List Event) → HasSizes s (replay s xs)
 replay_sizes s [] = same_sizes s
-replay_sizes s (x ∷ xs) = sizes_on s (after s x) (replay (after s x) xs) (act_sizes s x.thread x.act) (replay_sizes (after s x) xs)
+replay_sizes s (x ∷ xs) = sizes_on s (after_event s x) (replay (after_event s x) xs) (act_sizes s x.thread x.act) (replay_sizes (after_event s x) xs)
 
 -- What threads wait for
 

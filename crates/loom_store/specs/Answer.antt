@@ -7,7 +7,7 @@ use Rattle.loom_trace.specs.declared.entry.What.TheVariants as w
 use Rattle.loom_trace.specs.declared.request.Request.{Request}
 use Rattle.loom_trace.specs.declared.request.Request.TheVariants as r
 use Rattle.loom_event.specs.Event.{event_of_deed}
-use Rattle.loom_event.specs.Replay.{ThreadState, Store, thread_at, IsAllowed, after, IsDisabled}
+use Rattle.loom_event.specs.Replay.{ThreadState, Store, thread_at, IsAllowed, after_event, IsDisabled}
 use Rattle.loom_event.specs.Answer.{granted, trapped, request_of}
 use Rattle.loom_store.specs.declared.answer.Answer.{Answer}
 use Rattle.loom_store.specs.declared.answer.Answer.TheVariants as a
@@ -49,7 +49,7 @@ CanWait s (w.Wait k e) = ⊥
 -- The deed of thread `t` is allowed, and the store is then `new`.
 abbrev pub Does : Store → ℕ → Option Deed → Store → Type 0
 Does old t None new = ⊥
-Does old t (Some d) new = IsAllowed old (event_of_deed t d) × (new ≡ after old (event_of_deed t d))
+Does old t (Some d) new = IsAllowed old (event_of_deed t d) × (new ≡ after_event old (event_of_deed t d))
 
 -- a request that gives no value is granted with 0
 abbrev pub IsGiven : Request → ℤ → Type 0

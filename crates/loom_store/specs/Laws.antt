@@ -7,7 +7,7 @@ use Rattle.loom_trace.specs.declared.request.Request.TheVariants as r
 use Rattle.loom_lang.specs.Trace.{Cause, trap, reason}
 use Rattle.loom_lang.specs.Acts.{Deed}
 use Rattle.loom_event.specs.Event.{Event, event_of_deed}
-use Rattle.loom_event.specs.Replay.{Store, start, IsAllowed, after, replay, AreAllowed, IsCaused, IsDisabled}
+use Rattle.loom_event.specs.Replay.{Store, start, IsAllowed, after_event, replay, AreAllowed, IsCaused, IsDisabled}
 use Rattle.loom_event.specs.Answer.{deed, trapped, HasNumbers, IsAnswered, request_of}
 use Rattle.loom_store.specs.declared.answer.Answer.{Answer}
 use Rattle.loom_store.specs.declared.answer.Answer.TheVariants as a
@@ -39,7 +39,7 @@ HasExactTraps = (s : Store) (t : ℕ) (q : Request) (x : Answer) (new : Store) �
 -- The deed answers the request, is allowed, and leads to the store `new`. Without one the store stays as it was.
 abbrev pub LeadsTo : Store → ℕ → Request → Option Deed → Store → Type 0
 LeadsTo s t q None new = new ≡ s
-LeadsTo s t q (Some d) new = IsAnswered q d × (IsAllowed s (event_of_deed t d) × (new ≡ after s (event_of_deed t d)))
+LeadsTo s t q (Some d) new = IsAnswered q d × (IsAllowed s (event_of_deed t d) × (new ≡ after_event s (event_of_deed t d)))
 
 -- So it is with each answer.
 abbrev pub HasDeeds : Type 0

@@ -62,12 +62,12 @@ abbrev pub IsAnswered : Request → Deed → Type 0
 IsAnswered q d = ((v : ℤ) × (granted q v ≡ Some d)) ⊎ (trapped q ≡ Some d)
 
 -- the request on a line for which a thread may be blocked, where no filter makes it ask
-abbrev pub request_of : ℕ → What → Option Request
-request_of l (what.Lock m) = Some (r.Lock l m)
-request_of l (what.Down k) = Some (r.Down l k)
-request_of l (what.Join c) = Some (r.Join l (pos c))
-request_of l (what.Enter k c) = None
-request_of l (what.Wait k n) = None
+abbrev pub request_for : ℕ → What → Option Request
+request_for l (what.Lock m) = Some (r.Lock l m)
+request_for l (what.Down k) = Some (r.Down l k)
+request_for l (what.Join c) = Some (r.Join l (pos c))
+request_for l (what.Enter k c) = None
+request_for l (what.Wait k n) = None
 
 -- the entry of what a thread did
 abbrev pub IsEntryOf : ℕ → Option Deed → Entry → Type 0

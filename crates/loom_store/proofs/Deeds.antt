@@ -6,8 +6,7 @@ use Rattle.loom_lang.specs.Trace.{Act, trap}
 use Rattle.loom_lang.specs.Acts.{Deed}
 use Rattle.loom_event.specs.Event.{Event, event_of_deed}
 use Rattle.loom_event.specs.Replay.{Store, IsAllowed, after_act, after_event, replay, AreAllowed}
-use Rattle.loom_event.specs.Answer.{granted, trapped, IsAnswered}
-use Rattle.loom_store.specs.declared.answer.Answer.{Answer}
+use Rattle.loom_event.specs.Answer.{trapped, IsAnswered}
 use Rattle.loom_store.specs.declared.answer.Answer.TheVariants as a
 use Rattle.loom_store.specs.Answer.{Does, done, IsGranted, HasReason, IsTrap, IsTrapped, deed_of}
 use Rattle.loom_store.specs.Laws.{LeadsTo, HasDeeds, events_of, HasReplays}
@@ -48,7 +47,7 @@ deeds s t q (a.Trapped n) new h = trap_leads s t q (trapped q) n new (trap_of s 
 
 -- One event more
 
-replay_more : (s : Store) (xs : List Event) (y : Event) → replay s (xs ++ y ∷ []) ≡ after_event (replay s xs) y
+pub replay_more : (s : Store) (xs : List Event) (y : Event) → replay s (xs ++ y ∷ []) ≡ after_event (replay s xs) y
 replay_more s [] y = refl
 replay_more s (x ∷ xs) y = replay_more (after_event s x) xs y
 

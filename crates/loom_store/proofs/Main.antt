@@ -5,7 +5,7 @@ use Rattle.std.specs.Cmp.Lexicographic.{pointwise, same_text}
 use Rattle.std.proofs.lemmas.Bool.{and_parts, eqb-true}
 use Rattle.loom_tree.specs.Tree.{Function, Source}
 use Rattle.loom_lang.specs.Rules.{is_in, is_distinct, takes, shared_names, KeepsRules}
-use Rattle.loom_lang.specs.Numbers.{position, function_number}
+use Rattle.loom_lang.specs.Numbers.{index_of, function_number}
 use Rattle.loom_event.specs.Answer.{IsFunctionWith}
 
 -- where a name first stands in a list that begins at this number
@@ -17,18 +17,18 @@ shifted : (n : ℕ) (o : Option ℕ) → option_map (λ k. (n + 1) + k) o ≡ op
 shifted n None = refl
 shifted n (Some k) = ap Some (omega arith)
 
-from_any : (x : List ℕ) (ys : List (List ℕ)) (n : ℕ) → position_from n x ys ≡ option_map (λ k. n + k) (position x ys)
+from_any : (x : List ℕ) (ys : List (List ℕ)) (n : ℕ) → position_from n x ys ≡ option_map (λ k. n + k) (index_of x ys)
 from_any x [] n = refl
 from_any x (y ∷ ys) n =
-    elim (pointwise ◌==◌ y x) as (λ b. (if b then Some n else position_from (n + 1) x ys) ≡ option_map (λ k. n + k) (if b then Some 0 else option_map suc (position x ys)))
-    [ true ↦ ap Some (omega arith) | false ↦ from_any x ys (n + 1) ∙ shifted n (position x ys) ]
+    elim (pointwise ◌==◌ y x) as (λ b. (if b then Some n else position_from (n + 1) x ys) ≡ option_map (λ k. n + k) (if b then Some 0 else option_map suc (index_of x ys)))
+    [ true ↦ ap Some (omega arith) | false ↦ from_any x ys (n + 1) ∙ shifted n (index_of x ys) ]
 
 none_added : (o : Option ℕ) → option_map (λ k. 0 + k) o ≡ o
 none_added None = refl
 none_added (Some k) = ap Some (omega arith)
 
-pub from_zero : (x : List ℕ) (ys : List (List ℕ)) → position_from 0 x ys ≡ position x ys
-from_zero x ys = from_any x ys 0 ∙ none_added (position x ys)
+pub from_zero : (x : List ℕ) (ys : List (List ℕ)) → position_from 0 x ys ≡ index_of x ys
+from_zero x ys = from_any x ys 0 ∙ none_added (index_of x ys)
 
 -- Its number
 
@@ -51,7 +51,7 @@ taken_in (f ∷ fs) x n h = here (pointwise ◌==◌ f.name x) h (taken_in fs x 
 pub record IsFound (fs : List Function) (x : List ℕ) (n : ℕ) : Type 0 where
   pub number : ℕ
   pub function : Function
-  pub first : position x (names fs) ≡ Some number
+  pub first : index_of x (names fs) ≡ Some number
   pub is : slice_get fs number ≡ Some function
   pub params : length function.params ≡ n
 

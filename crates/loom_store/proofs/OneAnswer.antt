@@ -4,19 +4,19 @@ use Rattle.loom_trace.specs.declared.entry.What.{What}
 use Rattle.loom_trace.specs.declared.entry.What.TheVariants as w
 use Rattle.loom_trace.specs.declared.request.Request.{Request}
 use Rattle.loom_trace.specs.declared.request.Request.TheVariants as r
-use Rattle.loom_lang.specs.Trace.{Cause, trap, reason}
+use Rattle.loom_lang.specs.Trace.{trap, reason}
 use Rattle.loom_lang.specs.Acts.{Deed}
-use Rattle.loom_event.specs.Replay.{ThreadState, Store, thread_at, IsRunning, IsCaused, IsDisabled, sema_limit}
-use Rattle.loom_event.specs.Answer.{deed, trapped, request_of}
+use Rattle.loom_event.specs.Replay.{ThreadState, Store, thread_at, IsRunning, IsDisabled, sema_limit}
+use Rattle.loom_event.specs.Answer.{trapped, request_for}
 use Rattle.loom_store.specs.declared.answer.Answer.TheVariants as a
-use Rattle.loom_store.specs.Answer.{is_begin, MayAsk, IsGiven, IsGranted, IsTrap, IsTrapped}
+use Rattle.loom_store.specs.Answer.{is_begin, IsGiven, IsGranted, IsTrap, IsTrapped}
 use Rattle.loom_store.specs.Laws.{HasOneAnswer, HasExactWaits, is_own_trap, HasExactTraps}
 use Rattle.loom_store.proofs.PartAnswers.{running}
 
 -- Disabled requests
 
 -- What is granted isn't disabled.
-granted_enabled : (s : Store) (t : ℕ) (q : Request) (v : ℤ) (new : Store) (l : ℕ) (what : What) → IsGranted s t q v new → request_of l what ≡ Some q → IsDisabled s what → ⊥
+granted_enabled : (s : Store) (t : ℕ) (q : Request) (v : ℤ) (new : Store) (l : ℕ) (what : What) → IsGranted s t q v new → request_for l what ≡ Some q → IsDisabled s what → ⊥
 granted_enabled s t q v new l (w.Lock m) h is d =
     let same : q ≡ r.Lock l m = cc in
     let g : IsGranted s t (r.Lock l m) v new = subst (λ (z : Request). IsGranted s t z v new) same h in
@@ -41,7 +41,7 @@ granted_enabled s t q v new l (w.Enter k c) h is d = d
 granted_enabled s t q v new l (w.Wait k n) h is d = d
 
 -- What is disabled has no cause for a trap.
-disabled_untrapped : (s : Store) (t : ℕ) (q : Request) (n l : ℕ) (what : What) → IsTrapped s t q n → request_of l what ≡ Some q → IsDisabled s what → ⊥
+disabled_untrapped : (s : Store) (t : ℕ) (q : Request) (n l : ℕ) (what : What) → IsTrapped s t q n → request_for l what ≡ Some q → IsDisabled s what → ⊥
 disabled_untrapped s t q n l (w.Lock m) h is d = let same : q ≡ r.Lock l m = cc in subst (λ (z : Request). IsTrapped s t z n) same h
 disabled_untrapped s t q n l (w.Down k) h is d = let same : q ≡ r.Down l k = cc in subst (λ (z : Request). IsTrapped s t z n) same h
 disabled_untrapped s t q n l (w.Join c) h is d =
@@ -60,14 +60,14 @@ what_of (r.Down l k) = Some (w.Down k)
 what_of (r.Join l (pos c)) = Some (w.Join c)
 what_of _ = None
 
-what_back : (l : ℕ) (what : What) (q : Request) → request_of l what ≡ Some q → what_of q ≡ Some what
+what_back : (l : ℕ) (what : What) (q : Request) → request_for l what ≡ Some q → what_of q ≡ Some what
 what_back l (w.Lock m) q h = let same : q ≡ r.Lock l m = cc in ap what_of same
 what_back l (w.Down k) q h = let same : q ≡ r.Down l k = cc in ap what_of same
 what_back l (w.Join c) q h = let same : q ≡ r.Join l (pos c) = cc in ap what_of same
 what_back l (w.Enter k c) q h = cc
 what_back l (w.Wait k n) q h = cc
 
-one_what : (l m : ℕ) (what that : What) (q : Request) → request_of l what ≡ Some q → request_of m that ≡ Some q → what ≡ that
+one_what : (l m : ℕ) (what that : What) (q : Request) → request_for l what ≡ Some q → request_for m that ≡ Some q → what ≡ that
 one_what l m what that q h k =
     let same : ◌≡◌ {A = Option What} (Some what) (Some that) = sym (what_back l what q h) ∙ what_back m that q k in
     cc

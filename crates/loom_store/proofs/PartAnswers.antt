@@ -3,7 +3,7 @@ use Rattle.std.proofs.Common.{ℕ, ◌-◌, ◌≡◌, true, false, not, pos, Li
 use Rattle.std.specs.Prelude.{slice_set}
 use Rattle.loom_trace.specs.declared.request.Request.{Request}
 use Rattle.loom_trace.specs.declared.request.Request.TheVariants as r
-use Rattle.loom_event.specs.Answer.{request_of}
+use Rattle.loom_event.specs.Answer.{request_for}
 use Rattle.loom_event.specs.Replay.{ThreadState, Store, IsRunning, IsUnborn, counted_down, IsDisabled}
 use Rattle.loom_store.specs.declared.answer.Answer.{Answer}
 use Rattle.loom_store.specs.declared.answer.Answer.TheVariants as a
@@ -43,7 +43,7 @@ pub locks : (s : Store) (t l m : ℕ) (x : Answer) (holders : List (Option ℕ))
     → Answers s t (r.Lock l m) x (record s { holders = holders })
 locks s t l m (a.Granted v) holders may h = (h.0, ((running s t (r.Lock l m) refl may, h.1), ap (λ z. record s { holders = z }) h.2))
 locks s t l m (a.Disabled what) holders may h =
-    ((l, ap (request_of l) h.0), (subst (IsDisabled s) (sym h.0) h.1, ap (λ z. record s { holders = z }) h.2))
+    ((l, ap (request_for l) h.0), (subst (IsDisabled s) (sym h.0) h.1, ap (λ z. record s { holders = z }) h.2))
 locks s t l m (a.Trapped n) holders may h = absurd h
 
 pub downs : (s : Store) (t l k : ℕ) (x : Answer) (semas : List ℕ) → MayAsk s t (r.Down l k) → Downs s.semas k x semas
@@ -52,5 +52,5 @@ downs s t l k (a.Granted v) semas may h =
     let is : semas ≡ slice_set s.semas k (counted_down (slice_get s.semas k)) = h.1.2 ∙ ap (λ o. slice_set s.semas k (counted_down o)) (sym h.1.1) in
     (h.0, ((running s t (r.Down l k) refl may, (h.1.0, h.1.1)), ap (λ z. record s { semas = z }) is))
 downs s t l k (a.Disabled what) semas may h =
-    ((l, ap (request_of l) h.0), (subst (IsDisabled s) (sym h.0) h.1, ap (λ z. record s { semas = z }) h.2))
+    ((l, ap (request_for l) h.0), (subst (IsDisabled s) (sym h.0) h.1, ap (λ z. record s { semas = z }) h.2))
 downs s t l k (a.Trapped n) semas may h = absurd h

@@ -8,7 +8,7 @@ use Rattle.loom_trace.specs.declared.request.Request.{Request}
 use Rattle.loom_trace.specs.declared.request.Request.TheVariants as r
 use Rattle.loom_event.specs.Event.{event_of_deed}
 use Rattle.loom_event.specs.Replay.{ThreadState, Store, thread_at, IsAllowed, after_event, IsDisabled}
-use Rattle.loom_event.specs.Answer.{granted, trapped, request_of}
+use Rattle.loom_event.specs.Answer.{granted, trapped, request_for}
 use Rattle.loom_store.specs.declared.answer.Answer.{Answer}
 use Rattle.loom_store.specs.declared.answer.Answer.TheVariants as a
 
@@ -85,7 +85,7 @@ IsTrapped s t q n = IsTrap s t (trapped q) n
 -- Where a request isn't granted, the store stays as it was.
 abbrev pub Answers : Store → ℕ → Request → Answer → Store → Type 0
 Answers old t q (a.Granted v) new = IsGiven q v × IsGranted old t q v new
-Answers old t q (a.Disabled what) new = ((l : ℕ) × (request_of l what ≡ Some q)) × (IsDisabled old what × (new ≡ old))
+Answers old t q (a.Disabled what) new = ((l : ℕ) × (request_for l what ≡ Some q)) × (IsDisabled old what × (new ≡ old))
 Answers old t q (a.Trapped n) new = IsTrapped old t q n × (new ≡ old)
 
 -- What an answer makes the thread do: the request's act, or a trap. A tick is no deed, and a thread that waits does nothing.

@@ -8,7 +8,7 @@ use Rattle.loom_lang.specs.Trace.{Cause, trap, reason}
 use Rattle.loom_lang.specs.Acts.{Deed}
 use Rattle.loom_event.specs.Event.{Event, event_of_deed}
 use Rattle.loom_event.specs.Replay.{Store, start, IsAllowed, after_event, replay, AreAllowed, IsCaused, IsDisabled}
-use Rattle.loom_event.specs.Answer.{deed, trapped, HasNumbers, IsAnswered, request_of}
+use Rattle.loom_event.specs.Answer.{deed, trapped, HasNumbers, IsAnswered, request_for}
 use Rattle.loom_store.specs.declared.answer.Answer.{Answer}
 use Rattle.loom_store.specs.declared.answer.Answer.TheVariants as a
 use Rattle.loom_store.specs.Answer.{MayAsk, CanAnswer, CanWait, Answers, deed_of}
@@ -21,7 +21,7 @@ HasOneAnswer = (s : Store) (t : ℕ) (q : Request) (x y : Answer) (new other : S
 
 -- What is disabled is answered so.
 abbrev pub HasExactWaits : Type 0
-HasExactWaits = (s : Store) (t : ℕ) (q : Request) (x : Answer) (new : Store) → Answers s t q x new → (l : ℕ) (what : What) → request_of l what ≡ Some q
+HasExactWaits = (s : Store) (t : ℕ) (q : Request) (x : Answer) (new : Store) → Answers s t q x new → (l : ℕ) (what : What) → request_for l what ≡ Some q
     → IsDisabled s what → x ≡ a.Disabled what
 
 -- the thread's own trap

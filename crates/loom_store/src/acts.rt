@@ -10,6 +10,7 @@ const SEMA_LIMIT: u32 = 2147483647;
 
 // The reasons of the traps: a mutex that isn't the thread's own, and a semaphore that would pass its limit.
 const NOT_HELD: u8 = 3;
+
 const OVERFLOW: u8 = 7;
 
 /// The value of a word.

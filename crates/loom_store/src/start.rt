@@ -6,7 +6,7 @@ ghost use Rattle.loom_tree.specs.declared.item.Sema as sema;
 ghost use Rattle.loom_tree.specs.Tree.{Function, functions_of};
 ghost use Rattle.loom_lang.specs.Limits.{function_limit, cell_limit};
 ghost use Rattle.loom_lang.specs.Rules.{cells_of, cell_count};
-ghost use Rattle.loom_lang.specs.Numbers.{position, function_number};
+ghost use Rattle.loom_lang.specs.Numbers.{index_of, function_number};
 ghost use Rattle.loom_event.specs.Answer.{IsFunctionWith};
 ghost use Rattle.loom_event.specs.Replay.{first_values, nobody};
 
@@ -71,9 +71,9 @@ fn is_main(name: &Name) -> bool
 
 // Where `main` stands first.
 #[tactic(auto, using(crate::proofs::Main::from_zero))]
-fn main_position(funcs: &[Func]) -> Option<u8>
+fn main_index(funcs: &[Func]) -> Option<u8>
     requires few { length funcs.now ≤ function_limit }
-    ensures { result ≡ position (codes "main") (map (λ (f : Function). f.name) (functions_of funcs.now)) }
+    ensures { result ≡ index_of (codes "main") (map (λ (f : Function). f.name) (functions_of funcs.now)) }
 {
     'scan: for (i, f) in funcs.iter().enumerate() {
         if is_main(&f.name) {
@@ -88,7 +88,7 @@ pub fn main_number(program: &Program) -> u8
     ensures number { function_number program.now (codes "main") ≡ Some result }
     ensures function { IsFunctionWith program.now result [] }
 {
-    match main_position(program.funcs().0.as_slice()) {
+    match main_index(program.funcs().0.as_slice()) {
         Some(number) => number,
         None => unreachable!(),
     }

@@ -15,6 +15,7 @@ pub(crate) mod tests;
 
 // The reasons of the traps: a value that names no thread, and a thread too many.
 const NOT_SPAWNED: u8 = 4;
+
 const THREADS: u8 = 5;
 
 /// A thread: its function with its arguments, and how far it is.

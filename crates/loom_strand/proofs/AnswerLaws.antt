@@ -34,7 +34,7 @@ use Rattle.loom_strand.specs.Life.{is_end}
 use Rattle.loom_strand.specs.Strand.{Strand, IsStarted, IsReplyTo}
 use Rattle.loom_strand.specs.PlainWalk.{IsPlainWalk}
 use Rattle.loom_strand.specs.StrandInvariant.{IsSoundPosition, HasRoom, GoesOnFrom, end_line, thread_with, IsIdle, AsksTick, AsksHere, WaitingInvariant, RunningInvariant, AsksAgain, EndInvariant, StageInvariant, IsBlank, StrandInvariant}
-use Rattle.loom_strand.proofs.Walks.{items_append, is_begin, walk_begin, walk_enter, walk_act, walk_blocked, walk_tick}
+use Rattle.loom_strand.proofs.Walks.{items_append, is_begin, walk_begin, walk_enter, walk_act, walk_told, walk_tick}
 use Rattle.loom_strand.proofs.GoesOn.{is_lowered, tree_trace, whole, traps_on, IsGrant, IsTrap, answers, granted_on, trapped_on, begun_on}
 use Rattle.loom_strand.proofs.Soundness.{Keeps, keeps, sound_start, values_fit}
 use Rattle.loom_strand.proofs.RunSteps.{with_position_at, with_position_room}
@@ -305,7 +305,7 @@ again_here s b x m st k wanted g h granted owed (asks line u behind) at is =
     let d : Deed = y.grant.deed in
     let steps : List PartStep = h.runs.steps ++ makes d.line (blocked y.what) ∷ [] in
     let walks : IsPlainWalk s.program s.thread (steps ++ walk.goes (made d.line d.act) ∷ []) ((h.front ++ e.Blocked s.thread d.line y.what ∷ []) ++ entry_by s.thread d.line d.act ∷ []) [] 0 =
-    walk_blocked s.program s.thread h.runs.steps h.front h.count d.line y.what d.act y.grant.other h.runs.free y.asks
+    walk_told s.program s.thread h.runs.steps h.front h.count d.line y.what d.act y.grant.other h.runs.free y.asks
     (subst (λ os. IsPlainWalk s.program s.thread h.runs.steps h.front os h.count) owed h.runs.walk) in
     granted_kept s b line u behind x m st k steps g at y.grant h.runs.function h.runs.sound
     (subst (λ is. GoesOnFrom (lowered s.program) (thread_with s.program b.func) b.func b.args is (position s.execution.machine)) (sym (behind_items h.runs.steps d.line y.what)) h.runs.goes)

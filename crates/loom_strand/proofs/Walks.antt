@@ -160,10 +160,10 @@ walk_tick p t ss es n l k h =
     (λ plans z g. record { coming = g.coming; active = g.active; held = g.held; owed = ap without_first g.owed; passed = refl }) refl
 
 -- an act behind the entry that tells that it is disabled
-pub walk_blocked : (p : Source) (t : ℕ) (ss : List PartStep) (es : List Entry) (n l : ℕ) (what : What) (a : Act) → is_begin a ≡ false → ends_blocked es ≡ false
+pub walk_told : (p : Source) (t : ℕ) (ss : List PartStep) (es : List Entry) (n l : ℕ) (what : What) (a : Act) → is_begin a ≡ false → ends_blocked es ≡ false
     → ((z : Walk) (ahead : List Item) → z.owed ≡ [] → AsksFor z (made l a ∷ ahead) l what) → IsPlainWalk p t ss es [] n
     → IsPlainWalk p t ((ss ++ makes l (blocked what) ∷ []) ++ goes (made l a) ∷ []) ((es ++ e.Blocked t l what ∷ []) ++ entry_by t l a ∷ []) [] 0
-walk_blocked p t ss es n l what a other free asks h =
+walk_told p t ss es n l what a other free asks h =
     let told_so : List PartStep = ss ++ makes l (blocked what) ∷ [] in
     record {
       woven = λ plans ahead. woven_last p plans (unborn (first_version ∷ [])) told_so (goes (made l a)) ahead

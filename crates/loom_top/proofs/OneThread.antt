@@ -65,7 +65,7 @@ taken_last cs t c (y ∷ es) x h = go (takes_version t y) (taken_last cs t (afte
 pub first_taken : (l : ℕ) → versions_of [] 1 (e.Begin 1 l ∷ []) ≡ versions_with (e.Begin 1 l ∷ [])
 first_taken l = refl
 
-pub more_taken : (es : List Entry) (x : Entry) → has_none es ≡ false → takes 1 x ≡ false → versions_of [] 1 es ≡ versions_with es → versions_of [] 1 (es ++ x ∷ []) ≡ versions_with (es ++ x ∷ [])
+pub more_taken : (es : List Entry) (x : Entry) → has_none es ≡ false → takes_version 1 x ≡ false → versions_of [] 1 es ≡ versions_with es → versions_of [] 1 (es ++ x ∷ []) ≡ versions_with (es ++ x ∷ [])
 more_taken [] x none not_it h = cc
 more_taken (y ∷ es) x none not_it h = taken_last [] 1 _ (y ∷ es) x not_it ∙ h
 

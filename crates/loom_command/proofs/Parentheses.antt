@@ -22,6 +22,7 @@ use Rattle.loom_expression.proofs.Refusal.{ends, all_read}
 use Rattle.loom_command.specs.FilterForm.{TestForm, IsTest, is_comment}
 
 -- The parentheses of bytes, and of tokens
+-- (40 is `(`, 41 is `)`)
 
 pub data Mark : Type 0 where
   opener : Mark

@@ -9,7 +9,7 @@ use Rattle.loom_trace.specs.declared.entry.What.TheVariants as w
 use Rattle.loom_trace.specs.declared.entry.Ending.TheVariants as k
 use Rattle.loom_lang.specs.Places.{nowhere}
 use Rattle.loom_lang.specs.Trace.{begin, end, read, write, lock, spawn, join, print, made, begins, done, enter, out, Finished, Open, IsTrace}
-use Rattle.loom_command.specs.Filter.{Region, Clause}
+use Rattle.loom_command.specs.Filter.{Clause}
 use Rattle.loom_command.specs.Script as script
 use Rattle.loom_event.specs.Event.{Event}
 use Rattle.loom_event.specs.Replay.{ThreadState, start, thread_at, replay}

@@ -1,22 +1,20 @@
 -- Journals that are not lawful: each is a lawful one with one thing turned.
-use Rattle.std.proofs.Common.{ℕ, zero, suc, ◌≤◌, ◌<◌, ◌≡◌, ◌⊎◌, true, false, pos, List, [], ◌∷◌, ◌++◌, map, Some, None, refl, ap, subst, ◌∙◌, inl, codes, arith}
+use Rattle.std.proofs.Common.{ℕ, ◌≤◌, ◌<◌, ◌≡◌, true, false, pos, List, [], ◌∷◌, ◌++◌, map, Some, None, refl, ap, subst, ◌∙◌, codes, arith}
 use Rattle.loom_trace.specs.declared.entry.Entry.{Entry}
 use Rattle.loom_trace.specs.declared.entry.Entry.TheVariants as e
 use Rattle.loom_trace.specs.declared.entry.What.TheVariants as w
 use Rattle.loom_trace.specs.declared.entry.Ending.{Ending}
 use Rattle.loom_trace.specs.declared.entry.Ending.TheVariants as k
 use Rattle.loom_lang.specs.Places.{Place, nowhere}
-use Rattle.loom_lang.specs.Trace.{begin, lock, spawn, print}
+use Rattle.loom_lang.specs.Trace.{begin, spawn, print}
 use Rattle.loom_command.specs.Script as script
 use Rattle.loom_event.specs.Event.{Event}
-use Rattle.loom_event.specs.Replay.{start, replay}
 use Rattle.loom_event.proofs.Runs.{event_of, events_told}
-use Rattle.loom_event.proofs.Shown.{event, adds, locks, changed_is_no_run}
-use Rattle.loom_event.proofs.Stops as stops
+use Rattle.loom_event.proofs.Shown.{event, adds, changed_is_no_run}
 use Rattle.loom_law.specs.Filter.{plan_of}
 use Rattle.loom_law.specs.Walk.{place_number}
 use Rattle.loom_law.specs.Control.{means, install, remove}
-use Rattle.loom_law.specs.Lawful.{Setting, StandsAt, Lives, IsBlocked, IsHeldOff, IsDue, Ends, EndsSo, front_at, IsLawful}
+use Rattle.loom_law.specs.Lawful.{Setting, StandsAt, Ends, EndsSo, front_at, IsLawful}
 use Rattle.loom_law.proofs.Lawful.{always_balanced}
 use Rattle.loom_law.proofs.Shown.{setting, fix}
 use Rattle.loom_law.proofs.InsideJournals.{alone_setting, back_setting, caught_setting}

@@ -1,32 +1,28 @@
 -- Journals that are not lawful, since a tick is left out, or told early.
-use Rattle.std.proofs.Common.{ℕ, zero, suc, ◌≤◌, ◌<◌, ◌≡◌, ◌==◌, ◌⊎◌, inl, inr, Bool, true, false, nat_lt, pos, List, [], ◌∷◌, ◌++◌, length, map, Some, None, slice_get, refl, sym, ap, subst, ◌∙◌, codes, arith}
+use Rattle.std.proofs.Common.{ℕ, suc, ◌≤◌, ◌<◌, ◌≡◌, ◌==◌, ◌⊎◌, inl, inr, Bool, true, false, nat_lt, pos, List, [], ◌∷◌, ◌++◌, length, map, Some, slice_get, refl, sym, ap, subst, ◌∙◌, codes, arith}
 use Rattle.std.proofs.lemmas.Bool.{eqb-false, ltb-true, ltb-false}
 use Rattle.loom_tree.specs.Tree.{Source}
 use Rattle.loom_trace.specs.declared.entry.Entry.{Entry}
 use Rattle.loom_trace.specs.declared.entry.Entry.TheVariants as e
-use Rattle.loom_trace.specs.declared.entry.Ending.TheVariants as k
 use Rattle.loom_trace.specs.declared.request.Request.TheVariants as r
 use Rattle.loom_lang.specs.Places.{Place, places, line_of_place}
 use Rattle.loom_lang.specs.Places as place
 use Rattle.loom_lang.specs.Trace.{begin, end, trap, read, write, lock, unlock, down, up, spawn, join, print, Item, made, begins, done, edge, enter, out}
-use Rattle.loom_command.specs.Filter.{LineEvent, Region, Clause, Filter}
-use Rattle.loom_command.specs.Script as script
 use Rattle.loom_event.specs.Event.{Event}
 use Rattle.loom_event.specs.Replay.{start, thread_at, replay}
 use Rattle.loom_event.proofs.Runs.{next, given, event_of, events_told}
 use Rattle.loom_event.proofs.Shown.{event}
-use Rattle.loom_law.specs.Filter.{function, plan_of}
+use Rattle.loom_law.specs.Filter.{function}
 use Rattle.loom_law.specs.Walk.{Version, Plans, wait, enters, past, post, leave, back, tick, cross, blocked, Operation, PartStep, goes, makes, items, OpenStatement, OpenFrame, Spot, elsewhere, beginning, entered, complete, left, trapped, Queue, Walk, unborn, owed_at, function_line, place_number, tick_after, with_tick, taking, crossing, after, walk_from, place_of_request, request_place, innermost, place_in_top, place_of_next, first_number, MayCross, MayStand, AreWoven}
 use Rattle.loom_law.specs.Walk as walk
 use Rattle.loom_law.specs.ThreadPart.{Own, IsPart, AsksToMake, AsksToAct}
-use Rattle.loom_law.specs.Control.{means, install, Command}
 use Rattle.loom_law.specs.Lawful.{Setting, plans, HasPart, IsLawful}
-use Rattle.loom_law.proofs.Earlier.{an_own, woven_front, by_test, if_true, if_false, same_number}
+use Rattle.loom_law.proofs.Earlier.{an_own, woven_front, by_test, if_true, same_number}
 use Rattle.loom_law.proofs.Turns.{stands_there}
 use Rattle.loom_law.proofs.Makings.{OpPart, cut_part}
 use Rattle.loom_law.proofs.OneRequest.{no_split}
 use Rattle.loom_law.proofs.NoParts.{at_number}
-use Rattle.loom_law.proofs.TickJournal.{endless, tick_setting}
+use Rattle.loom_law.proofs.TickJournal.{endless, loop_setting}
 use Rattle.loom_law.proofs.EvacuationJournal.{evacuated, evacuation_setting}
 
 -- A thread never passes more than a thousand places, and the thousandth one only with the tick owed first.
@@ -169,17 +165,6 @@ crosses_in_time p ps x es l y v n m is edge_there h =
 
 abbrev first_version : Version
 first_version = record { number = 0; active = [] }
-
-abbrev loop_line : LineEvent
-loop_line = record { file = codes "loop.lm"; line = 3; test = None }
-
-abbrev skips : Filter
-skips = Clause.exclusive (Region.between (loop_line ∷ []) (loop_line ∷ []) ∷ []) ∷ []
-
-abbrev pub loop_setting : Setting
-loop_setting = record tick_setting {
-  commands = record { trigger = script.at 1; name = codes "f"; action = install (means (plan_of endless skips)) } ∷ [];
-}
 
 -- a thousand places behind its begin the thread takes a version, and made no tick
 abbrev pub tick_missing : List Entry

@@ -2,6 +2,8 @@
 use Rattle.std.proofs.Common.{ℕ, ◌+◌, ◌-◌, ◌≡◌, ◌≤◌, List, [], ◌∷◌, ◌++◌, true, Option, Some, None, refl, sym, subst, length, append_assoc, arith}
 use Rattle.loom_tree.specs.Tree.{Expression, num, var, cell, neg, inverse, bin, Right, Simple, let_, set, set_cell, return, Function, Source}
 use Rattle.loom_tree.specs.Tree as tree
+use Rattle.loom_lang.specs.WellFormed.{node_count}
+use Rattle.loom_lang.specs.Limits.{param_limit}
 use Rattle.loom_lang.specs.Rules.{takes, KeepsRules}
 use Rattle.loom_flow.specs.Arguments.{takes_right, takes_simple}
 use Rattle.loom_flow.proofs.StatementRules.{few_in}
@@ -16,7 +18,7 @@ use Rattle.loom_flow.specs.declared.code.Compute.TheVariants.{Negate, Invert, Ap
 use Rattle.loom_flow.specs.declared.code.Ask.TheVariants.{ReadCell, Write, WriteCell, Join, Print, Spawn}
 use Rattle.loom_flow.specs.declared.code.Control.TheVariants.{Begin, Done, Edge, Jump, JumpIfZero, Call, Return, Out}
 use Rattle.loom_flow.specs.FlatCode.{or_zero, word_named, array_named, operand_of, unless_there, variable_step, steps_to, operand_steps, argument_steps, call_steps, spawn_steps, store_step, value_steps, set_steps, simple_steps}
-use Rattle.loom_flow.specs.Depth.{pops, pushes, takes_off, puts_on, nodes, AreSmall, IsSmallRight, IsSmallSimple}
+use Rattle.loom_flow.specs.Depth.{pops, pushes, takes_off, puts_on, AreSmall, IsSmallRight, IsSmallSimple}
 
 -- A step may stand where there are `d` values: what jumps, calls or returns takes off all.
 abbrev pub Fits : ℕ → Step → Type 0
@@ -53,7 +55,7 @@ taken_one operand.Top = omega arith
 taken_one (operand.Local j) = omega arith
 taken_one (operand.Number n) = omega arith
 
-some_nodes : (e : Expression) → 1 ≤ nodes e
+some_nodes : (e : Expression) → 1 ≤ node_count e
 some_nodes (num n) = omega arith
 some_nodes (var x) = omega arith
 some_nodes (cell x i) = omega arith
@@ -71,7 +73,7 @@ unless_balanced m d (operand.Local j) steps h = omega arith
 unless_balanced m d (operand.Number n) steps h = omega arith
 
 -- An expression needs no more room than it has nodes.
-pub steps_balanced : (p : Source) (xs : List (List ℕ)) (m d : ℕ) (t : Target) (e : Expression) → d + nodes e ≤ m → Balanced m d (steps_to p xs t e) (d + pushes t)
+pub steps_balanced : (p : Source) (xs : List (List ℕ)) (m d : ℕ) (t : Target) (e : Expression) → d + node_count e ≤ m → Balanced m d (steps_to p xs t e) (d + pushes t)
 steps_balanced p xs m d t (num n) h = (omega arith, omega (arith, h), omega arith)
 steps_balanced p xs m d t (var x) h = variable_balanced p m d t x (index_of x xs) (omega (arith, h))
 steps_balanced p xs m d t (cell x i) h =
@@ -95,11 +97,11 @@ steps_balanced p xs m d t (bin o a b) h =
     (unless_balanced m one (operand_of xs b) _ (steps_balanced p xs m one target.Push b (omega (arith, h, taken_one (operand_of xs a)))))
     (omega arith, omega (arith, h, taken_one (operand_of xs a), taken_one (operand_of xs b), some_nodes a, some_nodes b), omega arith))
 
-pub operand_balanced : (p : Source) (xs : List (List ℕ)) (m d : ℕ) (e : Expression) → d + nodes e ≤ m → Balanced m d (operand_steps p xs e) (d + pops (operand_of xs e))
+pub operand_balanced : (p : Source) (xs : List (List ℕ)) (m d : ℕ) (e : Expression) → d + node_count e ≤ m → Balanced m d (operand_steps p xs e) (d + pops (operand_of xs e))
 operand_balanced p xs m d e h = unless_balanced m d (operand_of xs e) _ (steps_balanced p xs m d target.Push e h)
 
 -- behind a step that takes what an expression left where there was nothing
-taking_balanced : (p : Source) (xs : List (List ℕ)) (m : ℕ) (e : Expression) (x : Step) → nodes e ≤ m → Fits (pops (operand_of xs e)) x → takes_off x ≡ pops (operand_of xs e) → puts_on x ≡ 0
+taking_balanced : (p : Source) (xs : List (List ℕ)) (m : ℕ) (e : Expression) (x : Step) → node_count e ≤ m → Fits (pops (operand_of xs e)) x → takes_off x ≡ pops (operand_of xs e) → puts_on x ≡ 0
     → Balanced m 0 (operand_steps p xs e ++ x ∷ []) 0
 taking_balanced p xs m e x h fits same none =
     balanced_append m 0 (pops (operand_of xs e)) 0 (operand_steps p xs e) (x ∷ [])
@@ -133,16 +135,16 @@ store_balanced p m x (Some j) h = (omega arith, h, refl)
 
 -- In a program that keeps the rules a call has at most four arguments.
 
-pub four_arguments : (p : Source) (f : List ℕ) (es : List Expression) → KeepsRules p → takes p.funcs f (length es) ≡ true → length es ≤ 4
+pub four_arguments : (p : Source) (f : List ℕ) (es : List Expression) → KeepsRules p → takes p.funcs f (length es) ≡ true → length es ≤ param_limit
 four_arguments p f es l h = few_in p p.funcs f (length es) l.functions h
 
 -- Statements
 
-value_balanced : (p : Source) (xs : List (List ℕ)) (m : ℕ) (x : List ℕ) (e : Expression) (a : Option ℕ) → nodes e ≤ m → Balanced m 0 (value_steps p xs x e a) 0
+value_balanced : (p : Source) (xs : List (List ℕ)) (m : ℕ) (x : List ℕ) (e : Expression) (a : Option ℕ) → node_count e ≤ m → Balanced m 0 (value_steps p xs x e a) 0
 value_balanced p xs m x e None h = taking_balanced p xs m e (s.Ask (Write (word_named p x) (operand_of xs e))) h (omega arith) refl refl
 value_balanced p xs m x e (Some j) h = steps_balanced p xs m 0 (target.Local j) e (omega (arith, h))
 
-set_balanced : (p : Source) (xs : List (List ℕ)) (m n : ℕ) (x : List ℕ) (r : Right Expression) → KeepsRules p → n + 4 ≤ m → takes_right p r ≡ true → IsSmallRight n r → Balanced m 0 (set_steps p xs x r) 0
+set_balanced : (p : Source) (xs : List (List ℕ)) (m n : ℕ) (x : List ℕ) (r : Right Expression) → KeepsRules p → n + param_limit ≤ m → takes_right p r ≡ true → IsSmallRight n r → Balanced m 0 (set_steps p xs x r) 0
 set_balanced p xs m n x (Right.value e) l room known small = value_balanced p xs m x e (index_of x xs) (omega (arith, room, small))
 set_balanced p xs m n x (Right.call f es) l room known small =
     balanced_append m 0 1 0 (call_steps p xs f es) (store_step p x (index_of x xs) ∷ [])
@@ -160,17 +162,17 @@ begun m xs h = (omega arith, omega arith, h)
 completed : (m : ℕ) (xs : List Step) → Balanced m 0 xs 0 → Balanced m 0 (s.Control Begin ∷ (xs ++ s.Control Done ∷ [])) 0
 completed m xs h = begun m (xs ++ s.Control Done ∷ []) (balanced_append m 0 0 0 xs (s.Control Done ∷ []) h (omega arith, omega arith, refl))
 
-taken_completed : (p : Source) (xs : List (List ℕ)) (m : ℕ) (e : Expression) (x : Step) → nodes e ≤ m → Fits (pops (operand_of xs e)) x → takes_off x ≡ pops (operand_of xs e) → puts_on x ≡ 0
+taken_completed : (p : Source) (xs : List (List ℕ)) (m : ℕ) (e : Expression) (x : Step) → node_count e ≤ m → Fits (pops (operand_of xs e)) x → takes_off x ≡ pops (operand_of xs e) → puts_on x ≡ 0
     → Balanced m 0 (s.Control Begin ∷ (operand_steps p xs e ++ x ∷ s.Control Done ∷ [])) 0
 taken_completed p xs m e x h fits same none =
     subst (λ ys. Balanced m 0 (s.Control Begin ∷ ys) 0) (append_assoc (operand_steps p xs e) (x ∷ []) (s.Control Done ∷ []))
     (completed m (operand_steps p xs e ++ x ∷ []) (taking_balanced p xs m e x h fits same none))
 
-pub condition_balanced : (p : Source) (xs : List (List ℕ)) (m to : ℕ) (e : Expression) → nodes e ≤ m → Balanced m 0 (s.Control Begin ∷ (operand_steps p xs e ++ s.Control (JumpIfZero (operand_of xs e) to) ∷ [])) 0
+pub condition_balanced : (p : Source) (xs : List (List ℕ)) (m to : ℕ) (e : Expression) → node_count e ≤ m → Balanced m 0 (s.Control Begin ∷ (operand_steps p xs e ++ s.Control (JumpIfZero (operand_of xs e) to) ∷ [])) 0
 condition_balanced p xs m to e h = begun m _ (taking_balanced p xs m e (s.Control (JumpIfZero (operand_of xs e) to)) h refl refl refl)
 
 -- From each statement's beginning to its end there are as many values as before.
-pub simple_balanced : (p : Source) (xs : List (List ℕ)) (m n : ℕ) (x : Simple Expression) → KeepsRules p → n + 4 ≤ m → takes_simple p x ≡ true → IsSmallSimple n x → Balanced m 0 (simple_steps p xs x) 0
+pub simple_balanced : (p : Source) (xs : List (List ℕ)) (m n : ℕ) (x : Simple Expression) → KeepsRules p → n + param_limit ≤ m → takes_simple p x ≡ true → IsSmallSimple n x → Balanced m 0 (simple_steps p xs x) 0
 simple_balanced p xs m n (let_ x r) l room known small = completed m (set_steps p xs x r) (set_balanced p xs m n x r l room known small)
 simple_balanced p xs m n (set x r) l room known small = completed m (set_steps p xs x r) (set_balanced p xs m n x r l room known small)
 simple_balanced p xs m n (set_cell x i e) l room known small =

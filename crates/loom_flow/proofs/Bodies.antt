@@ -5,14 +5,15 @@ use Rattle.loom_tree.specs.declared.statement.Kind.{Kind}
 use Rattle.loom_tree.specs.declared.statement.Kind.TheVariants as k
 use Rattle.loom_tree.specs.Tree.{Expression, Simple, let_, set, set_cell, return, lock, unlock, down, up, join, print, skip, Body, end, simple, if_, while_, Source, behind, body_of, expression_of, expressions_of, right_of, returned_of}
 use Rattle.loom_lang.specs.Places.{body_places}
+use Rattle.loom_lang.specs.Rules.{knows_body}
 use Rattle.loom_flow.specs.Arguments.{takes_body}
-use Rattle.loom_flow.proofs.Counts.{takes_behind}
+use Rattle.loom_flow.proofs.Counts.{takes_behind, knows_behind}
 use Rattle.loom_flow.specs.declared.code.Instr.{Instr}
 use Rattle.loom_flow.specs.declared.code.Site.{Site}
 use Rattle.loom_flow.specs.declared.code.Step.TheVariants as s
 use Rattle.loom_flow.specs.declared.code.Control.TheVariants.{Begin, Done, Edge, Jump, JumpIfZero}
 use Rattle.loom_flow.specs.FlatCode.{operand_of, operand_steps, simple_steps, instr, instrs, site, size, place_count, body_code, body_sites}
-use Rattle.loom_flow.proofs.Truths.{first_of, second_of}
+use Rattle.loom_flow.proofs.Truths.{both, first_of, second_of}
 use Rattle.loom_flow.proofs.Sizes.{code_length, sites_length}
 
 -- The statements are a first one and a rest.
@@ -119,15 +120,30 @@ splits p names l k.Skip rest = simple_splits p names l skip rest
 
 -- the steps of a walk
 
-pub known_first : (p : Source) (names : List (List ℕ)) (l : ℕ) (kind : Kind) (all rest : Body) → all ≡ behind l kind rest → takes_body p all ≡ true → takes_body p (behind l kind end) ≡ true
-known_first p names l kind all rest e h =
+pub counted_alone : (p : Source) (names : List (List ℕ)) (l : ℕ) (kind : Kind) (all rest : Body) → all ≡ behind l kind rest → takes_body p all ≡ true → takes_body p (behind 0 kind end) ≡ true
+counted_alone p names l kind all rest e h =
+    let both : (takes_body p (behind 0 kind end) && takes_body p rest) ≡ true = sym (ap (takes_body p) e ∙ takes_behind p l kind rest) ∙ h in
+    first_of (takes_body p (behind 0 kind end)) (takes_body p rest) both
+
+pub counted_first : (p : Source) (names : List (List ℕ)) (l : ℕ) (kind : Kind) (all rest : Body) → all ≡ behind l kind rest → takes_body p all ≡ true → takes_body p (behind l kind end) ≡ true
+counted_first p names l kind all rest e h =
     let both : (takes_body p (behind 0 kind end) && takes_body p rest) ≡ true = sym (ap (takes_body p) e ∙ takes_behind p l kind rest) ∙ h in
     takes_behind p l kind end ∙ ap (λ z. z && true) (first_of (takes_body p (behind 0 kind end)) (takes_body p rest) both)
 
-pub known_rest : (p : Source) (names : List (List ℕ)) (l : ℕ) (kind : Kind) (all rest : Body) → all ≡ behind l kind rest → takes_body p all ≡ true → takes_body p rest ≡ true
-known_rest p names l kind all rest e h =
+pub counted_rest : (p : Source) (names : List (List ℕ)) (l : ℕ) (kind : Kind) (all rest : Body) → all ≡ behind l kind rest → takes_body p all ≡ true → takes_body p rest ≡ true
+counted_rest p names l kind all rest e h =
     let both : (takes_body p (behind 0 kind end) && takes_body p rest) ≡ true = sym (ap (takes_body p) e ∙ takes_behind p l kind rest) ∙ h in
     second_of (takes_body p (behind 0 kind end)) (takes_body p rest) both
+
+pub known_first : (p : Source) (names : List (List ℕ)) (l : ℕ) (kind : Kind) (all rest : Body) → all ≡ behind l kind rest → knows_body p names all ≡ true → knows_body p names (behind l kind end) ≡ true
+known_first p names l kind all rest e h =
+    let both : (knows_body p names (behind 0 kind end) && knows_body p names rest) ≡ true = sym (ap (knows_body p names) e ∙ knows_behind p names l kind rest) ∙ h in
+    knows_behind p names l kind end ∙ ap (λ z. z && true) (first_of (knows_body p names (behind 0 kind end)) (knows_body p names rest) both)
+
+pub known_rest : (p : Source) (names : List (List ℕ)) (l : ℕ) (kind : Kind) (all rest : Body) → all ≡ behind l kind rest → knows_body p names all ≡ true → knows_body p names rest ≡ true
+known_rest p names l kind all rest e h =
+    let both : (knows_body p names (behind 0 kind end) && knows_body p names rest) ≡ true = sym (ap (knows_body p names) e ∙ knows_behind p names l kind rest) ∙ h in
+    second_of (knows_body p names (behind 0 kind end)) (knows_body p names rest) both
 
 pub count_first : (p : Source) (names : List (List ℕ)) (l : ℕ) (kind : Kind) (all rest : Body) → all ≡ behind l kind rest → place_count all ≡ place_count (behind l kind end) + place_count rest
 count_first p names l kind all rest e = ap place_count e ∙ (splits p names l kind rest).count
@@ -182,14 +198,23 @@ sites_step p names l place kind all rest code more sites sites' e h g =
 
 -- the parts of a statement with blocks
 
-pub known_then : (p : Source) (names : List (List ℕ)) (l : ℕ) (e : Expression) (a b : Body) → takes_body p (if_ l e a b end) ≡ true → takes_body p a ≡ true
-known_then p names l e a b h = first_of (takes_body p a) (takes_body p b && true) h
+pub counted_then : (p : Source) (names : List (List ℕ)) (l : ℕ) (e : Expression) (a b : Body) → takes_body p (if_ l e a b end) ≡ true → takes_body p a ≡ true
+counted_then p names l e a b h = first_of (takes_body p a) (takes_body p b && true) h
 
-pub known_else : (p : Source) (names : List (List ℕ)) (l : ℕ) (e : Expression) (a b : Body) → takes_body p (if_ l e a b end) ≡ true → takes_body p b ≡ true
-known_else p names l e a b h = first_of (takes_body p b) true (second_of (takes_body p a) (takes_body p b && true) h)
+pub counted_else : (p : Source) (names : List (List ℕ)) (l : ℕ) (e : Expression) (a b : Body) → takes_body p (if_ l e a b end) ≡ true → takes_body p b ≡ true
+counted_else p names l e a b h = first_of (takes_body p b) true (second_of (takes_body p a) (takes_body p b && true) h)
 
-pub known_again : (p : Source) (names : List (List ℕ)) (l : ℕ) (e : Expression) (a : Body) → takes_body p (while_ l e a end) ≡ true → takes_body p a ≡ true
-known_again p names l e a h = first_of (takes_body p a) true h
+pub counted_again : (p : Source) (names : List (List ℕ)) (l : ℕ) (e : Expression) (a : Body) → takes_body p (while_ l e a end) ≡ true → takes_body p a ≡ true
+counted_again p names l e a h = first_of (takes_body p a) true h
+
+pub known_then : (p : Source) (names : List (List ℕ)) (l : ℕ) (e : Expression) (a b : Body) → knows_body p names (if_ l e a b end) ≡ true → knows_body p names a ≡ true
+known_then p names l e a b h = (both _ _ (both _ _ h).1).0
+
+pub known_else : (p : Source) (names : List (List ℕ)) (l : ℕ) (e : Expression) (a b : Body) → knows_body p names (if_ l e a b end) ≡ true → knows_body p names b ≡ true
+known_else p names l e a b h = (both _ _ (both _ _ (both _ _ h).1).1).0
+
+pub known_again : (p : Source) (names : List (List ℕ)) (l : ℕ) (e : Expression) (a : Body) → knows_body p names (while_ l e a end) ≡ true → knows_body p names a ≡ true
+known_again p names l e a h = (both _ _ (both _ _ h).1).0
 
 pub if_sites : (p : Source) (names : List (List ℕ)) (l : ℕ) (e : Expression) (a b : Body) (at first second : ℕ) (old begun ran new : List Site) →
     begun ≡ old ++ site l 0 ∷ [] →

@@ -1,16 +1,27 @@
 -- What is known and counted takes as many arguments as are given.
-use Rattle.std.proofs.Common.{ℕ, ◌≡◌, Bool, true, false, not, ◌&&◌, ◌||◌, List, length, refl}
+use Rattle.std.proofs.Common.{ℕ, ◌≡◌, ◌==◌, Bool, true, false, not, ◌&&◌, ◌||◌, List, [], ◌∷◌, length, refl, sym, ap, ◌∙◌}
+use Rattle.std.specs.Cmp.Lexicographic.{pointwise}
+use Rattle.loom_tree.specs.declared.expression.Expr.{Expr}
 use Rattle.loom_tree.specs.declared.statement.Kind.{Kind}
 use Rattle.loom_tree.specs.declared.statement.Kind.TheVariants as k
-use Rattle.loom_tree.specs.Tree.{Expression, Right, Simple, let_, set, set_cell, return, Body, end, simple, if_, while_, Function, Source, behind, body_of, right_of, expressions_of}
+use Rattle.loom_tree.specs.Tree.{Expression, Right, Simple, let_, set, set_cell, return, Body, end, simple, if_, while_, Function, Source, behind, body_of, right_of, returned_of, expression_of, expressions_of}
 use Rattle.loom_tree.specs.Tree as tree
-use Rattle.loom_lang.specs.Rules.{locals_of, FunctionKeepsRules, is_function, takes, knows, knows_call, knows_right, knows_simple, knows_body, counts_call, counts_right, counts_simple, counts_body}
+use Rattle.loom_lang.specs.Rules.{locals_of, FunctionKeepsRules, is_in, is_sema, is_function, takes, knows, knows_all, knows_call, knows_right, knows_returned, knows_simple, knows_body, counts_call, counts_right, counts_simple, counts_body}
 use Rattle.loom_flow.specs.Arguments.{takes_right, takes_simple, takes_body}
 use Rattle.loom_flow.proofs.Truths.{both}
 
 all : (a b : Bool) → a ≡ true → b ≡ true → (a && b) ≡ true
 all true b h g = g
 all false b h g = cc
+
+-- a function that takes so many arguments is one
+pub takes_function : (fs : List Function) (x : List ℕ) (n : ℕ) → takes fs x n ≡ true → is_function fs x ≡ true
+takes_function [] x n h = cc
+takes_function (f ∷ fs) x n h =
+    elim (pointwise ◌==◌ f.name x) as (λ b. ((b && length f.params == n) || takes fs x n) ≡ true → (b || is_function fs x) ≡ true) [
+      | true ↦ λ e. refl
+      | false ↦ λ e. takes_function fs x n e
+    ] h
 
 counted : (f t : Bool) → f ≡ true → (not f || t) ≡ true → t ≡ true
 counted true t h g = g
@@ -67,6 +78,10 @@ regroup_two true true c = refl
 regroup_two true false c = refl
 regroup_two false b c = refl
 
+regroup_three : (a b c d : Bool) → (a && (b && (c && d))) ≡ ((a && (b && (c && true))) && d)
+regroup_three true b c d = regroup_two b c d
+regroup_three false b c d = refl
+
 regroup : (a c : Bool) → (a && c) ≡ ((a && true) && c)
 regroup true c = refl
 regroup false c = refl
@@ -86,3 +101,24 @@ takes_behind p l (k.Up x) rest = refl
 takes_behind p l (k.Join e) rest = refl
 takes_behind p l (k.Print e) rest = refl
 takes_behind p l k.Skip rest = refl
+
+pub knows_behind : (p : Source) (xs : List (List ℕ)) (l : ℕ) (s : Kind) (rest : Body) → knows_body p xs (behind l s rest) ≡ (knows_body p xs (behind 0 s end) && knows_body p xs rest)
+knows_behind p xs l (k.Let x r) rest = regroup (knows_right p xs x (right_of r)) (knows_body p xs rest)
+knows_behind p xs l (k.Set x r) rest = regroup (knows_right p xs x (right_of r)) (knows_body p xs rest)
+knows_behind p xs l (k.SetCell x i e) rest = regroup (knows_simple p xs (set_cell x (expression_of i) (expression_of e))) (knows_body p xs rest)
+knows_behind p xs l (k.If e a b) rest = regroup_three (knows p xs (expression_of e)) (knows_body p xs (body_of a)) (knows_body p xs (body_of b)) (knows_body p xs rest)
+knows_behind p xs l (k.While e a) rest = regroup_two (knows p xs (expression_of e)) (knows_body p xs (body_of a)) (knows_body p xs rest)
+knows_behind p xs l (k.Call f es) rest = regroup (knows_call p xs f (expressions_of es)) (knows_body p xs rest)
+knows_behind p xs l (k.Return e) rest = regroup (knows_returned p xs (returned_of e)) (knows_body p xs rest)
+knows_behind p xs l (k.Lock x) rest = regroup (is_in x p.mutexes) (knows_body p xs rest)
+knows_behind p xs l (k.Unlock x) rest = regroup (is_in x p.mutexes) (knows_body p xs rest)
+knows_behind p xs l (k.Down x) rest = regroup (is_sema p.semas x) (knows_body p xs rest)
+knows_behind p xs l (k.Up x) rest = regroup (is_sema p.semas x) (knows_body p xs rest)
+knows_behind p xs l (k.Join e) rest = regroup (knows p xs (expression_of e)) (knows_body p xs rest)
+knows_behind p xs l (k.Print e) rest = regroup (knows p xs (expression_of e)) (knows_body p xs rest)
+knows_behind p xs l k.Skip rest = refl
+
+-- an argument, and the arguments behind it
+pub knows_argument : (p : Source) (xs : List (List ℕ)) (e : Expr) (es rest : List Expr) → es ≡ e ∷ rest → knows_all p xs (expressions_of es) ≡ true
+    → (knows p xs (expression_of e) ≡ true) × (knows_all p xs (expressions_of rest) ≡ true)
+knows_argument p xs e es rest is h = both _ _ (sym (ap (λ (z : List Expr). knows_all p xs (expressions_of z)) is) ∙ h)

@@ -2,6 +2,8 @@
 use Rattle.std.proofs.Common.{ℕ, suc, zero, ◌+◌, ◌-◌, ◌≡◌, ◌≤◌, ◌<◌, List, [], ◌∷◌, ◌++◌, true, false, ◌&&◌, Option, Some, None, refl, sym, ap, subst, ◌∙◌, map, take, slice_get, length, length-append, if◌then◌else◌, nat_le, le-leb, arith}
 use Rattle.std.proofs.lemmas.Option.{slice_get_within}
 use Rattle.loom_tree.specs.Tree.{Expression, Right, Simple, let_, set, Body, end, simple, if_, while_, Function, Source}
+use Rattle.loom_lang.specs.WellFormed.{node_count}
+use Rattle.loom_lang.specs.Limits.{param_limit}
 use Rattle.loom_lang.specs.Rules.{locals_of, KeepsRules, FunctionsKeepRules}
 use Rattle.loom_flow.specs.Arguments.{takes_simple, takes_body}
 use Rattle.loom_flow.proofs.Counts.{body_takes}
@@ -12,7 +14,7 @@ use Rattle.loom_flow.specs.declared.code.Instr.{Instr}
 use Rattle.loom_flow.specs.declared.code.Entrance.{Entrance}
 use Rattle.loom_flow.specs.Flow.{Flow}
 use Rattle.loom_flow.specs.FlatCode.{operand_of, operand_steps, simple_steps, instr, instrs, size, place_count, body_code, functions_code, entrances, lowered}
-use Rattle.loom_flow.specs.Depth.{pops, takes_off, puts_on, depth_after, depth_before, nodes, IsSmallBody, AreSmallFunctions, IsSmall}
+use Rattle.loom_flow.specs.Depth.{pops, takes_off, puts_on, depth_after, depth_before, IsSmallBody, AreSmallFunctions, IsSmall}
 use Rattle.loom_flow.specs.Laws.{KeepsDepth, HasOperands}
 use Rattle.loom_flow.proofs.Sublist.{Lies, lies_first, lies_second, lies_whole}
 use Rattle.loom_flow.proofs.Each.{AllOf, all_append, Each, each_append, each_at, same_element}
@@ -100,14 +102,14 @@ steps_keep c l k at m d e (x ∷ xs) h b lies other = (
 )
 
 -- a statement's beginning and its condition
-condition_keeps : (c : Flow) (l k at m to : ℕ) (xs : List (List ℕ)) (e : Expression) → nodes e ≤ m → depth_before c at ≡ Some 0 → depth_before c to ≡ Some 0
+condition_keeps : (c : Flow) (l k at m to : ℕ) (xs : List (List ℕ)) (e : Expression) → node_count e ≤ m → depth_before c at ≡ Some 0 → depth_before c to ≡ Some 0
     → Lies c.code at (instrs l k (s.Control Begin ∷ (operand_steps c.program xs e ++ s.Control (JumpIfZero (operand_of xs e) to) ∷ [])))
     → Each (Keeps c m) at (instrs l k (s.Control Begin ∷ (operand_steps c.program xs e ++ s.Control (JumpIfZero (operand_of xs e) to) ∷ [])))
 condition_keeps c l k at m to xs e small h there lies =
     steps_keep c l k at m 0 0 (s.Control Begin ∷ (operand_steps c.program xs e ++ s.Control (JumpIfZero (operand_of xs e) to) ∷ [])) h (condition_balanced c.program xs m to e small) lies
     (tt, all_append (Elsewhere c) (operand_steps c.program xs e) _ (operand_all (Elsewhere c) (plain_elsewhere c) c.program xs e) (there, tt))
 
-condition_depth : (c : Flow) (l k at m to : ℕ) (xs : List (List ℕ)) (e : Expression) → nodes e ≤ m → depth_before c at ≡ Some 0
+condition_depth : (c : Flow) (l k at m to : ℕ) (xs : List (List ℕ)) (e : Expression) → node_count e ≤ m → depth_before c at ≡ Some 0
     → Lies c.code at (instrs l k (s.Control Begin ∷ (operand_steps c.program xs e ++ s.Control (JumpIfZero (operand_of xs e) to) ∷ [])))
     → depth_before c (at + (2 + length (operand_steps c.program xs e))) ≡ Some 0
 condition_depth c l k at m to xs e small h lies =
@@ -119,7 +121,7 @@ condition_depth c l k at m to xs e small h lies =
 
 -- Statements: each of their instructions, and the number behind them
 
-body_keeps : (c : Flow) (m n : ℕ) (xs : List (List ℕ)) → KeepsRules c.program → n + 4 ≤ m → (at k : ℕ) (a : Body) → takes_body c.program a ≡ true → IsSmallBody n a
+body_keeps : (c : Flow) (m n : ℕ) (xs : List (List ℕ)) → KeepsRules c.program → n + param_limit ≤ m → (at k : ℕ) (a : Body) → takes_body c.program a ≡ true → IsSmallBody n a
     → Lies c.code at (body_code c.program xs at k a) → depth_before c at ≡ Some 0
     → Each (Keeps c m) at (body_code c.program xs at k a) × (depth_before c (at + size c.program xs a) ≡ Some 0)
 body_keeps c m n xs law room at k end known small lies h = (tt, depth_at c at (at + 0) 0 (omega arith) h)
@@ -166,7 +168,7 @@ body_keeps c m n xs law room at k (if_ l e x y rest) known small lies h =
     let lies_done : Lies c.code last (instr l k (s.Control Done) ∷ code_rest) =
     subst (λ i. Lies c.code i (instr l k (s.Control Done) ∷ code_rest)) (ap (λ i. second + i) (code_length p xs y second (suc k + place_count x)))
     (lies_second c.code second code_y (instr l k (s.Control Done) ∷ code_rest) lies_from_y) in
-    let small_e : nodes e ≤ m = omega (arith, small.0, room) in
+    let small_e : node_count e ≤ m = omega (arith, small.0, room) in
     let in_x : Each (Keeps c m) first code_x × (depth_before c (first + size p xs x) ≡ Some 0) =
     body_keeps c m n xs law room first (suc k) x known_x.0 small.1 lies_x (condition_depth c l k at m second xs e small_e h lies_head) in
     let at_second : depth_before c second ≡ Some 0 = depth_at c (suc (first + size p xs x)) second 0 (omega arith) (depth_next c (first + size p xs x) (instr l k (s.Control (Jump last))) 0 lies_jump.0 in_x.1 (omega arith)) in
@@ -207,7 +209,7 @@ body_keeps c m n xs law room at k (while_ l e x rest) known small lies h =
     subst (λ i. Lies c.code i (instr l (suc k) (s.Control (Edge head)) ∷ instr l k (s.Control Done) ∷ code_rest)) (ap (λ i. first + i) (code_length p xs x first (suc (suc k))))
     (lies_second c.code first code_x (instr l (suc k) (s.Control (Edge head)) ∷ instr l k (s.Control Done) ∷ code_rest) lies_from_x) in
     let lies_done : Lies c.code last (instr l k (s.Control Done) ∷ code_rest) = subst (λ i. Lies c.code i (instr l k (s.Control Done) ∷ code_rest)) (omega arith) lies_edge.1 in
-    let small_e : nodes e ≤ m = omega (arith, small.0, room) in
+    let small_e : node_count e ≤ m = omega (arith, small.0, room) in
     let at_head : depth_before c head ≡ Some 0 = depth_at c (suc at) head 0 (omega arith) (depth_next c at (instr l k (s.Control Begin)) 0 lies_begin.0 h (omega arith)) in
     let in_x : Each (Keeps c m) first code_x × (depth_before c (first + size p xs x) ≡ Some 0) =
     body_keeps c m n xs law room first (suc (suc k)) x known_x.0 small.1 lies_x (depth_at c place first 0 same (condition_depth c l k at m last xs e small_e h lies_begin)) in
@@ -235,7 +237,7 @@ starts_more : (c : Flow) (e : Entrance) (es : List Entrance) → depth_before c 
 starts_more c e es h f zero d g = subst (λ (q : Entrance). depth_before c q.start ≡ Some 0) (same_element e d g) h
 starts_more c e es h f (suc n) d g = f n d g
 
-functions_keep : (c : Flow) (m n : ℕ) → KeepsRules c.program → n + 4 ≤ m → (fs : List Function) (at place : ℕ) → FunctionsKeepRules c.program fs → AreSmallFunctions n fs
+functions_keep : (c : Flow) (m n : ℕ) → KeepsRules c.program → n + param_limit ≤ m → (fs : List Function) (at place : ℕ) → FunctionsKeepRules c.program fs → AreSmallFunctions n fs
     → Lies c.code at (functions_code c.program at place fs) → depth_before c at ≡ Some 0
     → Each (Keeps c m) at (functions_code c.program at place fs) × AreStarts c (entrances c.program at place fs)
 functions_keep c m n law room [] at place l small code h = (tt, λ k e g. cc)
@@ -259,13 +261,13 @@ functions_keep c m n law room (g ∷ gs) at place l small code h =
     )
 
 -- where each expression of the program has at most `n` nodes
-pub lowered_operands : (p : Source) → KeepsRules p → (n : ℕ) → IsSmall n p → HasOperands (lowered p) (n + 4)
+pub lowered_operands : (p : Source) → KeepsRules p → (n : ℕ) → IsSmall n p → HasOperands (lowered p) (n + param_limit)
 lowered_operands p l n small =
     let c : Flow = lowered p in
     let code : List Instr = functions_code p 0 1 p.funcs in
-    let all : Each (Keeps c (n + 4)) 0 code × AreStarts c (entrances p 0 1 p.funcs) =
-    functions_keep c (n + 4) n l (omega arith) p.funcs 0 1 l.functions small (lies_whole code) refl in
+    let all : Each (Keeps c (n + param_limit)) 0 code × AreStarts c (entrances p 0 1 p.funcs) =
+    functions_keep c (n + param_limit) n l (omega arith) p.funcs 0 1 l.functions small (lies_whole code) refl in
     record {
       starts = all.1;
-      instructions = λ at i h. each_at (Keeps c (n + 4)) code 0 code (lies_whole code) all.0 at i (omega arith) (let f : at < length code = slice_get_within code at i h in omega (arith, f)) h;
+      instructions = λ at i h. each_at (Keeps c (n + param_limit)) code 0 code (lies_whole code) all.0 at i (omega arith) (let f : at < length code = slice_get_within code at i h in omega (arith, f)) h;
     }

@@ -1,19 +1,30 @@
 -- What lowered flat code keeps of its program.
-use Rattle.std.proofs.Common.{ℕ, ◌<◌, ◌≤◌, ◌≡◌, ◌↔◌, length, get_or, Some, ap, sym, ◌∙◌, subst, arith}
+use Rattle.std.proofs.Common.{ℕ, suc, ◌+◌, ◌<◌, ◌≤◌, ◌≡◌, ◌↔◌, List, [], ◌∷◌, ◌++◌, true, length, length-append, get_or, Some, ap, sym, ◌∙◌, subst, arith}
 use Rattle.std.specs.Prelude.{slice_get, option_map, Contains, IsBitSet}
 use Rattle.std.proofs.lemmas.List.{length-map}
 use Rattle.std.proofs.lemmas.Option.{slice_get-map, slice_get-get_or}
 use Rattle.loom_tree.specs.Tree.{Function, Source}
+use Rattle.loom_expression.specs.Text.{node_limit}
+use Rattle.loom_lang.specs.Limits.{param_limit}
+use Rattle.loom_lang.specs.Rules.{KeepsRules, takes, locals_of}
 use Rattle.loom_lang.specs.Places.{places, place_at, line_of_place}
+use Rattle.loom_flow.specs.declared.code.Control.TheVariants.{Out}
+use Rattle.loom_flow.specs.declared.code.Instr.{Instr}
 use Rattle.loom_flow.specs.declared.code.Site.{Site}
+use Rattle.loom_flow.specs.declared.code.Step.TheVariants as s
 use Rattle.loom_flow.specs.Flow.{Flow}
-use Rattle.loom_flow.specs.Laws.{HasTraces, HasPlaces, HasInstructionPlaces, HasCalls}
-use Rattle.loom_flow.specs.FlatCode.{or_zero, calls_body, set_of}
+use Rattle.loom_flow.specs.Depth.{depth_before, most_values}
+use Rattle.loom_flow.specs.Laws.{HasTraces, HasPlaces, HasInstructionPlaces, HasCalls, HasOperands, KeepsDepth}
+use Rattle.loom_flow.specs.FlatCode.{or_zero, calls_body, set_of, instr, place_count, size, body_code, functions_code, lowered}
 use Rattle.loom_flow.specs.Code.{IsLowered}
 use Rattle.loom_flow.proofs.Places.{lowered_places, few_places}
 use Rattle.loom_flow.proofs.CallSets.{lowered_calls}
 use Rattle.loom_flow.proofs.InstructionPlaces as located
 use Rattle.loom_flow.proofs.Traces.{lowered_traces}
+use Rattle.loom_flow.proofs.Each.{same_element}
+use Rattle.loom_flow.proofs.Depths.{lowered_operands}
+use Rattle.loom_flow.proofs.SmallExpressions.{small_program}
+use Rattle.loom_flow.proofs.Deepest.{IsFound, found}
 
 pub has_places : (c : Flow) → IsLowered c → HasPlaces c c.program
 has_places c h = let P : Flow → Type 0 = λ z. HasPlaces z c.program in subst P (sym h.is) (lowered_places c.program)
@@ -64,3 +75,37 @@ calls_kept c f d h g k l e =
     let P : ℕ → Type 0 = λ z. IsBitSet z g ↔ Contains (calls_body c.program h.body) g in
     let many = as_many_calls c k in
     subst P (ap or_zero (slice_get-get_or c.calls f d (omega arith))) (has_calls c k f h g e)
+
+-- values
+
+pub has_operands : (c : Flow) → IsLowered c → HasOperands c (node_limit + param_limit)
+has_operands c h =
+    let P : Flow → Type 0 = λ z. HasOperands z (node_limit + param_limit) in
+    subst P (sym h.is) (lowered_operands c.program h.lawful node_limit (small_program c.program h.lawful))
+
+-- where there is a function there is its end
+some_functions : (p : Source) (fs : List Function) (x : List ℕ) (n at place : ℕ) → takes fs x n ≡ true → 0 < length (functions_code p at place fs)
+some_functions p [] x n at place h = cc
+some_functions p (f ∷ fs) x n at place h =
+    let body : List Instr = body_code p (locals_of f) at (suc place) f.body in
+    let rest : List Instr =
+    instr f.line (suc place + place_count f.body) (s.Control Out) ∷ functions_code p (suc (at + size p (locals_of f) f.body)) (suc (suc (place + place_count f.body))) fs in
+    let more : length (body ++ rest) ≡ length body + length rest = length-append body rest in
+    omega (arith, more)
+
+some_code : (c : Flow) → IsLowered c → 0 < length c.code
+some_code c h = let P : Flow → Type 0 = λ z. 0 < length z.code in subst P (sym h.is) (some_functions c.program c.program.funcs _ 0 0 1 h.lawful.main)
+
+pub values_reached : (c : Flow) → IsLowered c → (at : ℕ) × (at < length c.code) × (depth_before c at ≡ Some (most_values c))
+values_reached c h =
+    found 0 c.code (some_code c h) (λ at i e. (let here : (d : ℕ) × (depth_before c at ≡ Some d) × (d ≤ node_limit + param_limit) × KeepsDepth c at d i.step = (has_operands c h).instructions at i e in (here.0, here.1)))
+
+pub few_values : (c : Flow) → IsLowered c → most_values c ≤ node_limit + param_limit
+few_values c h =
+    let reached : (at : ℕ) × (at < length c.code) × (depth_before c at ≡ Some (most_values c)) = values_reached c h in
+    let i : Instr = get_or c.code reached.0 (instr 0 0 (s.Control Out)) in
+    let here : (d : ℕ) × (depth_before c reached.0 ≡ Some d) × (d ≤ node_limit + param_limit) × KeepsDepth c reached.0 d i.step =
+    (has_operands c h).instructions reached.0 i (slice_get-get_or c.code reached.0 (instr 0 0 (s.Control Out)) reached.1) in
+    let same : most_values c ≡ here.0 = same_element (most_values c) here.0 (sym reached.2 ∙ here.1) in
+    let few : here.0 ≤ node_limit + param_limit = here.2 in
+    omega (arith, same, few)

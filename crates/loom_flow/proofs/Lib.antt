@@ -4,9 +4,9 @@ pub mod Bodies
 mod BodyTraces
 pub mod CallSets
 pub mod Counts
-mod Deepest
+pub mod Deepest
 pub mod Depths
-mod Each
+pub mod Each
 mod EachSimple
 pub mod EachStep
 mod Effects
@@ -25,10 +25,11 @@ pub mod Places
 mod Plain
 pub mod ProgramNumbers
 pub mod Relations
-mod Roles
+pub mod Roles
 pub mod Runs
 mod Simple
 pub mod Sizes
+mod SmallExpressions
 pub mod StatementRules
 mod Statements
 pub mod Steps

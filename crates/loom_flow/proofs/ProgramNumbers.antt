@@ -13,7 +13,7 @@ use Rattle.loom_flow.specs.declared.code.Step.TheVariants as s
 use Rattle.loom_flow.specs.declared.code.Ask.TheVariants.{Read, ReadCell, Write, WriteCell, Lock, Unlock, Down, Up, Spawn}
 use Rattle.loom_flow.specs.declared.code.Control.TheVariants.{Call}
 use Rattle.loom_flow.specs.declared.code.Instr.{Instr}
-use Rattle.loom_flow.specs.Laws.{HasParams, HasProgramNumbers}
+use Rattle.loom_flow.specs.Laws.{HasParams, HasLocals, HasProgramNumbers}
 use Rattle.loom_flow.specs.FlatCode.{or_zero, first_cell, array_of, lowered}
 use Rattle.loom_flow.proofs.EachStep.{HoldsOf, is_unnumbered, each_step}
 use Rattle.loom_flow.proofs.Roles.{never, sema_in, distinct_front}
@@ -39,7 +39,7 @@ array_within n (w ∷ ws) x = by (pointwise ◌==◌ w.name x) (cells_from (n + 
     by true o again least = omega arith
     by false o again least = omega arith
 
-word_in : (ws : List Word) (x : List ℕ) → is_word ws x ≡ true → is_in x (map (λ (w : Word). w.name) ws) ≡ true
+pub word_in : (ws : List Word) (x : List ℕ) → is_word ws x ≡ true → is_in x (map (λ (w : Word). w.name) ws) ≡ true
 word_in [] x h = cc
 word_in (w ∷ ws) x h =
     elim (pointwise ◌==◌ w.name x) as (λ b. ((b && is_none w.cells) || is_word ws x) ≡ true → (b || is_in x (map (λ (v : Word). v.name) ws)) ≡ true) [
@@ -146,18 +146,38 @@ other_numbers p _ h = tt
 
 numbers_hold : (p : Source) → KeepsRules p → HoldsOf p (HasProgramNumbers p)
 numbers_hold p l = record {
-  other = other_numbers p;
-  read = λ x d h. word_there p x l h;
-  write = λ x a h. word_there p x l h;
-  read_cell = λ x n d h. array_there p x;
-  write_cell = λ x n b h. array_there p x;
+  other = λ x none locals. other_numbers p x none;
+  read = λ x d to h. word_there p x l h;
+  write = λ x a from h. word_there p x l h;
+  read_cell = λ x n d from to h. array_there p x;
+  write_cell = λ x n b from second h. array_there p x;
   lock = λ x h. name_within x p.mutexes h;
   unlock = λ x h. name_within x p.mutexes h;
   down = λ x h. sema_within p x h;
   up = λ x h. sema_within p x h;
-  spawn = λ f n d h. params_there p f n l h;
+  spawn = λ f n d to h. params_there p f n l h;
   call = λ f n h. params_there p f n l h;
 }
 
 pub lowered_numbers : (p : Source) → KeepsRules p → (at : ℕ) (i : Instr) → slice_get (lowered p).code at ≡ Some i → HasProgramNumbers p i.step
 lowered_numbers p l at i h = each_step p (HasProgramNumbers p) at i l (numbers_hold p l) h
+
+-- Locals
+
+locals_hold : (p : Source) → HoldsOf p HasLocals
+locals_hold p = record {
+  other = λ x none locals. locals;
+  read = λ x d to h. to;
+  write = λ x a from h. from;
+  read_cell = λ x n d from to h. (from, to);
+  write_cell = λ x n b from second h. (from, second);
+  lock = λ x h. tt;
+  unlock = λ x h. tt;
+  down = λ x h. tt;
+  up = λ x h. tt;
+  spawn = λ f n d to h. to;
+  call = λ f n h. tt;
+}
+
+pub lowered_locals : (p : Source) → KeepsRules p → (at : ℕ) (i : Instr) → slice_get (lowered p).code at ≡ Some i → HasLocals i.step
+lowered_locals p l at i h = each_step p HasLocals at i l (locals_hold p) h

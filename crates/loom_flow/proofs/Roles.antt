@@ -16,7 +16,7 @@ use Rattle.loom_flow.proofs.Truths.{both, or_else}
 
 -- Names in lists
 
-has_position : (x : List ℕ) (ys : List (List ℕ)) → is_in x ys ≡ true → (n : ℕ) × (index_of x ys ≡ Some n)
+pub has_position : (x : List ℕ) (ys : List (List ℕ)) → is_in x ys ≡ true → (n : ℕ) × (index_of x ys ≡ Some n)
 has_position x [] h = cc
 has_position x (y ∷ ys) h =
     elim (pointwise ◌==◌ y x) as (λ b. (b || is_in x ys) ≡ true → (n : ℕ) × ((if b then Some 0 else option_map suc (index_of x ys)) ≡ Some n)) [
@@ -41,7 +41,7 @@ word_cells n (w ∷ ws) x h =
       | false ↦ λ e. word_cells (n + cells_of w) ws x e
     ] h
 
-in_words : (ws : List Word) (x : List ℕ) → is_array ws x ≡ true → is_in x (map (λ (w : Word). w.name) ws) ≡ true
+pub in_words : (ws : List Word) (x : List ℕ) → is_array ws x ≡ true → is_in x (map (λ (w : Word). w.name) ws) ≡ true
 in_words [] x h = cc
 in_words (w ∷ ws) x h =
     elim (pointwise ◌==◌ w.name x) as (λ b. ((b && is_some w.cells) || is_array ws x) ≡ true → (b || is_in x (map (λ (v : Word). v.name) ws)) ≡ true) [
@@ -90,9 +90,21 @@ distinct_front (x ∷ xs) ys h =
 pub array_known : (p : Source) (x : List ℕ) → KeepsRules p → is_array p.words x ≡ true → IsArray p x
 array_known p x l h = array_cells 0 p.words x (distinct_front (map (λ (w : Word). w.name) p.words) _ (distinct_front (shared_names p) _ l.once)) h
 
+-- and so it has a number of cells
+pub array_counted : (p : Source) (x : List ℕ) (first : ℕ) (count : Option ℕ) → KeepsRules p → is_array p.words x ≡ true → cells_from 0 p.words x ≡ Some (record { first = first; count = count }) → count ≡ None → ⊥
+array_counted p x first count l h here none =
+    let known : IsArray p x = array_known p x l h in
+    nowhere known.1 (sym none ∙ ap counted_as (same_cells (record { first = first; count = count }) (record { first = known.0; count = Some known.1 }) (sym here ∙ known.2)))
+  where
+    counted_as : Cells → Option ℕ
+    counted_as d = d.count
+
+    same_cells : (d e : Cells) → ◌≡◌ {A = Option Cells} (Some d) (Some e) → d ≡ e
+    same_cells d e g = cc
+
 -- Functions, mutexes and semaphores
 
-function_in : (fs : List Function) (x : List ℕ) → is_function fs x ≡ true → is_in x (map (λ (f : Function). f.name) fs) ≡ true
+pub function_in : (fs : List Function) (x : List ℕ) → is_function fs x ≡ true → is_in x (map (λ (f : Function). f.name) fs) ≡ true
 function_in [] x h = cc
 function_in (f ∷ fs) x h =
     elim (pointwise ◌==◌ f.name x) as (λ b. (b || is_function fs x) ≡ true → (b || is_in x (map (λ (g : Function). g.name) fs)) ≡ true) [

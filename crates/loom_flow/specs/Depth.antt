@@ -1,7 +1,8 @@
 -- How many values there are before and behind instructions.
-use Rattle.std.specs.Prelude.{ℕ, suc, ◌+◌, ◌-◌, ◌≤◌, nat_le, List, [], ◌∷◌, Option, Some, None, map, take, if◌then◌else◌}
-use Rattle.loom_tree.specs.Tree.{Expression, num, var, cell, neg, inverse, bin, Right, Simple, let_, set, set_cell, return, Body, end, simple, if_, while_, Function, Source}
+use Rattle.std.specs.Prelude.{ℕ, suc, ◌+◌, ◌-◌, ◌≤◌, nat_le, max, List, [], ◌∷◌, Option, Some, None, map, take, if◌then◌else◌}
+use Rattle.loom_tree.specs.Tree.{Expression, Right, Simple, let_, set, set_cell, return, Body, end, simple, if_, while_, Function, Source}
 use Rattle.loom_tree.specs.Tree as tree
+use Rattle.loom_lang.specs.WellFormed.{node_count}
 use Rattle.loom_flow.specs.declared.code.Operand.{Operand}
 use Rattle.loom_flow.specs.declared.code.Operand.TheVariants as o
 use Rattle.loom_flow.specs.declared.code.Target.{Target}
@@ -61,42 +62,41 @@ depth_after d (x ∷ xs) = if nat_le (takes_off x) d then depth_after (d - takes
 abbrev pub depth_before : Flow → ℕ → Option ℕ
 depth_before c at = depth_after 0 (map (λ (i : Instr). i.step) (take at c.code))
 
--- Expressions
+-- The most values that there are before one of these instructions, where there are `d` before the first.
+abbrev pub most_before : ℕ → List Instr → ℕ
+most_before d [] = 0
+most_before d (i ∷ is) = max d (most_before (d - takes_off i.step + puts_on i.step) is)
 
-abbrev pub nodes : Expression → ℕ
-nodes (num n) = 1
-nodes (var x) = 1
-nodes (cell x i) = suc (nodes i)
-nodes (neg a) = suc (nodes a)
-nodes (inverse a) = suc (nodes a)
-nodes (bin o a b) = suc (nodes a + nodes b)
+-- how many values wait at most before an instruction of the code: for so many a thread needs room
+abbrev pub most_values : Flow → ℕ
+most_values c = most_before 0 c.code
 
 -- Each expression of a program has at most so many nodes.
 
 abbrev pub AreSmall : ℕ → List Expression → Type 0
 AreSmall n [] = Unit {0}
-AreSmall n (e ∷ es) = (nodes e ≤ n) × AreSmall n es
+AreSmall n (e ∷ es) = (node_count e ≤ n) × AreSmall n es
 
 abbrev pub IsSmallRight : ℕ → Right Expression → Type 0
-IsSmallRight n (Right.value e) = nodes e ≤ n
+IsSmallRight n (Right.value e) = node_count e ≤ n
 IsSmallRight n (Right.call f es) = AreSmall n es
 IsSmallRight n (Right.spawn f es) = AreSmall n es
 
 abbrev pub IsSmallSimple : ℕ → Simple Expression → Type 0
 IsSmallSimple n (let_ x r) = IsSmallRight n r
 IsSmallSimple n (set x r) = IsSmallRight n r
-IsSmallSimple n (set_cell x i e) = (nodes i ≤ n) × (nodes e ≤ n)
+IsSmallSimple n (set_cell x i e) = (node_count i ≤ n) × (node_count e ≤ n)
 IsSmallSimple n (Simple.call f es) = AreSmall n es
-IsSmallSimple n (return (Some e)) = nodes e ≤ n
-IsSmallSimple n (tree.join e) = nodes e ≤ n
-IsSmallSimple n (tree.print e) = nodes e ≤ n
+IsSmallSimple n (return (Some e)) = node_count e ≤ n
+IsSmallSimple n (tree.join e) = node_count e ≤ n
+IsSmallSimple n (tree.print e) = node_count e ≤ n
 IsSmallSimple n _ = Unit {0}
 
 abbrev pub IsSmallBody : ℕ → Body → Type 0
 IsSmallBody n end = Unit {0}
 IsSmallBody n (simple l x rest) = IsSmallSimple n x × IsSmallBody n rest
-IsSmallBody n (if_ l e a b rest) = (nodes e ≤ n) × IsSmallBody n a × IsSmallBody n b × IsSmallBody n rest
-IsSmallBody n (while_ l e a rest) = (nodes e ≤ n) × IsSmallBody n a × IsSmallBody n rest
+IsSmallBody n (if_ l e a b rest) = (node_count e ≤ n) × IsSmallBody n a × IsSmallBody n b × IsSmallBody n rest
+IsSmallBody n (while_ l e a rest) = (node_count e ≤ n) × IsSmallBody n a × IsSmallBody n rest
 
 abbrev pub AreSmallFunctions : ℕ → List Function → Type 0
 AreSmallFunctions n [] = Unit {0}

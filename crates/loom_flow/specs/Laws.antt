@@ -1,17 +1,24 @@
 -- What flat code keeps of a program, and what its instructions keep to.
 use Rattle.std.specs.Prelude.{slice_get, Contains, IsBitSet, ℕ, suc, ◌+◌, ◌-◌, ◌≡◌, ◌≤◌, ◌<◌, ◌↔◌, ℤ, List, Option, Some, None, map, length}
 use Rattle.loom_tree.specs.Tree.{Function, Source}
+use Rattle.loom_lang.specs.Limits.{param_limit}
 use Rattle.loom_lang.specs.Rules.{KeepsRules, cell_count}
 use Rattle.loom_lang.specs.Places.{Place, entry, inside, back_edge, out, places, place_at, line_of_place}
 use Rattle.loom_lang.specs.Trace.{Item, Outcome, IsTrace}
+use Rattle.loom_flow.specs.declared.code.Operand.{Operand}
+use Rattle.loom_flow.specs.declared.code.Operand.TheVariants as o
+use Rattle.loom_flow.specs.declared.code.Target.{Target}
+use Rattle.loom_flow.specs.declared.code.Target.TheVariants as t
+use Rattle.loom_flow.specs.declared.code.Compute.TheVariants.{Move, Negate, Invert, Apply}
 use Rattle.loom_flow.specs.declared.code.Step.{Step}
 use Rattle.loom_flow.specs.declared.code.Step.TheVariants as s
-use Rattle.loom_flow.specs.declared.code.Ask.TheVariants.{Read, ReadCell, Write, WriteCell, Lock, Unlock, Down, Up, Spawn}
+use Rattle.loom_flow.specs.declared.code.Ask.TheVariants.{Read, ReadCell, Write, WriteCell, Lock, Unlock, Down, Up, Join, Print, Spawn}
 use Rattle.loom_flow.specs.declared.code.Control.TheVariants.{Edge, Jump, JumpIfZero, Call, Return, Out}
 use Rattle.loom_flow.specs.declared.code.Instr.{Instr}
 use Rattle.loom_flow.specs.declared.code.Site.{Site}
 use Rattle.loom_flow.specs.declared.code.Entrance.{Entrance}
 use Rattle.loom_flow.specs.Flow.{Flow, resume}
+use Rattle.loom_flow.specs.State.{frame_room}
 use Rattle.loom_flow.specs.FlatTrace.{IsFlatTrace}
 use Rattle.loom_flow.specs.FlatCode.{or_zero, calls_body, lowered}
 use Rattle.loom_flow.specs.Depth.{pops, takes_off, puts_on, depth_before, IsSmall}
@@ -114,7 +121,38 @@ AllKeepFunctions = (p : Source) → KeepsRules p → KeepsFunctions (lowered p)
 
 -- where no expression has more nodes than these
 abbrev pub AllHaveOperands : Type 0
-AllHaveOperands = (p : Source) → KeepsRules p → (n : ℕ) → IsSmall n p → HasOperands (lowered p) (n + 4)
+AllHaveOperands = (p : Source) → KeepsRules p → (n : ℕ) → IsSmall n p → HasOperands (lowered p) (n + param_limit)
+
+-- Locals
+
+-- The locals that an instruction names are locals of a frame.
+
+abbrev pub HasLocal : Operand → Type 0
+HasLocal (o.Local x) = x < frame_room
+HasLocal _ = Unit {0}
+
+abbrev pub HasLocalFor : Target → Type 0
+HasLocalFor (t.Local x) = x < frame_room
+HasLocalFor t.Push = Unit {0}
+
+abbrev pub HasLocals : Step → Type 0
+HasLocals (s.Compute (Move a d)) = HasLocal a × HasLocalFor d
+HasLocals (s.Compute (Negate a d)) = HasLocal a × HasLocalFor d
+HasLocals (s.Compute (Invert a d)) = HasLocal a × HasLocalFor d
+HasLocals (s.Compute (Apply op a b d)) = HasLocal a × HasLocal b × HasLocalFor d
+HasLocals (s.Ask (Read w d)) = HasLocalFor d
+HasLocals (s.Ask (ReadCell a n d)) = HasLocal n × HasLocalFor d
+HasLocals (s.Ask (Write w a)) = HasLocal a
+HasLocals (s.Ask (WriteCell a n b)) = HasLocal n × HasLocal b
+HasLocals (s.Ask (Join a)) = HasLocal a
+HasLocals (s.Ask (Print a)) = HasLocal a
+HasLocals (s.Ask (Spawn f n d)) = HasLocalFor d
+HasLocals (s.Control (JumpIfZero a to)) = HasLocal a
+HasLocals (s.Control (Return a)) = HasLocal a
+HasLocals _ = Unit {0}
+
+abbrev pub AllHaveLocals : Type 0
+AllHaveLocals = (p : Source) → KeepsRules p → (at : ℕ) (i : Instr) → slice_get (lowered p).code at ≡ Some i → HasLocals i.step
 
 -- Numbers
 

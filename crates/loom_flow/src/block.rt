@@ -1,6 +1,7 @@
 //! The instructions and the places of statements and their blocks. An `Err` is want of memory throughout.
 ghost use Rattle.std.specs.Prelude.{◌≡◌, ◌<◌, ◌≤◌, ◌+◌, ◌∷◌, ◌++◌, [], suc, true, OnOk, IfOk, length, slice_set};
 ghost use Rattle.loom_tree.specs.Tree.{end, if_, while_, behind, body_of, expression_of};
+ghost use Rattle.loom_lang.specs.Rules.{knows, knows_body};
 ghost use Rattle.loom_flow.specs.Arguments.{takes_body};
 ghost use Rattle.loom_flow.specs.declared.code.Step.TheVariants as s;
 ghost use Rattle.loom_flow.specs.declared.code.Control.TheVariants.{JumpIfZero};
@@ -26,6 +27,7 @@ struct Test {
 /// A test, with a jump to no instruction so far.
 #[tactic(auto, using(crate::proofs::Sizes::step_is, crate::proofs::Sizes::length_behind))]
 fn open_test(code: &mut Vec<Instr>, scope: &Scope, spot: Spot, e: &Expr) -> Result<Test, NoMemory>
+    requires { knows scope.now.program scope.now.locals (expression_of e.now) ≡ true }
     ensures code { OnOk result (code.new.items ≡ code.old.items ++ instrs spot.line spot.place (operand_steps scope.now.program scope.now.locals (expression_of e.now) ++ s.Control (JumpIfZero (operand_of scope.now.locals (expression_of e.now)) 0) ∷ [])) }
     ensures operand { IfOk result (λ t. t.operand ≡ operand_of scope.now.locals (expression_of e.now)) }
     ensures at { IfOk result (λ t. t.at ≡ length code.old.items + length (operand_steps scope.now.program scope.now.locals (expression_of e.now))) }
@@ -58,7 +60,8 @@ fn choice(
     a: &Stmts,
     b: &Stmts,
 ) -> Result<(), NoMemory>
-    requires known { takes_body scope.now.program (if_ spot.line (expression_of e.now) (body_of a.now) (body_of b.now) end) ≡ true }
+    requires known { knows_body scope.now.program scope.now.locals (if_ spot.line (expression_of e.now) (body_of a.now) (body_of b.now) end) ≡ true }
+    requires counted { takes_body scope.now.program (if_ spot.line (expression_of e.now) (body_of a.now) (body_of b.now) end) ≡ true }
     requires place { spot.place ≡ length sites.old.items }
     requires room { length sites.old.items + place_count (if_ spot.line (expression_of e.now) (body_of a.now) (body_of b.now) end) ≤ place_limit }
     ensures code { OnOk result (code.new.items ≡ code.old.items ++ body_code scope.now.program scope.now.locals (length code.old.items) spot.place (if_ spot.line (expression_of e.now) (body_of a.now) (body_of b.now) end)) }
@@ -93,7 +96,8 @@ fn repeat(
     e: &Expr,
     a: &Stmts,
 ) -> Result<(), NoMemory>
-    requires known { takes_body scope.now.program (while_ spot.line (expression_of e.now) (body_of a.now) end) ≡ true }
+    requires known { knows_body scope.now.program scope.now.locals (while_ spot.line (expression_of e.now) (body_of a.now) end) ≡ true }
+    requires counted { takes_body scope.now.program (while_ spot.line (expression_of e.now) (body_of a.now) end) ≡ true }
     requires place { spot.place ≡ length sites.old.items }
     requires room { length sites.old.items + place_count (while_ spot.line (expression_of e.now) (body_of a.now) end) ≤ place_limit }
     ensures code { OnOk result (code.new.items ≡ code.old.items ++ body_code scope.now.program scope.now.locals (length code.old.items) spot.place (while_ spot.line (expression_of e.now) (body_of a.now) end)) }
@@ -126,7 +130,8 @@ pub fn body(
     scope: &Scope,
     body: &Stmts,
 ) -> Result<(), NoMemory>
-    requires known { takes_body scope.now.program (body_of body.now) ≡ true }
+    requires known { knows_body scope.now.program scope.now.locals (body_of body.now) ≡ true }
+    requires counted { takes_body scope.now.program (body_of body.now) ≡ true }
     requires room { length sites.old.items + place_count (body_of body.now) ≤ place_limit }
     ensures code { OnOk result (code.new.items ≡ code.old.items ++ body_code scope.now.program scope.now.locals (length code.old.items) (length sites.old.items) (body_of body.now)) }
     ensures sites { OnOk result (sites.new.items ≡ sites.old.items ++ body_sites scope.now.program scope.now.locals (length code.old.items) (body_of body.now)) }
@@ -148,7 +153,8 @@ fn statement(
     spot: Spot,
     kind: &Kind,
 ) -> Result<(), NoMemory>
-    requires known { takes_body scope.now.program (behind spot.line kind.now end) ≡ true }
+    requires known { knows_body scope.now.program scope.now.locals (behind spot.line kind.now end) ≡ true }
+    requires counted { takes_body scope.now.program (behind spot.line kind.now end) ≡ true }
     requires place { spot.place ≡ length sites.old.items }
     requires room { length sites.old.items + place_count (behind spot.line kind.now end) ≤ place_limit }
     ensures code { OnOk result (code.new.items ≡ code.old.items ++ body_code scope.now.program scope.now.locals (length code.old.items) spot.place (behind spot.line kind.now end)) }

@@ -1,8 +1,10 @@
 //! The functions that a function calls, as a set with one bit for each.
-ghost use Rattle.std.specs.Prelude.{◌≡◌, ◌^◌, ◌<◌, bit_or};
+ghost use Rattle.std.specs.Prelude.{◌≡◌, ◌^◌, ◌<◌, true, bit_or};
 ghost use Rattle.loom_tree.specs.Tree.{body_of, behind, end, right_of};
 ghost use Rattle.loom_lang.specs.Limits.{function_limit};
 ghost use Rattle.loom_lang.specs.Numbers.{function_number};
+ghost use Rattle.loom_lang.specs.Rules.{is_function};
+ghost use Rattle.loom_flow.specs.Arguments.{takes_right, takes_body};
 ghost use Rattle.loom_flow.specs.FlatCode.{or_zero, calls_right, calls_body, set_of};
 
 use crate::numbers::Scope;
@@ -18,12 +20,15 @@ fn bit(number: u8) -> u64
 
 /// With the function of this name.
 fn with(scope: &Scope, bits: u64, f: &Name) -> u64
+    requires { is_function scope.now.program.funcs f.now ≡ true }
     ensures { result ≡ bit_or bits (2 ^ or_zero (function_number scope.now.program f.now)) }
 {
     bits | bit(scope.function(f))
 }
 
+#[tactic(auto, using(crate::proofs::Counts::takes_function))]
 fn with_right(scope: &Scope, bits: u64, right: &Right) -> u64
+    requires { takes_right scope.now.program (right_of right.now) ≡ true }
     ensures { result ≡ set_of bits (calls_right scope.now.program (right_of right.now)) }
 {
     match right {
@@ -36,6 +41,7 @@ fn with_right(scope: &Scope, bits: u64, right: &Right) -> u64
 /// With the functions that the statements call, those in blocks too.
 #[cycle(calls)]
 pub fn with_body(scope: &Scope, bits: u64, body: &Stmts) -> u64
+    requires { takes_body scope.now.program (body_of body.now) ≡ true }
     ensures { result ≡ set_of bits (calls_body scope.now.program (body_of body.now)) }
 {
     let mut all = bits;
@@ -48,8 +54,9 @@ pub fn with_body(scope: &Scope, bits: u64, body: &Stmts) -> u64
 }
 
 #[cycle(calls)]
-#[tactic(auto, using(crate::proofs::CallSets::set_of_two, crate::proofs::CallSets::set_of_one))]
+#[tactic(auto, using(crate::proofs::CallSets::set_of_two, crate::proofs::CallSets::set_of_one, crate::proofs::Counts::takes_function))]
 fn with_statement(scope: &Scope, bits: u64, kind: &Kind) -> u64
+    requires { takes_body scope.now.program (behind 0 kind.now end) ≡ true }
     ensures { result ≡ set_of bits (calls_body scope.now.program (behind 0 kind.now end)) }
 {
     match kind {

@@ -1,8 +1,7 @@
 //! How many values there are before instructions.
-ghost use Rattle.std.specs.Prelude.{ℕ, ◌≡◌, ◌≤◌, ◌<◌, Some, length, map, take};
-ghost use Rattle.loom_flow.specs.declared.code.Instr as instr;
+ghost use Rattle.std.specs.Prelude.{◌≡◌, ◌≤◌};
 ghost use Rattle.loom_flow.specs.declared.code.Step.TheVariants as s;
-ghost use Rattle.loom_flow.specs.Depth.{pops, pushes, takes_off, puts_on, depth_after};
+ghost use Rattle.loom_flow.specs.Depth.{pops, pushes, takes_off, puts_on, most_before};
 
 use crate::code::{Ask, Compute, Control, Instr, Operand, Step, Target};
 
@@ -144,17 +143,14 @@ fn puts_on(step: Step) -> usize
     }
 }
 
-/// The most values that there are before an instruction.
+/// The most values that there are before one of these instructions, where there are none before the first.
 pub(crate) fn most_before(code: &[Instr]) -> usize
-    ensures few { result ≤ length code.now }
-    ensures most { (at d : ℕ) → at < length code.now → depth_after 0 (map (λ (i : instr.Instr). i.step) (take at code.now)) ≡ Some d → d ≤ result }
+    ensures { result ≡ most_before 0 code.now }
 {
     let mut depth: usize = 0;
     let mut most: usize = 0;
     'pass: for i in code {
-        if most < depth {
-            most = depth;
-        }
+        most = most.max(depth);
         depth = depth.saturating_sub(takes_off(i.step)) + puts_on(i.step);
     }
     most

@@ -1,6 +1,7 @@
 //! The instructions of expressions. An `Err` is want of memory throughout.
-ghost use Rattle.std.specs.Prelude.{◌≡◌, ◌∷◌, ◌++◌, [], OnOk, IfOk};
+ghost use Rattle.std.specs.Prelude.{◌≡◌, ◌∷◌, ◌++◌, [], true, OnOk, IfOk};
 ghost use Rattle.loom_tree.specs.Tree.{expression_of, expressions_of};
+ghost use Rattle.loom_lang.specs.Rules.{knows, knows_all};
 ghost use Rattle.loom_flow.specs.declared.code.Target.TheVariants as t;
 ghost use Rattle.loom_flow.specs.FlatCode.{instr, instrs, operand_of, operand_steps, steps_to, argument_steps};
 
@@ -53,6 +54,7 @@ pub fn operand(
     spot: Spot,
     e: &Expr,
 ) -> Result<Operand, NoMemory>
+    requires { knows scope.now.program scope.now.locals (expression_of e.now) ≡ true }
     ensures code { OnOk result (code.new.items ≡ code.old.items ++ instrs spot.line spot.place (operand_steps scope.now.program scope.now.locals (expression_of e.now))) }
     ensures operand { IfOk result (λ o. o ≡ operand_of scope.now.locals (expression_of e.now)) }
 {
@@ -76,6 +78,7 @@ pub fn expression(
     target: Target,
     e: &Expr,
 ) -> Result<(), NoMemory>
+    requires { knows scope.now.program scope.now.locals (expression_of e.now) ≡ true }
     ensures { OnOk result (code.new.items ≡ code.old.items ++ instrs spot.line spot.place (steps_to scope.now.program scope.now.locals target (expression_of e.now))) }
 {
     match e {
@@ -128,6 +131,7 @@ pub fn arguments(
     spot: Spot,
     es: &Exprs,
 ) -> Result<(), NoMemory>
+    requires { knows_all scope.now.program scope.now.locals (expressions_of es.now) ≡ true }
     ensures { OnOk result (code.new.items ≡ code.old.items ++ instrs spot.line spot.place (argument_steps scope.now.program scope.now.locals (expressions_of es.now))) }
 {
     'put: for e in &es.0 {

@@ -1,11 +1,13 @@
 //! The flat code of a program, with its program.
-ghost use Rattle.std.specs.Prelude.{ℕ, ◌≡◌, ◌↔◌, ◌≤◌, ◌<◌, Some, Contains, IsBitSet, IfOk, length, option_map, slice_get};
+ghost use Rattle.std.specs.Prelude.{ℕ, ◌+◌, ◌≡◌, ◌↔◌, ◌≤◌, ◌<◌, Some, Contains, IsBitSet, IfOk, length, option_map, slice_get};
 ghost use Rattle.std.specs.Arc.{arc_value};
 ghost use Rattle.loom_tree.specs.Tree.{Function};
+ghost use Rattle.loom_expression.specs.Text.{node_limit};
+ghost use Rattle.loom_lang.specs.Limits.{param_limit};
 ghost use Rattle.loom_lang.specs.Places.{places, place_at, line_of_place};
 ghost use Rattle.loom_flow.specs.Code.{IsLowered};
 ghost use Rattle.loom_flow.specs.FlatCode.{calls_body};
-ghost use Rattle.loom_flow.specs.Depth.{depth_before};
+ghost use Rattle.loom_flow.specs.Depth.{depth_before, most_values};
 
 use crate::code::{Entrance, Instr, Site};
 use crate::depth::most_before;
@@ -134,10 +136,12 @@ impl Flow {
         self.calls()[func as usize]
     }
 
-    /// How many values wait at most before an instruction.
+    /// How many values wait at most before an instruction: as many as wait before one of them.
     pub fn most_values(&self) -> usize
-        ensures few { result < 9223372036854775808 }
+        ensures few { result ≤ node_limit + param_limit }
+        ensures is { result ≡ most_values self.now }
         ensures most { (at d : ℕ) → at < length self.now.code → depth_before self.now at ≡ Some d → d ≤ result }
+        ensures reached { (at : ℕ) × (at < length self.now.code) × (depth_before self.now at ≡ Some result) }
     {
         most_before(self.code())
     }

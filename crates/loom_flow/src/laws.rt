@@ -1,5 +1,5 @@
 //! Laws of flat code.
-ghost use Rattle.loom_flow.specs.Laws.{AllJumpForward, AllKeepFunctions, AllHaveOperands, AllHaveProgramNumbers};
+ghost use Rattle.loom_flow.specs.Laws.{AllJumpForward, AllKeepFunctions, AllHaveOperands, AllHaveLocals, AllHaveProgramNumbers};
 
 /// No instruction leads out of the code, and in a frame only back edges lead back.
 #[tactic(auto, using(crate::proofs::Forward::lowered_forward))]
@@ -17,6 +17,12 @@ pub fn functions_are_kept()
 #[tactic(auto, using(crate::proofs::Depths::lowered_operands))]
 pub fn operands_are_there()
     ensures { AllHaveOperands }
+{}
+
+/// The locals in instructions are those of a frame.
+#[tactic(auto, using(crate::proofs::ProgramNumbers::lowered_locals))]
+pub fn locals_are_there()
+    ensures { AllHaveLocals }
 {}
 
 /// The numbers in instructions are those of the program: of words, arrays, mutexes, semaphores and functions.

@@ -1,12 +1,13 @@
 //! The numbers of what names stand for, in one function of a program.
-ghost use Rattle.std.specs.Prelude.{◌≡◌, ◌==◌, ◌<◌, ◌≤◌, IfSome, length, map};
+ghost use Rattle.std.specs.Prelude.{◌≡◌, ◌==◌, ◌<◌, ◌≤◌, IfSome, Some, true, length, map};
 ghost use Rattle.std.specs.Cmp.Lexicographic.{pointwise};
 ghost use Rattle.loom_tree.specs.declared.item.Sema as sema;
+ghost use Rattle.loom_tree.specs.declared.item.Word as word;
 ghost use Rattle.loom_tree.specs.Tree.{Function, functions_of};
 ghost use Rattle.loom_lang.specs.Limits.{function_limit, local_limit, name_limit, cell_limit};
 ghost use Rattle.loom_lang.specs.Numbers.{index_of, cells_from, mutex_number, sema_number, function_number};
-ghost use Rattle.loom_lang.specs.Rules.{cells_of, cell_count};
-ghost use Rattle.loom_flow.specs.FlatCode.{array_of, array_named, word_named, or_zero};
+ghost use Rattle.loom_lang.specs.Rules.{cells_of, cell_count, is_in, is_word, is_array, is_sema, is_function};
+ghost use Rattle.loom_flow.specs.FlatCode.{array_named, word_named};
 
 use crate::code::Array;
 use loom_lang::program::Program;
@@ -71,33 +72,31 @@ fn cell_count(w: &Word) -> u16
     }
 }
 
-/// The cells from a number on. A plain word counts as none.
-fn cells_at(first: u16, w: &Word) -> Array
+/// How many cells an array has; none where it is a plain word.
+fn array_length(w: &Word) -> Option<u16>
     requires { cells_of w.now ≤ cell_limit }
-    ensures { result ≡ record { first = first; count = or_zero w.now.cells } }
+    ensures { result ≡ w.now.cells }
 {
     match w.cells {
-        None => Array { first, count: 0 },
-        Some(count) => Array {
-            first,
-            count: count as u16,
-        },
+        None => None,
+        Some(count) => Some(count as u16),
     }
 }
 
-/// The cells of the word or array of a name.
-fn cells(words: &[Word], x: &Name) -> Array
-    requires { cell_count words.now ≤ cell_limit }
-    ensures { result ≡ array_of (cells_from 0 words.now x.now) }
+/// The cells of the word or array of a name: the number of the first, and how many there are where it is an array.
+fn cells(words: &[Word], x: &Name) -> (u16, Option<u16>)
+    requires room { cell_count words.now ≤ cell_limit }
+    requires there { is_in x.now (map (λ (w : word.Word). w.name) words.now) ≡ true }
+    ensures { cells_from 0 words.now x.now ≡ Some (record { first = result.0; count = result.1 }) }
 {
     let mut first: u16 = 0;
     'scan: for w in words {
         if is_same(&w.name, x) {
-            return cells_at(first, w);
+            return (first, array_length(w));
         }
         first += cell_count(w);
     }
-    Array { first: 0, count: 0 }
+    unreachable!()
 }
 
 /// A program, and the locals of one of its functions.
@@ -117,44 +116,62 @@ impl Scope {
     }
 
     /// The cells of an array.
+    #[tactic(auto, using(crate::proofs::Roles::in_words))]
     pub fn array(&self, x: &Name) -> Array
+        requires { is_array self.now.program.words x.now ≡ true }
         ensures { result ≡ array_named self.now.program x.now }
     {
-        cells(&self.program.words().0, x)
+        let (first, count) = cells(&self.program.words().0, x);
+        match count {
+            Some(count) => Array { first, count },
+            None => unreachable!(),
+        }
     }
 
     /// The number of a word.
-    #[tactic(auto, using(crate::proofs::Lookups::first_of_array))]
+    #[tactic(auto, using(crate::proofs::ProgramNumbers::word_in))]
     pub fn word(&self, x: &Name) -> u16
+        requires { is_word self.now.program.words x.now ≡ true }
         ensures { result ≡ word_named self.now.program x.now }
     {
-        self.array(x).first
+        let (first, _) = cells(&self.program.words().0, x);
+        first
     }
 
     /// The number of a mutex.
-    #[tactic(auto, using(crate::proofs::Lookups::few_mutexes))]
+    #[tactic(auto, using(crate::proofs::Lookups::few_mutexes, crate::proofs::Roles::not_in))]
     pub fn mutex(&self, x: &Name) -> u8
-        ensures { result ≡ or_zero (mutex_number self.now.program x.now) }
+        requires { is_in x.now self.now.program.mutexes ≡ true }
+        ensures { mutex_number self.now.program x.now ≡ Some result }
     {
-        index_of(&self.program.mutexes().0, x).unwrap_or(0)
+        match index_of(&self.program.mutexes().0, x) {
+            Some(number) => number,
+            None => unreachable!(),
+        }
     }
 
     /// The number of a semaphore.
-    #[tactic(auto, using(crate::proofs::Lookups::few_semas))]
+    #[tactic(auto, using(crate::proofs::Lookups::few_semas, crate::proofs::Roles::not_in, crate::proofs::Roles::sema_in))]
     pub fn sema(&self, x: &Name) -> u8
-        ensures { result ≡ or_zero (sema_number self.now.program x.now) }
+        requires { is_sema self.now.program.semas x.now ≡ true }
+        ensures { sema_number self.now.program x.now ≡ Some result }
     {
-        sema_index(&self.program.semas().0, x).unwrap_or(0)
+        match sema_index(&self.program.semas().0, x) {
+            Some(number) => number,
+            None => unreachable!(),
+        }
     }
 
     /// The number of a function.
+    #[tactic(auto, using(crate::proofs::Roles::not_in, crate::proofs::Roles::function_in))]
     pub fn function(&self, x: &Name) -> u8
-        ensures number { result ≡ or_zero (function_number self.now.program x.now) }
+        requires { is_function self.now.program.funcs x.now ≡ true }
+        ensures number { function_number self.now.program x.now ≡ Some result }
         ensures below { result < function_limit }
     {
         match func_index(&self.program.funcs().0, x) {
-            Some(n) => n,
-            None => 0,
+            Some(number) => number,
+            None => unreachable!(),
         }
     }
 }

@@ -1,9 +1,9 @@
 //! The instructions and the place of a statement without a block. An `Err` is want of memory throughout.
-ghost use Rattle.std.specs.Prelude.{ℕ, ◌≡◌, ◌<◌, ◌+◌, ◌∷◌, ◌++◌, [], Some, true, OnOk, IfOk, length};
+ghost use Rattle.std.specs.Prelude.{ℕ, ◌≡◌, ◌<◌, ◌+◌, ◌||◌, ◌∷◌, ◌++◌, [], Some, true, OnOk, IfOk, length};
 ghost use Rattle.loom_tree.specs.Tree.{Simple, expression_of, expressions_of, right_of, returned_of};
 ghost use Rattle.loom_tree.specs.Tree as tree;
 ghost use Rattle.loom_lang.specs.Numbers.{index_of};
-ghost use Rattle.loom_lang.specs.Rules.{takes};
+ghost use Rattle.loom_lang.specs.Rules.{is_in, is_word, takes, knows, knows_call, knows_right, knows_simple, knows_returned};
 ghost use Rattle.loom_flow.specs.Arguments.{takes_right};
 ghost use Rattle.loom_flow.specs.declared.code.Step.TheVariants as s;
 ghost use Rattle.loom_flow.specs.declared.code.Control.TheVariants.{Begin, Done};
@@ -64,7 +64,8 @@ fn call(
     f: &Name,
     es: &Exprs,
 ) -> Result<u32, NoMemory>
-    requires { takes scope.now.program.funcs f.now (length (expressions_of es.now)) ≡ true }
+    requires known { knows_call scope.now.program scope.now.locals f.now (expressions_of es.now) ≡ true }
+    requires counted { takes scope.now.program.funcs f.now (length (expressions_of es.now)) ≡ true }
     ensures code { OnOk result (code.new.items ≡ code.old.items ++ instrs spot.line spot.place (call_steps scope.now.program scope.now.locals f.now (expressions_of es.now))) }
     ensures resume { IfOk result (λ n. n ≡ length code.new.items) }
 {
@@ -87,7 +88,8 @@ fn spawn(
     f: &Name,
     es: &Exprs,
 ) -> Result<(), NoMemory>
-    requires { takes scope.now.program.funcs f.now (length (expressions_of es.now)) ≡ true }
+    requires known { knows_call scope.now.program scope.now.locals f.now (expressions_of es.now) ≡ true }
+    requires counted { takes scope.now.program.funcs f.now (length (expressions_of es.now)) ≡ true }
     ensures { OnOk result (code.new.items ≡ code.old.items ++ instrs spot.line spot.place (spawn_steps scope.now.program scope.now.locals f.now (expressions_of es.now))) }
 {
     arguments(code, scope, spot, es)?;
@@ -99,8 +101,10 @@ fn spawn(
     )
 }
 
-/// What is on top goes into a name.
+/// What is on top goes into a local.
+#[tactic(auto, using(crate::proofs::Roles::not_in))]
 fn store(code: &mut Vec<Instr>, scope: &Scope, spot: Spot, x: &Name) -> Result<(), NoMemory>
+    requires { is_in x.now scope.now.locals ≡ true }
     ensures { OnOk result (code.new.items ≡ code.old.items ++ instr spot.line spot.place (store_step scope.now.program x.now (index_of x.now scope.now.locals)) ∷ []) }
 {
     match scope.local(x) {
@@ -109,16 +113,12 @@ fn store(code: &mut Vec<Instr>, scope: &Scope, spot: Spot, x: &Name) -> Result<(
             spot,
             Step::Compute(Compute::Move(Operand::Top, Target::Local(local))),
         ),
-        None => push(
-            code,
-            spot,
-            Step::Ask(Ask::Write(scope.word(x), Operand::Top)),
-        ),
+        None => unreachable!(),
     }
 }
 
 /// The value of an expression goes into a name.
-#[tactic(auto, using(crate::proofs::Sizes::step_more))]
+#[tactic(auto, using(crate::proofs::Sizes::step_more, crate::proofs::EachStep::word_behind))]
 fn value(
     code: &mut Vec<Instr>,
     scope: &Scope,
@@ -126,6 +126,8 @@ fn value(
     x: &Name,
     e: &Expr,
 ) -> Result<(), NoMemory>
+    requires name { (is_in x.now scope.now.locals || is_word scope.now.program.words x.now) ≡ true }
+    requires known { knows scope.now.program scope.now.locals (expression_of e.now) ≡ true }
     ensures { OnOk result (code.new.items ≡ code.old.items ++ instrs spot.line spot.place (value_steps scope.now.program scope.now.locals x.now (expression_of e.now) (index_of x.now scope.now.locals))) }
 {
     match scope.local(x) {
@@ -146,7 +148,8 @@ fn set(
     x: &Name,
     right: &Right,
 ) -> Result<u32, NoMemory>
-    requires { takes_right scope.now.program (right_of right.now) ≡ true }
+    requires known { knows_right scope.now.program scope.now.locals x.now (right_of right.now) ≡ true }
+    requires counted { takes_right scope.now.program (right_of right.now) ≡ true }
     ensures code { OnOk result (code.new.items ≡ code.old.items ++ instrs spot.line spot.place (set_steps scope.now.program scope.now.locals x.now (right_of right.now))) }
     ensures resume { IfOk result (λ n. (at : ℕ) → length code.old.items ≡ at + 1 → n ≡ resume_of scope.now.program scope.now.locals at (tree.set x.now (right_of right.now))) }
 {
@@ -178,7 +181,8 @@ pub fn assign(
     x: &Name,
     right: &Right,
 ) -> Result<(), NoMemory>
-    requires { takes_right scope.now.program (right_of right.now) ≡ true }
+    requires known { knows_right scope.now.program scope.now.locals x.now (right_of right.now) ≡ true }
+    requires counted { takes_right scope.now.program (right_of right.now) ≡ true }
     ensures code { OnOk result (code.new.items ≡ code.old.items ++ instrs spot.line spot.place (simple_steps scope.now.program scope.now.locals (tree.set x.now (right_of right.now)))) }
     ensures sites { OnOk result (sites.new.items ≡ sites.old.items ++ site spot.line (resume_of scope.now.program scope.now.locals (length code.old.items) (tree.set x.now (right_of right.now))) ∷ []) }
 {
@@ -200,6 +204,7 @@ pub fn set_cell(
     i: &Expr,
     e: &Expr,
 ) -> Result<(), NoMemory>
+    requires { knows_simple scope.now.program scope.now.locals (tree.set_cell x.now (expression_of i.now) (expression_of e.now)) ≡ true }
     ensures code { OnOk result (code.new.items ≡ code.old.items ++ instrs spot.line spot.place (simple_steps scope.now.program scope.now.locals (tree.set_cell x.now (expression_of i.now) (expression_of e.now)))) }
     ensures sites { OnOk result (sites.new.items ≡ sites.old.items ++ site spot.line 0 ∷ []) }
 {
@@ -226,7 +231,8 @@ pub fn call_alone(
     f: &Name,
     es: &Exprs,
 ) -> Result<(), NoMemory>
-    requires { takes scope.now.program.funcs f.now (length (expressions_of es.now)) ≡ true }
+    requires known { knows_call scope.now.program scope.now.locals f.now (expressions_of es.now) ≡ true }
+    requires counted { takes scope.now.program.funcs f.now (length (expressions_of es.now)) ≡ true }
     ensures code { OnOk result (code.new.items ≡ code.old.items ++ instrs spot.line spot.place (simple_steps scope.now.program scope.now.locals (Simple.call f.now (expressions_of es.now)))) }
     ensures sites { OnOk result (sites.new.items ≡ sites.old.items ++ site spot.line (resume_of scope.now.program scope.now.locals (length code.old.items) (Simple.call f.now (expressions_of es.now))) ∷ []) }
 {
@@ -247,6 +253,7 @@ pub fn give_back(
     spot: Spot,
     e: &Option<Expr>,
 ) -> Result<(), NoMemory>
+    requires { knows_returned scope.now.program scope.now.locals (returned_of e.now) ≡ true }
     ensures code { OnOk result (code.new.items ≡ code.old.items ++ instrs spot.line spot.place (simple_steps scope.now.program scope.now.locals (tree.return (returned_of e.now)))) }
     ensures sites { OnOk result (sites.new.items ≡ sites.old.items ++ site spot.line 0 ∷ []) }
 {
@@ -306,6 +313,7 @@ pub fn join(
     spot: Spot,
     e: &Expr,
 ) -> Result<(), NoMemory>
+    requires { knows scope.now.program scope.now.locals (expression_of e.now) ≡ true }
     ensures code { OnOk result (code.new.items ≡ code.old.items ++ instrs spot.line spot.place (simple_steps scope.now.program scope.now.locals (tree.join (expression_of e.now)))) }
     ensures sites { OnOk result (sites.new.items ≡ sites.old.items ++ site spot.line 0 ∷ []) }
 {
@@ -326,6 +334,7 @@ pub fn print(
     spot: Spot,
     e: &Expr,
 ) -> Result<(), NoMemory>
+    requires { knows scope.now.program scope.now.locals (expression_of e.now) ≡ true }
     ensures code { OnOk result (code.new.items ≡ code.old.items ++ instrs spot.line spot.place (simple_steps scope.now.program scope.now.locals (tree.print (expression_of e.now)))) }
     ensures sites { OnOk result (sites.new.items ≡ sites.old.items ++ site spot.line 0 ∷ []) }
 {

@@ -1,8 +1,10 @@
 -- One step of the machine is one step of the thread.
-use Rattle.std.proofs.Common.{ℕ, ◌≡◌, ℤ, Some, sym, ap, subst, slice_get}
+use Rattle.std.proofs.Common.{ℕ, ◌≡◌, ◌<◌, ◌∙◌, List, ℤ, Some, sym, ap, subst, slice_get, get_or, length}
+use Rattle.std.proofs.lemmas.Option.{slice_get-get_or}
 use Rattle.loom_lang.specs.Trace.{out}
 use Rattle.loom_flow.specs.declared.code.Instr.{Instr}
 use Rattle.loom_flow.specs.Flow.{Flow}
+use Rattle.loom_flow.specs.State.{State}
 use Rattle.loom_flow.specs.Position.{Position}
 use Rattle.loom_flow.specs.Progress.{goes, returns, of_step, of_instr, progress}
 use Rattle.loom_strand.specs.declared.machine.Phase.{Phase}
@@ -26,3 +28,9 @@ leaves_advances c old new result v is h = subst (At c old new result) (sym (ap (
 
 pub sound_before : (c : Flow) (m : Machine) (x : Phase) → m.phase ≡ x → IsSoundPosition c (position m) → IsSoundPosition c (position_in x m.state)
 sound_before c m x is h = subst (λ y. IsSoundPosition c (position_in y m.state)) is h
+
+-- the instruction that stands at the thread's number in the code that was handed out
+pub code_at : (c : Flow) (code : List Instr) (z : State) (at : ℕ) (d : Instr) → at ≡ z.at → code ≡ c.code → z.at < length c.code → slice_get c.code z.at ≡ Some (get_or code at d)
+code_at c code z at d here is h =
+    ap (slice_get c.code) (sym here) ∙ ap (λ is. slice_get is at) (sym is)
+    ∙ slice_get-get_or code at d (subst (λ is. at < length is) (sym is) (subst (λ n. n < length c.code) (sym here) h))

@@ -98,7 +98,7 @@ blocked_by t q (x ∷ es) told h =
 
 -- What it does
 
-pub blocked_waits : (x : Entry) → is_blocked_entry x ≡ true → reply_of x ≡ a.Waits
+pub blocked_waits : (x : Entry) → is_blocked_entry x ≡ true → reply_of x ≡ Some a.Waits
 blocked_waits (e.Blocked t l what) h = refl
 blocked_waits _ h = cc
 

@@ -9,7 +9,9 @@ use Rattle.loom_flow.specs.State.{at_start, locals_now}
 use Rattle.loom_flow.specs.Position.{Position, before, over}
 use Rattle.loom_flow.specs.Question.{Question}
 use Rattle.loom_flow.specs.Progress.{Progress, goes, asks, traps, ends, nothing, progress}
+use Rattle.loom_flow.specs.Flow.{Flow}
 use Rattle.loom_flow.specs.FlatCode.{lowered}
+use Rattle.loom_flow.specs.Code.{IsLowered}
 use Rattle.loom_trace.specs.declared.entry.Entry.{Entry}
 use Rattle.loom_trace.specs.declared.entry.Entry.TheVariants as e
 use Rattle.loom_trace.specs.declared.entry.What.{What}
@@ -27,7 +29,7 @@ use Rattle.loom_strand.specs.declared.machine.Phase.{Phase}
 use Rattle.loom_strand.specs.declared.machine.Phase.TheVariants as phase
 use Rattle.loom_strand.specs.declared.reply.Reply.{Reply}
 use Rattle.loom_strand.specs.declared.reply.Reply.TheVariants as a
-use Rattle.loom_strand.specs.Machine.{Machine, position_in, position, with_position, TakesAnswer}
+use Rattle.loom_strand.specs.Machine.{Machine, position_in, position, with_position, HasPlaceHere, TakesAnswer}
 use Rattle.loom_strand.specs.PositionRequest.{question_request, request_at}
 use Rattle.loom_strand.specs.Reply.{reply_of, still_wanted, IsAsking, CanFollow, BeginsAt, Follows}
 use Rattle.loom_strand.specs.Life.{is_end}
@@ -36,7 +38,8 @@ use Rattle.loom_strand.specs.PlainWalk.{IsPlainWalk}
 use Rattle.loom_strand.specs.StrandInvariant.{IsSoundPosition, HasRoom, GoesOnFrom, end_line, thread_with, IsIdle, AsksTick, AsksHere, WaitingInvariant, RunningInvariant, AsksAgain, EndInvariant, StageInvariant, IsBlank, StrandInvariant}
 use Rattle.loom_strand.proofs.Walks.{items_append, is_begin, walk_begin, walk_enter, walk_act, walk_told, walk_tick}
 use Rattle.loom_strand.proofs.GoesOn.{is_lowered, tree_trace, whole, traps_on, IsGrant, IsTrap, answers, granted_on, trapped_on, begun_on}
-use Rattle.loom_strand.proofs.Soundness.{Keeps, keeps, sound_start, values_fit}
+use Rattle.loom_strand.proofs.Soundness.{Keeps, keeps, sound_start}
+use Rattle.loom_strand.proofs.Room.{room_at, locals_at}
 use Rattle.loom_strand.proofs.RunSteps.{with_position_at, with_position_room}
 use Rattle.loom_strand.proofs.Parts.{some_more, last_ends}
 use Rattle.loom_strand.proofs.Again.{last_blocked, act_free, grant_answers, answer_free, blocked_waits, blocked_wanted, free_wanted, blocked_told, no_begin_blocked, IsGrantBehind, grants_behind}
@@ -139,15 +142,19 @@ ended_over p l t b es wanted n z h owed at = record {
 
 -- What follows the answer
 
+abbrev pub HasFollowed : Flow → Machine → Machine → Birth → Option Reply → Stage → ℕ → Type 0
+HasFollowed c old new b None x n = ⊥
+HasFollowed c old new b (Some y) x n = Follows c old new b y x n
+
 -- the thread is kept, with this machine, stage and count
 record IsNext (s : Strand) (b : Birth) (x : Entry) (m : Machine) (st : Stage) (k : ℕ) : Type 0 where
   pub lawful : KeepsRules s.program
   pub room : HasRoom (lowered s.program) s.execution.machine
   pub birth : s.birth ≡ Some b
-  pub follows : Follows (lowered s.program) s.execution.machine m b (reply_of x) st k
+  pub follows : HasFollowed (lowered s.program) s.execution.machine m b (reply_of x) st k
 
-follows_as : (s : Strand) (b : Birth) (x : Entry) (m : Machine) (st : Stage) (k : ℕ) (y : Reply) → IsNext s b x m st k → reply_of x ≡ y → Follows (lowered s.program) s.execution.machine m b y st k
-follows_as s b x m st k y g is = subst (λ z. Follows (lowered s.program) s.execution.machine m b z st k) is g.follows
+follows_as : (s : Strand) (b : Birth) (x : Entry) (m : Machine) (st : Stage) (k : ℕ) (y : Reply) → IsNext s b x m st k → reply_of x ≡ Some y → Follows (lowered s.program) s.execution.machine m b y st k
+follows_as s b x m st k y g is = subst (λ z. HasFollowed (lowered s.program) s.execution.machine m b z st k) is g.follows
 
 kept_at : (s : Strand) (b : Birth) (x : Entry) (wanted : Option Request) (m : Machine) (st : Stage) (k n : ℕ) (y : Position) → KeepsRules s.program → s.birth ≡ Some b → HasRoom (lowered s.program) m
     → st ≡ stage.Runs → k ≡ n → position m ≡ y
@@ -201,7 +208,7 @@ tick_kept s b line place x m st k wanted g is h owed =
     (subst (λ y. RunningInvariant s.program s.thread b (s.entries ++ y ∷ []) None 0 (position s.execution.machine)) (sym is)
     (ticked_running s.program s.thread b s.entries wanted line place s.execution.passed (position s.execution.machine) h owed))
 
-stopped_kept : (s : Strand) (b : Birth) (line : ℕ) (act : Act) (x : Entry) (m : Machine) (st : Stage) (k : ℕ) (wanted : Option Request) → IsNext s b x m st k → reply_of x ≡ a.Traps
+stopped_kept : (s : Strand) (b : Birth) (line : ℕ) (act : Act) (x : Entry) (m : Machine) (st : Stage) (k : ℕ) (wanted : Option Request) → IsNext s b x m st k → reply_of x ≡ Some a.Traps
     → x ≡ entry_by s.thread line act → is_begin act ≡ false → is_end x ≡ false
     → (h : RunningInvariant s.program s.thread b s.entries wanted s.execution.passed (position s.execution.machine)) → h.owed ≡ []
     → GoesOnFrom (lowered s.program) (thread_with s.program b.func) b.func b.args (items h.steps ++ made line act ∷ []) over → StrandInvariant (after s x None m st k)
@@ -368,7 +375,7 @@ taken_kept s b q x m st k w g (by_grant h granted same) =
     none_wanted s x m st k (answer_free s.thread q x (grant_answers s.thread q x granted)) (again_kept s b x m st k (Some q) g h same)
 
 pub answered_kept : (s : Strand) (b : Birth) (wanted : Option Request) (x : Entry) (m : Machine) (st : Stage) (k : ℕ) → StrandInvariant s → s.birth ≡ Some b → s.wanted ≡ wanted
-    → IsReplyTo (ends_blocked s.entries) s.thread wanted x → Follows (lowered s.program) s.execution.machine m b (reply_of x) st k
+    → IsReplyTo (ends_blocked s.entries) s.thread wanted x → HasFollowed (lowered s.program) s.execution.machine m b (reply_of x) st k
     → StrandInvariant (after s x (still_wanted (reply_of x) s.wanted) m st k)
 answered_kept s b None x m st k h e w reply f = absurd reply
 answered_kept s b (Some q) x m st k h e w reply f =
@@ -388,28 +395,30 @@ answer_started s (Some b) (Some q) x h e w reply = tt
 
 -- An answer is taken by a machine that can take it.
 
-can_as : (s : Strand) (b : Birth) (x : Entry) (y : Reply) → reply_of x ≡ y → CanFollow (lowered s.program) s.execution.machine b y → CanFollow (lowered s.program) s.execution.machine b (reply_of x)
-can_as s b x y is h = subst (CanFollow (lowered s.program) s.execution.machine b) (sym is) h
+abbrev pub CanFollowAny : Flow → Machine → Birth → Option Reply → Type 0
+CanFollowAny c m b None = ⊥
+CanFollowAny c m b (Some y) = CanFollow c m b y
+
+can_as : (s : Strand) (b : Birth) (x : Entry) (y : Reply) → reply_of x ≡ Some y → CanFollow (lowered s.program) s.execution.machine b y → CanFollowAny (lowered s.program) s.execution.machine b (reply_of x)
+can_as s b x y is h = subst (CanFollowAny (lowered s.program) s.execution.machine b) (sym is) h
 
 -- where it asks it is before an instruction
-values_room : (s : Strand) (b : Birth) (line : ℕ) (q : Question) (behind : ℤ → Position) → HasRoom (lowered s.program) s.execution.machine → IsSoundPosition (lowered s.program) (position s.execution.machine)
-    → progress (lowered s.program) (position s.execution.machine) ≡ asks line q behind → length s.execution.machine.state.values < s.execution.machine.most_values
-values_room s b line q behind room sound at = by_phase s.execution.machine.phase refl sound at
+place_asks : (c : Flow) (m : Machine) (line : ℕ) (q : Question) (behind : ℤ → Position) → IsLowered c → HasRoom c m → IsSoundPosition c (position m) → progress c (position m) ≡ asks line q behind → HasPlaceHere c m
+place_asks c m line q behind l room sound at = by_phase m.phase sound at
   where
-    by_phase : (y : Phase) → s.execution.machine.phase ≡ y → IsSoundPosition (lowered s.program) (position_in y s.execution.machine.state) → progress (lowered s.program) (position_in y s.execution.machine.state) ≡ asks line q behind
-        → length s.execution.machine.state.values < s.execution.machine.most_values
-    by_phase phase.Before is h g = values_fit (lowered s.program) s.execution.machine s.execution.machine.state room h
-    by_phase (phase.Leaves v) is h g = cc
-    by_phase phase.Over is h g = cc
+    by_phase : (y : Phase) → IsSoundPosition c (position_in y m.state) → progress c (position_in y m.state) ≡ asks line q behind → HasPlaceHere c m
+    by_phase phase.Before h g = λ i e. (room_at c m i l room h e, locals_at c m.state.at i l e)
+    by_phase (phase.Leaves v) h g = cc
+    by_phase phase.Over h g = cc
 
 can_here : (s : Strand) (b : Birth) (q : Request) (x : Entry) (es : List Entry) (n : ℕ) → KeepsRules s.program → HasRoom (lowered s.program) s.execution.machine → IsAnswerTo s.thread q x
     → RunningInvariant s.program s.thread b es (Some q) n (position s.execution.machine)
-    → (w : Progress) → progress (lowered s.program) (position s.execution.machine) ≡ w → request_at (end_line s.program b.func) w ≡ Some q → CanFollow (lowered s.program) s.execution.machine b (reply_of x)
+    → (w : Progress) → progress (lowered s.program) (position s.execution.machine) ≡ w → request_at (end_line s.program b.func) w ≡ Some q → CanFollowAny (lowered s.program) s.execution.machine b (reply_of x)
 can_here s b q x es n l room answered h (goes mark y) at is = absurd (no_request q is)
 can_here s b q x es n l room answered h (asks line u behind) at is = either_way (answers (lowered s.program) s.program b.func s.thread line u behind x (subst (λ o. IsAnswerTo s.thread o x) (sym (same_request (question_request line u) q is)) answered))
   where
-    either_way : IsGrant (lowered s.program) s.program b.func s.thread line u behind x ⊎ IsTrap (lowered s.program) s.program b.func s.thread line u behind x → CanFollow (lowered s.program) s.execution.machine b (reply_of x)
-    either_way (inl y) = can_as s b x (a.Gives y.value) y.answer (subst IsAsking (sym at) tt, values_room s b line u behind room h.sound at)
+    either_way : IsGrant (lowered s.program) s.program b.func s.thread line u behind x ⊎ IsTrap (lowered s.program) s.program b.func s.thread line u behind x → CanFollowAny (lowered s.program) s.execution.machine b (reply_of x)
+    either_way (inl y) = can_as s b x (a.Gives y.value) y.answer (subst IsAsking (sym at) tt, place_asks (lowered s.program) s.execution.machine line u behind (is_lowered s.program l) room h.sound at)
     either_way (inr y) = can_as s b x a.Traps y.answer tt
 can_here s b q x es n l room answered h (traps line cause) at is =
     can_as s b x a.Traps (ap reply_of (trap_answer s.thread line cause x (subst (λ o. IsAnswerTo s.thread o x) (sym (same_request (r.Trap line (reason cause)) q is)) answered))) tt
@@ -418,17 +427,17 @@ can_here s b q x es n l room answered h ends at is =
 can_here s b q x es n l room answered h nothing at is = absurd (no_request q is)
 
 can_running : (s : Strand) (b : Birth) (q : Request) (x : Entry) (es : List Entry) (n : ℕ) → KeepsRules s.program → HasRoom (lowered s.program) s.execution.machine → IsAnswerTo s.thread q x
-    → RunningInvariant s.program s.thread b es (Some q) n (position s.execution.machine) → CanFollow (lowered s.program) s.execution.machine b (reply_of x)
+    → RunningInvariant s.program s.thread b es (Some q) n (position s.execution.machine) → CanFollowAny (lowered s.program) s.execution.machine b (reply_of x)
 can_running s b q x es n l room answered h = by_owed h.asks
   where
     by_owed : IsIdle (Some q) h.owed n ⊎ (AsksTick (Some q) h.owed ⊎ AsksHere (lowered s.program) (end_line s.program b.func) (position s.execution.machine) (Some q) h.owed)
-        → CanFollow (lowered s.program) s.execution.machine b (reply_of x)
+        → CanFollowAny (lowered s.program) s.execution.machine b (reply_of x)
     by_owed (inl y) = absurd (no_request q (sym y.0))
     by_owed (inr (inl (line, place, is, owed))) = can_as s b x a.Ticks (ap reply_of (tick_answer s.thread line place q x (same_request (r.Tick line place) q (sym is)) answered)) tt
     by_owed (inr (inr (u, is, at, owed))) = can_here s b q x es n l room answered h (progress (lowered s.program) (position s.execution.machine)) refl (at ∙ sym is)
 
 can_take : (s : Strand) (b : Birth) (q : Request) (x : Entry) → KeepsRules s.program → HasRoom (lowered s.program) s.execution.machine → IsTaken s b q x
-    → CanFollow (lowered s.program) s.execution.machine b (reply_of x)
+    → CanFollowAny (lowered s.program) s.execution.machine b (reply_of x)
 can_take s b q x l room (by_begin blank h answered) =
     can_as s b x a.Begins
     (ap reply_of (begin_answer s.thread (end_line s.program b.func) q x (only_begin (end_line s.program b.func) q (Some q) refl h.asks) answered))
@@ -438,6 +447,6 @@ can_take s b q x l room (by_blocked h told) = can_as s b x a.Waits (blocked_wait
 can_take s b q x l room (by_grant h granted same) = can_running s b h.request x h.front h.count l room (grant_answers s.thread h.request x same) h.runs
 
 pub can_answer : (s : Strand) (b : Birth) (wanted : Option Request) (x : Entry) → StrandInvariant s → s.birth ≡ Some b → s.wanted ≡ wanted → IsReplyTo (ends_blocked s.entries) s.thread wanted x
-    → CanFollow (lowered s.program) s.execution.machine b (reply_of x)
+    → CanFollowAny (lowered s.program) s.execution.machine b (reply_of x)
 can_answer s b None x h e w reply = absurd reply
 can_answer s b (Some q) x h e w reply = can_take s b q x h.lawful h.room (taken s b q x h e w reply)

@@ -21,6 +21,8 @@ use Rattle.loom_flow.specs.Question.{read, write}
 use Rattle.loom_flow.specs.Progress.{Progress, goes, traps, on, of_compute, in_array, asks_value, asks_act, of_ask, calls, returns, of_control, of_step, of_instr, progress}
 use Rattle.loom_flow.specs.Code.{IsLowered}
 use Rattle.loom_flow.specs.Laws.{LeadsInto}
+use Rattle.loom_law.specs.Walk.{tick_after}
+use Rattle.loom_strand.specs.Machine.{frames_below}
 use Rattle.loom_strand.specs.StrandInvariant.{IsSoundPosition}
 use Rattle.loom_strand.proofs.Soundness.{leads_at, instr_at, keeps, Keeps}
 
@@ -36,7 +38,7 @@ ahead c over = 0
 
 -- how far it is at most to the next request, where so many places were passed
 abbrev pub left : Flow → ℕ → Position → ℕ
-left c n z = (1000 - n) * (256 * frame_steps c) + ahead c z
+left c n z = (tick_after - n) * (frame_limit * frame_steps c) + ahead c z
 
 -- Numbers
 
@@ -46,8 +48,8 @@ frame_falls b l at to = omega arith
 step_falls : (w l at to : ℕ) → at < l → at < to → w + (2 + (l - to)) < w + (2 + (l - at))
 step_falls w l at to h g = omega (arith, h, g)
 
-frames_fit : (b l w : ℕ) → b ≤ 255 → w < 3 + l → b * (3 + l) + w < 256 * (3 + l)
-frames_fit b l w h g = omega (arith, g, mul-le-mul_right {m = b} {n = 255} (3 + l) h)
+frames_fit : (b l w : ℕ) → b ≤ frames_below → w < 3 + l → b * (3 + l) + w < frame_limit * (3 + l)
+frames_fit b l w h g = omega (arith, g, mul-le-mul_right {m = b} {n = frames_below} (3 + l) h)
 
 pass_falls : (m n k v w : ℕ) → suc n < m → w < k → (m - suc n) * k + w < (m - n) * k + v
 pass_falls m n k v w h g =
@@ -140,13 +142,13 @@ falls c z y mark l h p e n =
     let nearer : ahead c y < ahead c z = near e in
     omega (arith, nearer)
 
-fits : (c : Flow) (z : Position) → IsSoundPosition c z → ahead c z < 256 * frame_steps c
+fits : (c : Flow) (z : Position) → IsSoundPosition c z → ahead c z < frame_limit * frame_steps c
 fits c (before z) h = frames_fit (length z.below) (length c.code) (2 + (length c.code - z.at)) h.frames.few (omega arith)
 fits c (leaves z v) h = frames_fit (length z.below) (length c.code) 1 h.frames.few (omega arith)
 fits c over h = omega arith
 
 -- where a place is passed, and it isn't the thousandth
-pub falls_passing : (c : Flow) (z y : Position) (mark : Option Item) → IsLowered c → IsSoundPosition c z → progress c z ≡ goes mark y → (n : ℕ) → suc n < 1000 → left c (suc n) y < left c n z
+pub falls_passing : (c : Flow) (z y : Position) (mark : Option Item) → IsLowered c → IsSoundPosition c z → progress c z ≡ goes mark y → (n : ℕ) → suc n < tick_after → left c (suc n) y < left c n z
 falls_passing c z y mark l h p n few =
     let next : Keeps c (goes mark y) = subst (Keeps c) p (keeps c z l h) in
-    pass_falls 1000 n (256 * frame_steps c) (ahead c z) (ahead c y) few (fits c y next)
+    pass_falls tick_after n (frame_limit * frame_steps c) (ahead c z) (ahead c y) few (fits c y next)

@@ -1,7 +1,8 @@
--- A call or a spawn has four arguments at most, and its function an entrance.
+-- A call or a spawn has few arguments, and its function an entrance.
 use Rattle.std.proofs.Common.{ℕ, ◌≡◌, ◌≤◌, ◌<◌, length, Some, sym, subst, slice_get, arith}
 use Rattle.std.proofs.lemmas.Option.{slice_get_within}
 use Rattle.loom_tree.specs.Tree.{Source}
+use Rattle.loom_lang.specs.Limits.{param_limit}
 use Rattle.loom_lang.specs.Rules.{KeepsRules}
 use Rattle.loom_flow.specs.declared.code.Ask.{Ask}
 use Rattle.loom_flow.specs.declared.code.Ask.TheVariants.{Spawn}
@@ -17,9 +18,9 @@ use Rattle.loom_flow.proofs.Forward.{lawful_at, lowered_forward}
 use Rattle.loom_strand.specs.Machine.{AskHasFewArguments, CallsFunction, TakesFewArguments}
 use Rattle.loom_strand.proofs.RequestKinds.{numbers_at}
 
-pub few_params : (p : Source) (f n : ℕ) → KeepsRules p → HasParams p f n → n ≤ 4
+pub few_params : (p : Source) (f n : ℕ) → KeepsRules p → HasParams p f n → n ≤ param_limit
 few_params p f n l h =
-    let few : length h.0.params ≤ 4 = (lawful_at p p.funcs f h.0 l.functions h.1).params in
+    let few : length h.0.params ≤ param_limit = (lawful_at p p.funcs f h.0 l.functions h.1).params in
     let same : n ≡ length h.0.params = h.2 in
     omega arith
 

@@ -81,7 +81,7 @@ pub record IsGrant (c : Flow) (p : Source) (f t line : ℕ) (q : Question) (behi
   pub value : ℤ
   pub deed : Deed
   pub entry : x ≡ entry_by t deed.line deed.act
-  pub answer : reply_of x ≡ a.Gives value
+  pub answer : reply_of x ≡ Some (a.Gives value)
   pub lives : is_end x ≡ false
   pub other : is_begin deed.act ≡ false
   pub gives : (es : List Item) (o : Outcome) (n : ℕ) → runs c (thread_with p f) n (behind value) es o
@@ -91,14 +91,14 @@ pub record IsGrant (c : Flow) (p : Source) (f t line : ℕ) (q : Question) (behi
 pub record IsTrap (c : Flow) (p : Source) (f t line : ℕ) (q : Question) (behind : ℤ → Position) (x : Entry) : Type 0 where
   pub deed : Deed
   pub entry : x ≡ entry_by t deed.line deed.act
-  pub answer : reply_of x ≡ a.Traps
+  pub answer : reply_of x ≡ Some a.Traps
   pub lives : is_end x ≡ false
   pub other : is_begin deed.act ≡ false
   pub gives : (es : List Item) (o : Outcome) (n : ℕ) → (thread_with p f).stopped es o
       → question_lists (thread_with p f) line q (λ v. runs c (thread_with p f) n (behind v)) (made deed.line deed.act ∷ es) o
 
 -- an entry that gives no value, and a trap
-act_grant : (c : Flow) (p : Source) (f t line : ℕ) (q : Question) (behind : ℤ → Position) (x : Entry) (act : Act) → x ≡ entry_by t line act → reply_of (entry_by t line act) ≡ a.Gives (pos 0)
+act_grant : (c : Flow) (p : Source) (f t line : ℕ) (q : Question) (behind : ℤ → Position) (x : Entry) (act : Act) → x ≡ entry_by t line act → reply_of (entry_by t line act) ≡ Some (a.Gives (pos 0))
     → is_end (entry_by t line act) ≡ false → is_begin act ≡ false
     → ((es : List Item) (o : Outcome) (n : ℕ) → runs c (thread_with p f) n (behind (pos 0)) es o → question_lists (thread_with p f) line q (λ v. runs c (thread_with p f) n (behind v)) (made line act ∷ es) o)
     → IsGrant c p f t line q behind x ⊎ IsTrap c p f t line q behind x
@@ -106,7 +106,7 @@ act_grant c p f t line q behind x act e answer lives other gives = inl (record {
   value = pos 0;
   deed = record { line = line; act = act };
   entry = e;
-  answer = subst (λ y. reply_of y ≡ a.Gives (pos 0)) (sym e) answer;
+  answer = subst (λ y. reply_of y ≡ Some (a.Gives (pos 0))) (sym e) answer;
   lives = subst (λ y. is_end y ≡ false) (sym e) lives;
   other = other;
   gives = gives;

@@ -1,6 +1,7 @@
 pub mod Advance
 pub mod Again
 pub mod AnswerLaws
+pub mod Asking
 pub mod RequestKinds
 pub mod Cells
 pub mod Entrances
@@ -15,7 +16,6 @@ pub mod Parts
 pub mod PrivateRuns
 pub mod Room
 pub mod RunSteps
-pub mod Small
 pub mod Soundness
 pub mod Stacks
 pub mod Walks

@@ -1,15 +1,17 @@
 -- The locals of a frame.
-use Rattle.std.proofs.Common.{pos, min, ◌+◌, get_or, take, ℕ, zero, suc, ◌≡◌, ◌≤◌, ◌<◌, List, [], ◌∷◌, ℤ, slice_set, length, refl, sym, ap, ◌∙◌, arith}
-use Rattle.std.proofs.lemmas.List.{set_past, take_min}
-use Rattle.loom_flow.specs.State.{put_at, filled}
+use Rattle.std.proofs.Common.{pos, min, ◌+◌, get_or, take, ℕ, zero, suc, ◌≡◌, ◌≤◌, ◌<◌, List, [], ◌∷◌, ℤ, slice_get, slice_set, length, refl, sym, ap, ◌∙◌, arith}
+use Rattle.std.proofs.lemmas.List.{take_min}
+use Rattle.loom_flow.specs.State.{value_of, put_at, filled}
 
 pub put_set : (x : ℕ) (v : ℤ) (ws : List ℤ) → put_at x v ws ≡ slice_set ws x v
 put_set x v [] = refl
 put_set zero v (w ∷ ws) = refl
 put_set (suc x) v (w ∷ ws) = ap (λ us. w ∷ us) (put_set x v ws)
 
-pub put_past : (x : ℕ) (v : ℤ) (ws : List ℤ) → length ws ≤ x → put_at x v ws ≡ ws
-put_past x v ws h = put_set x v ws ∙ set_past ws x v h
+pub local_read : (vs : List ℤ) (x : ℕ) → get_or vs x (pos 0) ≡ value_of (slice_get vs x)
+local_read [] x = refl
+local_read (v ∷ vs) zero = refl
+local_read (v ∷ vs) (suc x) = local_read vs x
 
 -- A new frame
 

@@ -11,7 +11,7 @@ use Rattle.loom_trace.specs.declared.entry.Entry.{Entry}
 use Rattle.loom_trace.specs.declared.request.Request.{Request}
 use Rattle.loom_trace.specs.declared.request.Request.TheVariants as r
 use Rattle.loom_event.specs.Answer.{IsFunctionWith}
-use Rattle.loom_law.specs.Walk.{tick, items, Queue}
+use Rattle.loom_law.specs.Walk.{tick, items, Queue, tick_after}
 use Rattle.loom_strand.specs.declared.stage.Birth.{Birth}
 use Rattle.loom_strand.specs.declared.stage.Stage.{Stage}
 use Rattle.loom_strand.specs.declared.stage.Stage.TheVariants as stage
@@ -79,7 +79,7 @@ free_sound c s b h = subst (λ d. IsSoundPosition d (position s.execution.machin
 pub free_room : (c : Flow) (s : Strand) (b : Birth) → IsFree c s b stage.Runs → HasRoom c s.execution.machine
 free_room c s b h = subst (λ d. HasRoom d s.execution.machine) (sym (flat_is c s.program h.lowered h.program)) h.kept.room
 
-pub free_few : (c : Flow) (s : Strand) (b : Birth) → IsFree c s b stage.Runs → s.execution.passed < 1000
+pub free_few : (c : Flow) (s : Strand) (b : Birth) → IsFree c s b stage.Runs → s.execution.passed < tick_after
 free_few c s b h = (idle s.program s.thread s.execution.passed b s.entries (position s.execution.machine) (free_running c s b h)).2
 
 -- the function of the thread is one of the program

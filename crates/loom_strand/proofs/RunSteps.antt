@@ -37,9 +37,9 @@ with_position_at a (leaves z v) = refl
 with_position_at a over = refl
 
 pub with_position_room : (c : Flow) (a : Machine) (z : Position) → HasRoom c a → HasRoom c (with_position a z)
-with_position_room c a (before z) h = record { values = h.values; some = h.some; frames = h.frames }
-with_position_room c a (leaves z v) h = record { values = h.values; some = h.some; frames = h.frames }
-with_position_room c a over h = record { values = h.values; some = h.some; frames = h.frames }
+with_position_room c a (before z) h = record { values = h.values; frames = h.frames }
+with_position_room c a (leaves z v) h = record { values = h.values; frames = h.frames }
+with_position_room c a over h = record { values = h.values; frames = h.frames }
 
 -- It was a step of this mark, to this position.
 pub record IsMove (c : Flow) (a b : Machine) (mark : Option Mark) : Type 0 where
@@ -143,7 +143,7 @@ ticked true place x e = (refl, cc)
 ticked false place x e = cc
 
 not_thousandth : (k : ℕ) → k < tick_after → (suc k == tick_after) ≡ false → suc k < tick_after
-not_thousandth k h e = let differs : suc k == 1000 ≡ false = e in let less : k < 1000 = h in let goal : suc k < 1000 = search (rules, arith) in goal
+not_thousandth k h e = let differs : suc k == tick_after ≡ false = e in let less : k < tick_after = h in let goal : suc k < tick_after = search (rules, arith) in goal
 
 -- These marks owe no tick: the walk goes over them with nothing owed, and the count grows by the place.
 pub record IsFarther (c : Flow) (a b d : Machine) (n k j : ℕ) : Type 0 where

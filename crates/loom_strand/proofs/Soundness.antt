@@ -2,6 +2,8 @@
 use Rattle.std.proofs.Common.{ℕ, suc, ◌+◌, ◌-◌, ◌&&◌, ◌≡◌, ◌≤◌, ◌<◌, Bool, true, false, List, [], ◌∷◌, ℤ, pos, negsuc, Option, Some, None, refl, sym, ap, subst, ◌∙◌, if◌then◌else◌}
 use Rattle.std.proofs.Common.{nat_lt, slice_get, length, drop, length-drop, ltb-true, arith}
 use Rattle.std.proofs.lemmas.Option.{slice_get-get_or, slice_get_within}
+use Rattle.loom_expression.specs.Text.{node_limit}
+use Rattle.loom_lang.specs.Limits.{param_limit}
 use Rattle.loom_lang.specs.Values.{is_zero, applied, divides, negated, inverted}
 use Rattle.loom_lang.specs.Trace.{frame_limit, division, index, frames}
 use Rattle.loom_lang.specs.Places.{places}
@@ -28,12 +30,11 @@ use Rattle.loom_flow.specs.Question.{read, write}
 use Rattle.loom_flow.specs.Code.{IsLowered}
 use Rattle.loom_flow.specs.FlatCode.{instr}
 use Rattle.loom_flow.specs.Depth.{pops, pushes, depth_before}
-use Rattle.loom_flow.specs.Laws.{IsInFunction, HasInstructionPlaces, HasStart, LeadsInto, JumpsForward, KeepsFunctions, KeepsDepth, HasOperands}
+use Rattle.loom_flow.specs.Laws.{IsInFunction, HasInstructionPlaces, HasStart, LeadsInto, JumpsForward, KeepsFunctions, KeepsDepth}
 use Rattle.loom_flow.proofs.Forward.{lowered_forward, lowered_keeps}
-use Rattle.loom_flow.proofs.FlowLaws.{instructions_of, as_many_sites}
-use Rattle.loom_strand.specs.Machine.{Machine}
-use Rattle.loom_strand.specs.StrandInvariant.{AllGoOn, IsBefore, IsSoundPosition, HasRoom}
-use Rattle.loom_strand.proofs.Small.{has_operands}
+use Rattle.loom_flow.proofs.FlowLaws.{instructions_of, as_many_sites, has_operands}
+use Rattle.loom_strand.specs.Machine.{frames_below}
+use Rattle.loom_strand.specs.StrandInvariant.{AllGoOn, IsBefore, IsSoundPosition}
 
 -- What comes of a step leaves the thread sound, and there is something that comes.
 abbrev pub Keeps : Flow → Progress → Type 0
@@ -45,7 +46,7 @@ Keeps c nothing = ⊥
 
 -- Values
 
-without_length : (a : Operand) (vs : List ℤ) → length (values_without a vs) ≡ length vs - pops a
+pub without_length : (a : Operand) (vs : List ℤ) → length (values_without a vs) ≡ length vs - pops a
 without_length o.Top vs = length-drop 1 vs
 without_length (o.Local x) vs = omega arith
 without_length (o.Number n) vs = omega arith
@@ -112,7 +113,7 @@ AreEntered c = (n : ℕ) (e : Entrance) → slice_get c.entrances n ≡ Some e �
 
 keeps_calls : (c : Flow) (z : State) (place f : ℕ) (vs ws : List ℤ) (e : Option Entrance) → IsBefore c z → AreEntered c → slice_get c.entrances f ≡ e → HasStart c f
     → place < length c.sites → resume (slice_get c.sites place) ≡ suc z.at → suc z.at < length c.code → depth_before c (suc z.at) ≡ Some 1
-    → suc (length z.below) ≤ 255 → length ws ≡ 0 → Keeps c (calls c (record z { values = ws }) place f vs e)
+    → suc (length z.below) ≤ frames_below → length ws ≡ 0 → Keeps c (calls c (record z { values = ws }) place f vs e)
 keeps_calls c z place f vs ws None h starts is start site resumes next one few empty = cc (start.1)
 keeps_calls c z place f vs ws (Some e) h starts is start site resumes next one few empty =
     let same : start.0 ≡ e = cc (start.1) in record {
@@ -144,20 +145,15 @@ control_keeps c z i (Call f n) h starts site leads depth =
 control_keeps c z i (Return a) h starts site leads depth = record { values = omega (arith, without_length a z.values, depth); frames = h.frames }
 control_keeps c z i Out h starts site leads depth = record { values = depth; frames = h.frames }
 
+-- Behind its answer an instruction leads to the next one.
+pub next_asked : (c : Flow) (at : ℕ) (i : Instr) (x : Ask) → LeadsInto (λ to. to < length c.code) c at i (s.Ask x) → suc at < length c.code
+next_asked c at i (Spawn f n d) leads = leads.0
+next_asked c at i _ leads = leads
+
 step_keeps : (c : Flow) (z : State) (i : Instr) (x : Step) → IsBefore c z → AreEntered c → i.place < length c.sites
     → LeadsInto (λ to. to < length c.code) c z.at i x → KeepsDepth c z.at (length z.values) x → Keeps c (of_step c z i x)
 step_keeps c z i (s.Compute x) h starts site leads depth = compute_keeps c z i.line x h leads depth
-step_keeps c z i (s.Ask (Spawn f n d)) h starts site leads depth = ask_keeps c z i.line (Spawn f n d) h leads.0 depth
-step_keeps c z i (s.Ask (Read w d)) h starts site leads depth = ask_keeps c z i.line (Read w d) h leads depth
-step_keeps c z i (s.Ask (ReadCell a n d)) h starts site leads depth = ask_keeps c z i.line (ReadCell a n d) h leads depth
-step_keeps c z i (s.Ask (Write w a)) h starts site leads depth = ask_keeps c z i.line (Write w a) h leads depth
-step_keeps c z i (s.Ask (WriteCell a n b)) h starts site leads depth = ask_keeps c z i.line (WriteCell a n b) h leads depth
-step_keeps c z i (s.Ask (Lock m)) h starts site leads depth = ask_keeps c z i.line (Lock m) h leads depth
-step_keeps c z i (s.Ask (Unlock m)) h starts site leads depth = ask_keeps c z i.line (Unlock m) h leads depth
-step_keeps c z i (s.Ask (Down x)) h starts site leads depth = ask_keeps c z i.line (Down x) h leads depth
-step_keeps c z i (s.Ask (Up x)) h starts site leads depth = ask_keeps c z i.line (Up x) h leads depth
-step_keeps c z i (s.Ask (Join a)) h starts site leads depth = ask_keeps c z i.line (Join a) h leads depth
-step_keeps c z i (s.Ask (Print a)) h starts site leads depth = ask_keeps c z i.line (Print a) h leads depth
+step_keeps c z i (s.Ask x) h starts site leads depth = ask_keeps c z i.line x h (next_asked c z.at i x leads) depth
 step_keeps c z i (s.Control x) h starts site leads depth = control_keeps c z i x h starts site leads depth
 
 -- At an instruction of the code
@@ -167,8 +163,7 @@ leads_at c z i l e = subst JumpsForward (sym l.is) (lowered_forward c.program l.
 
 pub depth_at : (c : Flow) (z : State) (i : Instr) → IsLowered c → slice_get c.code z.at ≡ Some i → IsBefore c z → KeepsDepth c z.at (length z.values) i.step
 depth_at c z i l e h =
-    let operands : (n : ℕ) × HasOperands c n = has_operands c l in
-    let found : (d : ℕ) × (depth_before c z.at ≡ Some d) × (d ≤ operands.0) × KeepsDepth c z.at d i.step = operands.1.instructions z.at i e in
+    let found : (d : ℕ) × (depth_before c z.at ≡ Some d) × (d ≤ node_limit + param_limit) × KeepsDepth c z.at d i.step = (has_operands c l).instructions z.at i e in
     let same : found.0 ≡ length z.values = cc (found.1, h.values) in
     subst (λ d. KeepsDepth c z.at d i.step) same found.3
 
@@ -181,7 +176,7 @@ site_at c at i l e =
 pub instr_at : (c : Flow) (z : State) → IsBefore c z → (i : Instr) × (slice_get c.code z.at ≡ Some i)
 instr_at c z h = (_, slice_get-get_or c.code z.at (instr 0 0 (s.Control Out)) h.inside)
 
-keeps_returns : (c : Flow) (vs : List ℤ) (v : ℤ) (fs : List Frame) → length vs ≡ 0 → length fs ≤ 255 → AllGoOn c fs → IsSoundPosition c (returns c vs v fs)
+keeps_returns : (c : Flow) (vs : List ℤ) (v : ℤ) (fs : List Frame) → length vs ≡ 0 → length fs ≤ frames_below → AllGoOn c fs → IsSoundPosition c (returns c vs v fs)
 keeps_returns c vs v [] e n h = tt
 keeps_returns c vs v (f ∷ fs) e n h = record {
   inside = h.0.inside;
@@ -193,7 +188,7 @@ pub keeps : (c : Flow) (z : Position) → IsLowered c → IsSoundPosition c z �
 keeps c (before z) l h =
     let here : (i : Instr) × (slice_get c.code z.at ≡ Some i) = instr_at c z h in
     subst (λ o. Keeps c (of_instr c z o)) (sym here.1)
-    (step_keeps c z here.0 here.0.step h (has_operands c l).1.starts (site_at c z.at here.0 l here.1) (leads_at c z here.0 l here.1) (depth_at c z here.0 l here.1 h))
+    (step_keeps c z here.0 here.0.step h (has_operands c l).starts (site_at c z.at here.0 l here.1) (leads_at c z here.0 l here.1) (depth_at c z here.0 l here.1 h))
 keeps c (leaves z v) l h = keeps_returns c z.values v z.below h.values h.frames.few h.frames.go_on
 keeps c over l h = tt
 
@@ -201,8 +196,4 @@ keeps c over l h = tt
 pub sound_start : (c : Flow) → IsLowered c → (n : ℕ) (e : Entrance) → slice_get c.entrances n ≡ Some e → (vs : List ℤ) → IsBefore c (at_start n e vs [] [])
 sound_start c l n e is vs =
     let kept : KeepsFunctions c = subst KeepsFunctions (sym l.is) (lowered_keeps c.program l.lawful) in
-    record { inside = kept.inside n e.start (kept.starts n e is); values = (has_operands c l).1.starts n e is; frames = record { few = omega arith; go_on = tt } }
-
--- room for one value more
-pub values_fit : (c : Flow) (m : Machine) (z : State) → HasRoom c m → IsBefore c z → length z.values < m.most_values
-values_fit c m z room h = room.values z.at (length z.values) h.inside h.values
+    record { inside = kept.inside n e.start (kept.starts n e is); values = (has_operands c l).starts n e is; frames = record { few = omega arith; go_on = tt } }

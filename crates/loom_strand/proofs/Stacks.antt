@@ -1,9 +1,9 @@
 -- A stack whose list has the top last.
 use Rattle.std.proofs.Common.{ℕ, pos, ◌<◌, get_or, ◌-◌, ◌≡◌, ◌≤◌, ◌⊎◌, inl, inr, List, [], ◌∷◌, ◌++◌, ℤ, Some, slice_get, length, take, drop, reverse, refl, sym, ap, subst, ◌∙◌, arith}
-use Rattle.std.proofs.lemmas.List.{get_or-reverse, get_or_past, get_or_default, reverse-append, reverse-reverse, length-reverse, length-drop, length-append, take_at}
+use Rattle.std.proofs.lemmas.List.{get_or-reverse, get_or_default, reverse-append, reverse-reverse, length-reverse, length-drop, length-append, take_at}
 use Rattle.std.proofs.lemmas.List.{take_all, take-append-drop, drop_at, drop_all}
 use Rattle.std.proofs.lemmas.Bool.{cases_lt}
-use Rattle.loom_flow.specs.State.{top, value_of}
+use Rattle.loom_flow.specs.State.{top}
 use Rattle.loom_strand.specs.Stack.{first}
 
 pub put_last : {A : Type 0} (xs : List A) (x : A) → reverse (xs ++ x ∷ []) ≡ x ∷ reverse xs
@@ -30,13 +30,6 @@ last_of : {A : Type 0} (x : A) (xs : List A) → slice_get (reverse (x ∷ xs)) 
 last_of x xs =
     subst (λ ys. slice_get ys (length ys - 1) ≡ Some x) (sym (put_first x xs))
     (subst (λ n. slice_get (reverse xs ++ x ∷ []) n ≡ Some x) (omega (arith, length-append (reverse xs) (x ∷ []))) (at_end (reverse xs) x))
-
-top_of : (vs : List ℤ) → top vs ≡ value_of (slice_get (reverse vs) (length (reverse vs) - 1))
-top_of [] = refl
-top_of (v ∷ vs) = ap value_of (sym (last_of v vs))
-
-pub top_last : (xs : List ℤ) → top (reverse xs) ≡ value_of (slice_get xs (length xs - 1))
-top_last xs = subst (λ ys. top (reverse xs) ≡ value_of (slice_get ys (length ys - 1))) (reverse-reverse xs) (top_of (reverse xs))
 
 first_of : {A : Type 0} (fs : List A) → first fs ≡ slice_get (reverse fs) (length (reverse fs) - 1)
 first_of [] = refl
@@ -92,9 +85,17 @@ second_at : (xs : List ℤ) → 2 ≤ length xs → top (drop 1 (reverse xs)) �
 second_at xs h =
     second_of (reverse xs) ∙ get_or-reverse xs 1 (pos 0) (omega (arith, h))
 
+first_of_all : (ys : List ℤ) → top ys ≡ get_or ys 0 (pos 0)
+first_of_all [] = refl
+first_of_all (y ∷ ys) = refl
+
+top_at : (xs : List ℤ) → 1 ≤ length xs → top (reverse xs) ≡ get_or xs (length xs - 1) (pos 0)
+top_at xs h = first_of_all (reverse xs) ∙ get_or-reverse xs 0 (pos 0) (omega (arith, h)) ∙ ap (λ i. get_or xs i (pos 0)) (omega arith)
+
+pub top_read : (xs : List ℤ) (n : ℕ) (v : ℤ) → n ≡ length xs → 1 ≤ n → v ≡ get_or xs (n - 1) v → v ≡ top (reverse xs)
+top_read xs n v e h is =
+    is ∙ get_or_default xs (n - 1) v (pos 0) (omega arith) ∙ ap (λ i. get_or xs i (pos 0)) (omega arith) ∙ sym (top_at xs (omega arith))
+
 pub second_read : (xs : List ℤ) (n : ℕ) (v : ℤ) → n ≡ length xs → 2 ≤ n → v ≡ get_or xs (n - 2) v → v ≡ top (drop 1 (reverse xs))
 second_read xs n v e h is =
     is ∙ get_or_default xs (n - 2) v (pos 0) (omega arith) ∙ ap (λ i. get_or xs i (pos 0)) (omega arith) ∙ sym (second_at xs (omega arith))
-
-pub second_none : (xs : List ℤ) → length xs < 2 → top (drop 1 (reverse xs)) ≡ pos 0
-second_none xs h = second_of (reverse xs) ∙ get_or_past (reverse xs) 1 (pos 0) (omega (arith, length-reverse xs, h))

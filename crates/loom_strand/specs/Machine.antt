@@ -1,5 +1,6 @@
 -- The machine of a thread: where the thread is, and for how much it has room.
-use Rattle.std.specs.Prelude.{ℕ, ◌-◌, ◌≡◌, ◌≤◌, ◌<◌, Bool, true, false, List, [], ◌∷◌, length, ℤ, pos, replicate}
+use Rattle.std.specs.Prelude.{ℕ, suc, ◌+◌, ◌-◌, ◌^◌, ◌≡◌, ◌≤◌, ◌<◌, Bool, true, false, List, [], ◌∷◌, length, ℤ, pos, replicate, Some, slice_get}
+use Rattle.loom_lang.specs.Limits.{param_limit}
 use Rattle.loom_lang.specs.Trace.{frame_limit}
 use Rattle.loom_flow.specs.declared.code.Ask.{Ask}
 use Rattle.loom_flow.specs.declared.code.Ask.TheVariants.{Spawn}
@@ -7,8 +8,11 @@ use Rattle.loom_flow.specs.declared.code.Control.{Control}
 use Rattle.loom_flow.specs.declared.code.Control.TheVariants.{Call}
 use Rattle.loom_flow.specs.declared.code.Step.{Step}
 use Rattle.loom_flow.specs.declared.code.Step.TheVariants as s
+use Rattle.loom_flow.specs.declared.code.Instr.{Instr}
 use Rattle.loom_flow.specs.declared.code.Site.{Site}
 use Rattle.loom_flow.specs.Flow.{Flow}
+use Rattle.loom_flow.specs.Depth.{takes_off, puts_on}
+use Rattle.loom_flow.specs.Laws.{HasLocals}
 use Rattle.loom_flow.specs.State.{Frame, State, frame_room}
 use Rattle.loom_flow.specs.Position.{Position, before, leaves, over}
 use Rattle.loom_flow.specs.Progress.{Progress, asks}
@@ -56,10 +60,27 @@ abbrev pub branch_state : Bool → State → State → State
 branch_state true zero other = zero
 branch_state false zero other = other
 
+-- The number of the next instruction is one of 64 bits.
+abbrev pub HasNext : State → Type 0
+HasNext z = suc z.at < 2 ^ 64
+
+-- There is room for the values that a step of an instruction leaves.
+abbrev pub HasRoomFor : Machine → Step → Type 0
+HasRoomFor m x = length m.state.values - takes_off x + puts_on x ≤ m.most_values
+
+-- What an answer gives has its place: there is room for it, or it goes into a local of the frame.
+abbrev pub HasPlaceHere : Flow → Machine → Type 0
+HasPlaceHere c m = (i : Instr) → slice_get c.code m.state.at ≡ Some i → HasRoomFor m i.step × HasLocals i.step
+
+-- There is room for the result of a frame, where one waits for it.
+abbrev pub HasRoomBelow : Machine → List Frame → Type 0
+HasRoomBelow m [] = Unit {0}
+HasRoomBelow m (f ∷ fs) = length m.state.values < m.most_values
+
 -- A new frame, or thread, has room for so many arguments.
 
 abbrev pub AskHasFewArguments : Ask → Type 0
-AskHasFewArguments (Spawn f n d) = n ≤ 4
+AskHasFewArguments (Spawn f n d) = n ≤ param_limit
 AskHasFewArguments _ = Unit {0}
 
 -- It takes an answer with this value, where it asks.
@@ -74,7 +95,7 @@ HasFirstSite sites (f ∷ fs) = f.site < length sites
 
 -- The function that is called has an entrance, and few arguments.
 abbrev pub CallsFunction : Flow → Control → Type 0
-CallsFunction c (Call f n) = (f < length c.entrances) × (n ≤ 4)
+CallsFunction c (Call f n) = (f < length c.entrances) × (n ≤ param_limit)
 CallsFunction c _ = Unit {0}
 
 abbrev pub TakesFewArguments : Flow → Step → Type 0

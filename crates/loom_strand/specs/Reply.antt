@@ -14,22 +14,30 @@ use Rattle.loom_strand.specs.declared.stage.Stage.TheVariants as stage
 use Rattle.loom_strand.specs.declared.reply.Reply.{Reply}
 use Rattle.loom_strand.specs.declared.reply.Reply.TheVariants as a
 use Rattle.loom_strand.specs.declared.machine.Phase.TheVariants as phase
-use Rattle.loom_strand.specs.Machine.{Machine, position, with_position, blank, TakesAnswer}
+use Rattle.loom_strand.specs.Machine.{Machine, position, with_position, blank, HasPlaceHere, TakesAnswer}
 
--- An entry tells what it answers: a read gives the value, a spawn the number of the new thread.
-abbrev pub reply_of : Entry → Reply
-reply_of (e.Begin t l) = a.Begins
-reply_of (e.End t l) = a.Ends
-reply_of (e.Trap t l n) = a.Traps
-reply_of (e.Tick t l k) = a.Ticks
-reply_of (e.Read t l w v) = a.Gives v
-reply_of (e.Spawn t l c f vs) = a.Gives (pos c)
-reply_of (e.Blocked t l x) = a.Waits
-reply_of _ = a.Gives (pos 0)
+-- An entry tells what it answers: a read gives the value, a spawn the number of the new thread. What only grants a request gives 0, which is of
+-- no account. The others answer no request of a thread.
+abbrev pub reply_of : Entry → Option Reply
+reply_of (e.Begin t l) = Some a.Begins
+reply_of (e.End t l) = Some a.Ends
+reply_of (e.Trap t l n) = Some a.Traps
+reply_of (e.Tick t l k) = Some a.Ticks
+reply_of (e.Read t l w v) = Some (a.Gives v)
+reply_of (e.Spawn t l c f vs) = Some (a.Gives (pos c))
+reply_of (e.Blocked t l x) = Some a.Waits
+reply_of (e.Write t l w v) = Some (a.Gives (pos 0))
+reply_of (e.Lock t l m) = Some (a.Gives (pos 0))
+reply_of (e.Unlock t l m) = Some (a.Gives (pos 0))
+reply_of (e.Down t l s) = Some (a.Gives (pos 0))
+reply_of (e.Up t l s) = Some (a.Gives (pos 0))
+reply_of (e.Join t l c) = Some (a.Gives (pos 0))
+reply_of (e.Print t l v) = Some (a.Gives (pos 0))
+reply_of _ = None
 
 -- The request that waits for its answer behind this one: the same where the thread waits, and else none.
-abbrev pub still_wanted : Reply → Option Request → Option Request
-still_wanted a.Waits wanted = wanted
+abbrev pub still_wanted : Option Reply → Option Request → Option Request
+still_wanted (Some a.Waits) wanted = wanted
 still_wanted _ wanted = None
 
 -- It asks at this position.
@@ -40,7 +48,7 @@ IsAsking _ = ⊥
 -- The machine can take the answer, in a thread of this birth.
 abbrev pub CanFollow : Flow → Machine → Birth → Reply → Type 0
 CanFollow c m b a.Begins = (b.func < length c.entrances) × ((m.state ≡ blank) × (m.phase ≡ phase.Before))
-CanFollow c m b (a.Gives v) = IsAsking (progress c (position m)) × (length m.state.values < m.most_values)
+CanFollow c m b (a.Gives v) = IsAsking (progress c (position m)) × HasPlaceHere c m
 CanFollow c m b _ = Unit {0}
 
 -- the start of the thread's function

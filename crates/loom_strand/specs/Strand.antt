@@ -2,6 +2,8 @@
 use Rattle.std.specs.Prelude.{ℕ, ◌≡◌, ◌⊎◌, Bool, true, false, List, [], Option, Some, None}
 use Rattle.loom_tree.specs.Tree.{Source}
 use Rattle.loom_lang.specs.Trace.{Finished, IsTrace}
+use Rattle.loom_flow.specs.FlatCode.{lowered}
+use Rattle.loom_flow.specs.Depth.{most_values}
 use Rattle.loom_trace.specs.declared.entry.Entry.{Entry}
 use Rattle.loom_trace.specs.declared.request.Request.{Request}
 use Rattle.loom_trace.specs.declared.request.Request.TheVariants as r
@@ -43,7 +45,8 @@ pub record IsNew (p : Source) (t n : ℕ) (s : Strand) : Type 0 where
   pub birth : s.birth ≡ None
   pub entries : s.entries ≡ []
   pub wanted : s.wanted ≡ None
-  -- and for as many frames as there may be below the newest one
+  -- and for no more values than wait at most before an instruction, and no more frames than there may be below the newest one
+  pub values : s.execution.machine.most_values ≡ most_values (lowered p)
   pub frames : s.execution.machine.most_frames ≡ frames_below
 
 -- It is the same thread, with these entries and this birth.

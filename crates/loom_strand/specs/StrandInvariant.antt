@@ -10,7 +10,7 @@ use Rattle.loom_flow.specs.Position.{Position, before, leaves, over}
 use Rattle.loom_flow.specs.Progress.{progress}
 use Rattle.loom_flow.specs.FlatTrace.{runs, IsFlatTrace}
 use Rattle.loom_flow.specs.FlatCode.{lowered}
-use Rattle.loom_flow.specs.Depth.{depth_before}
+use Rattle.loom_flow.specs.Depth.{depth_before, most_values}
 use Rattle.loom_trace.specs.declared.entry.Entry.{Entry}
 use Rattle.loom_trace.specs.declared.request.Request.{Request}
 use Rattle.loom_trace.specs.declared.request.Request.TheVariants as r
@@ -59,10 +59,9 @@ IsSoundPosition c (before z) = IsBefore c z
 IsSoundPosition c (leaves z v) = IsLeaving c z
 IsSoundPosition c over = Unit {0}
 
--- There is room for one value more than any instruction finds.
+-- There is room for as many values as wait at most before an instruction, and for as many frames as there may be.
 pub record HasRoom (c : Flow) (m : Machine) : Type 0 where
-  pub values : (at d : ℕ) → at < length c.code → depth_before c at ≡ Some d → d < m.most_values
-  pub some : 0 < m.most_values
+  pub values : m.most_values ≡ most_values c
   pub frames : m.most_frames ≡ frames_below
 
 -- Items and entries

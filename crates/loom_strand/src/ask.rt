@@ -1,15 +1,20 @@
 //! What instructions ask for, and how they take the answer.
-ghost use Rattle.std.specs.Prelude.{ℕ, ◌≡◌, ◌<◌, ◌≤◌, length};
+ghost use Rattle.std.specs.Prelude.{ℕ, ◌+◌, ◌≡◌, ◌<◌, ◌≤◌, length};
+ghost use Rattle.loom_flow.specs.declared.code.Step.TheVariants as s;
+ghost use Rattle.loom_lang.specs.Limits.{param_limit};
+ghost use Rattle.loom_flow.specs.Depth.{pops, takes_off};
+ghost use Rattle.loom_flow.specs.Laws.{HasLocal, HasLocals};
 ghost use Rattle.loom_flow.specs.State.{operand, without, arguments};
 ghost use Rattle.loom_flow.specs.Progress.{of_ask};
 ghost use Rattle.loom_trace.specs.declared.request.Request.TheVariants as r;
 ghost use Rattle.loom_strand.specs.declared.machine.Phase.TheVariants as phase;
-ghost use Rattle.loom_strand.specs.Machine.{AskHasFewArguments, TakesAnswer};
+ghost use Rattle.loom_strand.specs.Machine.{HasNext, HasRoomFor, AskHasFewArguments, TakesAnswer};
 ghost use Rattle.loom_strand.specs.Operator.{cell_at};
 ghost use Rattle.loom_strand.specs.PositionRequest.{cell_request, IsAskedBy};
 
 use crate::machine::Machine;
 use crate::operator::cell_at;
+use crate::step_result::INDEX;
 use loom_flow::code::{Array, Ask, Operand};
 use loom_trace::request::Request;
 
@@ -24,15 +29,19 @@ fn read(line: u32, word: u16) -> Request
 
 // A cell's value, or the trap of an index that isn't one of the array.
 fn read_cell(machine: &Machine, line: u32, array: Array, index: Operand) -> Request
+    requires value { taken index ≤ length machine.now.state.values }
+    requires local { HasLocal index }
     ensures { result ≡ cell_request line (λ w. r.Read line w) (cell_at array (operand machine.now.state index)) }
 {
     match cell_at(array, machine.operand(index)) {
         Some(word) => Request::Read { line, word },
-        None => Request::Trap { line, reason: 2 },
+        None => Request::Trap { line, reason: INDEX },
     }
 }
 
 fn write(machine: &Machine, line: u32, word: u16, a: Operand) -> Request
+    requires value { pops a ≤ length machine.now.state.values }
+    requires local { HasLocal a }
     ensures { result ≡ r.Write line word (operand machine.now.state a) }
 {
     Request::Write {
@@ -44,16 +53,20 @@ fn write(machine: &Machine, line: u32, word: u16, a: Operand) -> Request
 
 // The same of a cell.
 fn write_cell(machine: &Machine, line: u32, array: Array, index: Operand, b: Operand) -> Request
+    requires values { taken index + pops b ≤ length machine.now.state.values }
+    requires locals { HasLocal index × HasLocal b }
     ensures { result ≡ cell_request line (λ w. r.Write line w (operand machine.now.state b)) (cell_at array (operand (without machine.now.state b) index)) }
 {
     let value = machine.operand(b);
     match cell_at(array, machine.operand_under(index, b)) {
         Some(word) => Request::Write { line, word, value },
-        None => Request::Trap { line, reason: 2 },
+        None => Request::Trap { line, reason: INDEX },
     }
 }
 
 fn join(machine: &Machine, line: u32, a: Operand) -> Request
+    requires value { pops a ≤ length machine.now.state.values }
+    requires local { HasLocal a }
     ensures { result ≡ r.Join line (operand machine.now.state a) }
 {
     Request::Join {
@@ -63,6 +76,8 @@ fn join(machine: &Machine, line: u32, a: Operand) -> Request
 }
 
 fn print(machine: &Machine, line: u32, a: Operand) -> Request
+    requires value { pops a ≤ length machine.now.state.values }
+    requires local { HasLocal a }
     ensures { result ≡ r.Print line (operand machine.now.state a) }
 {
     Request::Print {
@@ -72,7 +87,8 @@ fn print(machine: &Machine, line: u32, a: Operand) -> Request
 }
 
 fn spawn(machine: &Machine, line: u32, func: u8, n: u8) -> Request
-    requires { n ≤ 4 }
+    requires few { n ≤ param_limit }
+    requires there { n ≤ length machine.now.state.values }
     ensures { result ≡ r.Spawn line func (arguments machine.now.state n) }
 {
     Request::Spawn {
@@ -84,7 +100,9 @@ fn spawn(machine: &Machine, line: u32, func: u8, n: u8) -> Request
 
 /// What an instruction of this line asks for; a trap where an index isn't one of its array.
 pub(crate) fn request(machine: &Machine, line: u32, ask: Ask) -> Request
-    requires { AskHasFewArguments ask }
+    requires few { AskHasFewArguments ask }
+    requires values { takes_off (s.Ask ask) ≤ length machine.now.state.values }
+    requires locals { HasLocals (s.Ask ask) }
     ensures { IsAskedBy result (of_ask machine.now.state line ask) }
 {
     match ask {
@@ -103,11 +121,12 @@ pub(crate) fn request(machine: &Machine, line: u32, ask: Ask) -> Request
 }
 
 /// Behind the answer to what an instruction asked for, with the value that it gives.
-#[tactic(auto, using(crate::proofs::Room::put_one, crate::proofs::Room::fewer))]
+#[tactic(auto, using(crate::proofs::Soundness::without_length))]
 pub(crate) fn take(machine: &mut Machine, ask: Ask, v: i64)
     requires phase { machine.old.phase ≡ phase.Before }
-    requires before { machine.old.state.at < 18446744073709551615 }
-    requires room { length machine.old.state.values < machine.old.most_values }
+    requires before { HasNext machine.old.state }
+    requires room { HasRoomFor machine.old (s.Ask ask) }
+    requires locals { HasLocals (s.Ask ask) }
     ensures { (line : ℕ) → TakesAnswer machine.old machine.new v (of_ask machine.old.state line ask) }
 {
     match ask {

@@ -1,13 +1,15 @@
 //! The machine of a thread.
-ghost use Rattle.std.specs.Prelude.{slice_get, ◌≡◌, ◌<◌, ◌≤◌, ◌+◌, [], ◌∷◌, IfOk, Some, length, is_some, unwrap_or, pos, replicate};
+ghost use Rattle.std.specs.Prelude.{slice_get, ◌≡◌, ◌<◌, ◌≤◌, ◌+◌, ◌-◌, [], ◌∷◌, IfOk, Some, length, is_some, unwrap_or, pos, replicate};
 ghost use Rattle.loom_flow.specs.Flow.{Flow, resume};
 ghost use Rattle.loom_flow.specs.State.{operand, without, given, forward, jumped, arguments, without_arguments, frame_locals, at_start};
 ghost use Rattle.loom_flow.specs.Position.{before, leaves, over};
 ghost use Rattle.loom_flow.specs.Progress.{returns};
 ghost use Rattle.loom_lang.specs.Values.{is_zero};
-ghost use Rattle.loom_flow.specs.Depth.{pushes};
+ghost use Rattle.loom_lang.specs.Limits.{param_limit};
+ghost use Rattle.loom_flow.specs.Depth.{pops, pushes};
+ghost use Rattle.loom_flow.specs.Laws.{HasLocal, HasLocalFor};
 ghost use Rattle.loom_strand.specs.declared.machine.Phase.TheVariants as phase;
-ghost use Rattle.loom_strand.specs.Machine.{HasFirstSite, with_state, with_position, blank, frames_below, new_machine, branch_state};
+ghost use Rattle.loom_strand.specs.Machine.{HasNext, HasRoomBelow, HasFirstSite, with_state, with_position, blank, frames_below, new_machine, branch_state};
 
 use crate::frame::{Frame, Frames};
 use crate::values::Values;
@@ -122,14 +124,13 @@ impl Machine {
 
     /// The value of an operand.
     pub fn operand(&self, a: Operand) -> i64
+        requires value { pops a ≤ length self.now.state.values }
+        requires local { HasLocal a }
         ensures { result ≡ operand self.now.state a }
     {
         match a {
             Operand::Top => self.values.top(),
-            Operand::Local(x) => match self.locals.get(x as usize) {
-                Some(v) => *v,
-                None => 0,
-            },
+            Operand::Local(x) => self.locals[x as usize],
             Operand::Number(n) => n,
         }
     }
@@ -146,24 +147,21 @@ impl Machine {
     }
 
     /// Leaves a value where it belongs.
-    #[tactic(auto, using(crate::proofs::Locals::put_set, crate::proofs::Locals::put_past))]
+    #[tactic(auto, using(crate::proofs::Locals::put_set))]
     pub fn give(&mut self, target: Target, v: i64)
-        requires { length self.old.state.values + pushes target ≤ self.old.most_values }
+        requires room { length self.old.state.values + pushes target ≤ self.old.most_values }
+        requires local { HasLocalFor target }
         ensures { self.new ≡ with_state self.old (given self.old.state target v) }
     {
         match target {
             Target::Push => self.values.push(v),
-            Target::Local(x) => {
-                if (x as usize) < self.locals.len() {
-                    self.locals[x as usize] = v;
-                }
-            }
+            Target::Local(x) => self.locals[x as usize] = v,
         }
     }
 
     /// To the next instruction.
     pub fn forward(&mut self)
-        requires { self.old.state.at < 18446744073709551615 }
+        requires { HasNext self.old.state }
         ensures { self.new ≡ with_state self.old (forward self.old.state) }
     {
         self.at += 1;
@@ -178,8 +176,9 @@ impl Machine {
 
     /// Leaves a value where it belongs, and goes to the next instruction.
     pub fn store(&mut self, target: Target, v: i64)
-        requires before { self.old.state.at < 18446744073709551615 }
+        requires before { HasNext self.old.state }
         requires room { length self.old.state.values + pushes target ≤ self.old.most_values }
+        requires local { HasLocalFor target }
         ensures { self.new ≡ with_state self.old (forward (given self.old.state target v)) }
     {
         self.give(target, v);
@@ -187,10 +186,11 @@ impl Machine {
     }
 
     /// The same where an operand is taken.
-    #[tactic(auto, using(crate::proofs::Room::put_one, crate::proofs::Room::fewer))]
+    #[tactic(auto, using(crate::proofs::Soundness::without_length))]
     pub fn replace(&mut self, a: Operand, target: Target, v: i64)
-        requires before { self.old.state.at < 18446744073709551615 }
-        requires room { length self.old.state.values < self.old.most_values }
+        requires before { HasNext self.old.state }
+        requires room { length self.old.state.values - pops a + pushes target ≤ self.old.most_values }
+        requires local { HasLocalFor target }
         ensures { self.new ≡ with_state self.old (forward (given (without self.old.state a) target v)) }
     {
         self.drop_operand(a);
@@ -198,10 +198,11 @@ impl Machine {
     }
 
     /// The same where two are, the second one first.
-    #[tactic(auto, using(crate::proofs::Room::fewer))]
+    #[tactic(auto, using(crate::proofs::Soundness::without_length))]
     pub fn replace_two(&mut self, a: Operand, b: Operand, target: Target, v: i64)
-        requires before { self.old.state.at < 18446744073709551615 }
-        requires room { length self.old.state.values < self.old.most_values }
+        requires before { HasNext self.old.state }
+        requires room { length self.old.state.values - (pops a + pops b) + pushes target ≤ self.old.most_values }
+        requires local { HasLocalFor target }
         ensures { self.new ≡ with_state self.old (forward (given (without (without self.old.state b) a) target v)) }
     {
         self.drop_operand(b);
@@ -210,7 +211,7 @@ impl Machine {
 
     /// Takes off an operand, and goes to the next instruction.
     pub fn pass(&mut self, a: Operand)
-        requires { self.old.state.at < 18446744073709551615 }
+        requires { HasNext self.old.state }
         ensures { self.new ≡ with_state self.old (forward (without self.old.state a)) }
     {
         self.drop_operand(a);
@@ -219,7 +220,7 @@ impl Machine {
 
     /// Takes off two operands, the second one first, and goes to the next instruction.
     pub fn pass_two(&mut self, a: Operand, b: Operand)
-        requires { self.old.state.at < 18446744073709551615 }
+        requires { HasNext self.old.state }
         ensures { self.new ≡ with_state self.old (forward (without (without self.old.state b) a)) }
     {
         self.drop_operand(b);
@@ -228,7 +229,9 @@ impl Machine {
 
     /// Takes off an operand, and goes to an instruction if it is 0, or to the next one.
     pub fn branch(&mut self, a: Operand, to: u32)
-        requires { self.old.state.at < 18446744073709551615 }
+        requires before { HasNext self.old.state }
+        requires value { pops a ≤ length self.old.state.values }
+        requires local { HasLocal a }
         ensures { self.new ≡ with_state self.old (branch_state (is_zero (operand self.old.state a)) (jumped (without self.old.state a) to) (forward (without self.old.state a))) }
     {
         if self.operand(a) == 0 {
@@ -241,6 +244,8 @@ impl Machine {
 
     /// The value of an operand where another one is taken first.
     pub fn operand_under(&self, a: Operand, over: Operand) -> i64
+        requires values { pops a + pops over ≤ length self.now.state.values }
+        requires local { HasLocal a }
         ensures { result ≡ operand (without self.now.state over) a }
     {
         match a {
@@ -256,7 +261,8 @@ impl Machine {
 
     /// The arguments that are the last ones put on the values.
     pub fn arguments(&self, n: u8) -> Args
-        requires { n ≤ 4 }
+        requires few { n ≤ param_limit }
+        requires there { n ≤ length self.now.state.values }
         ensures { result ≡ arguments self.now.state n }
     {
         self.values.last(n as usize)
@@ -271,7 +277,8 @@ impl Machine {
 
     /// Takes off so many arguments and gives them.
     pub fn take_arguments(&mut self, n: u8) -> Args
-        requires { n ≤ 4 }
+        requires few { n ≤ param_limit }
+        requires there { n ≤ length self.old.state.values }
         ensures args { result ≡ arguments self.old.state n }
         ensures rest { self.new ≡ with_state self.old (without_arguments self.old.state n) }
     {
@@ -296,6 +303,8 @@ impl Machine {
 
     /// The frame is to end with the value of an operand, which is taken off.
     pub fn leave(&mut self, a: Operand)
+        requires value { pops a ≤ length self.old.state.values }
+        requires local { HasLocal a }
         ensures { self.new ≡ with_position self.old (leaves (without self.old.state a) (operand self.old.state a)) }
     {
         let v = self.operand(a);
@@ -305,7 +314,7 @@ impl Machine {
 
     /// The frame has ended with this result: back into the one below, if there is one.
     pub fn back(&mut self, sites: &[Site], v: i64)
-        requires room { length self.old.state.values < self.old.most_values }
+        requires room { HasRoomBelow self.old self.old.state.below }
         requires site { HasFirstSite sites.now self.old.state.below }
         ensures { (c : Flow) → c.sites ≡ sites.now → self.new ≡ with_position self.old (returns c self.old.state.values v self.old.state.below) }
     {

@@ -1,7 +1,7 @@
 //! What an answer does to a thread.
-ghost use Rattle.std.specs.Prelude.{◌≡◌, ◌<◌, length};
+ghost use Rattle.std.specs.Prelude.{Some, ◌≡◌};
 ghost use Rattle.loom_flow.specs.Progress.{progress};
-ghost use Rattle.loom_strand.specs.Machine.{position, TakesAnswer};
+ghost use Rattle.loom_strand.specs.Machine.{position, HasPlaceHere, TakesAnswer};
 ghost use Rattle.loom_strand.specs.Reply.{reply_of, still_wanted, IsAsking, CanFollow, Follows};
 
 use crate::ask::take;
@@ -29,32 +29,47 @@ pub(crate) enum Reply {
     Ends,
 }
 
-/// What the entry does to the thread that made it.
-pub(crate) fn reply_of(e: &Entry) -> Reply
+/// What the entry answers the thread that made it; none where it answers no request.
+pub(crate) fn reply_of(e: &Entry) -> Option<Reply>
     ensures { result ≡ reply_of e.now }
 {
-    if let Entry::Begin { .. } = e {
-        Reply::Begins
-    } else if let Entry::End { .. } = e {
-        Reply::Ends
-    } else if let Entry::Trap { .. } = e {
-        Reply::Traps
-    } else if let Entry::Tick { .. } = e {
-        Reply::Ticks
-    } else if let Entry::Blocked { .. } = e {
-        Reply::Waits
-    } else if let Entry::Read { value, .. } = e {
-        Reply::Gives(*value)
-    } else if let Entry::Spawn { child, .. } = e {
-        Reply::Gives(*child as i64)
-    } else {
-        Reply::Gives(0)
+    match e {
+        Entry::Begin { .. } => Some(Reply::Begins),
+        Entry::End { .. } => Some(Reply::Ends),
+        Entry::Trap { .. } => Some(Reply::Traps),
+        Entry::Tick { .. } => Some(Reply::Ticks),
+        Entry::Blocked { .. } => Some(Reply::Waits),
+        Entry::Read { value, .. } => Some(Reply::Gives(*value)),
+        Entry::Spawn { child, .. } => Some(Reply::Gives(*child as i64)),
+        Entry::Write { .. }
+        | Entry::Lock { .. }
+        | Entry::Unlock { .. }
+        | Entry::Down { .. }
+        | Entry::Up { .. }
+        | Entry::Join { .. }
+        | Entry::Print { .. } => Some(Reply::Gives(0)),
+        Entry::At { .. }
+        | Entry::Past { .. }
+        | Entry::Back { .. }
+        | Entry::Enter { .. }
+        | Entry::Leave { .. }
+        | Entry::Post { .. }
+        | Entry::Wait { .. }
+        | Entry::Cross { .. }
+        | Entry::Asked { .. }
+        | Entry::Refused { .. }
+        | Entry::Installed { .. }
+        | Entry::Removed { .. }
+        | Entry::Stalled { .. }
+        | Entry::Cut { .. }
+        | Entry::Unreached { .. }
+        | Entry::Finish { .. } => None,
     }
 }
 
 /// The request that waits for an answer behind this one.
 pub(crate) fn still_wanted(answer: Reply, wanted: Option<Request>) -> Option<Request>
-    ensures { result ≡ still_wanted answer wanted }
+    ensures { result ≡ still_wanted (Some answer) wanted }
 {
     match answer {
         Reply::Begins => None,
@@ -69,7 +84,7 @@ pub(crate) fn still_wanted(answer: Reply, wanted: Option<Request>) -> Option<Req
 // The instruction that asks takes the answer.
 fn give(machine: &mut Machine, flow: &Flow, v: i64)
     requires asks { IsAsking (progress flow.now (position machine.old)) }
-    requires room { length machine.old.state.values < machine.old.most_values }
+    requires place { HasPlaceHere flow.now machine.old }
     ensures { TakesAnswer machine.old machine.new v (progress flow.now (position machine.old)) }
 {
     match flow.code()[machine.at()].step {

@@ -1,24 +1,28 @@
 //! One step of a thread.
-ghost use Rattle.std.specs.Prelude.{ℕ, ◌≡◌, ◌<◌, ◌≤◌, length, slice_get};
+ghost use Rattle.std.specs.Prelude.{ℕ, ◌+◌, ◌≡◌, ◌<◌, ◌≤◌, length, slice_get};
 ghost use Rattle.loom_lang.specs.Values.{is_zero, negated, inverted};
 ghost use Rattle.loom_flow.specs.declared.code.Operand.TheVariants as o;
 ghost use Rattle.loom_flow.specs.declared.code.Compute.TheVariants as compute;
 ghost use Rattle.loom_flow.specs.declared.code.Control.TheVariants as control;
+ghost use Rattle.loom_flow.specs.declared.code.Step.TheVariants as s;
 ghost use Rattle.loom_flow.specs.Code.{IsLowered};
 ghost use Rattle.loom_flow.specs.Flow.{Flow};
+ghost use Rattle.loom_lang.specs.Limits.{param_limit};
+ghost use Rattle.loom_flow.specs.Depth.{pops, takes_off};
+ghost use Rattle.loom_flow.specs.Laws.{HasLocals};
 ghost use Rattle.loom_flow.specs.State.{operand, without, given, forward, jumped};
 ghost use Rattle.loom_flow.specs.Progress.{goes, of_compute, of_control, of_step, returns};
 ghost use Rattle.loom_lang.specs.Trace.{out};
 ghost use Rattle.loom_strand.specs.declared.machine.Phase.TheVariants as phase;
 ghost use Rattle.loom_strand.specs.declared.step_result.StepResult.TheVariants as t;
-ghost use Rattle.loom_strand.specs.Machine.{position, frames_below, CallsFunction, TakesFewArguments};
+ghost use Rattle.loom_strand.specs.Machine.{position, frames_below, HasNext, HasRoomFor, CallsFunction, TakesFewArguments};
 ghost use Rattle.loom_strand.specs.StepResult.{StepsTo, Advances};
 ghost use Rattle.loom_strand.specs.StrandInvariant.{IsSoundPosition, HasRoom, IsLeaving};
 
 use crate::ask::request;
 use crate::machine::{FRAMES_BELOW, Machine, Phase};
 use crate::operator::{inverted, operator_value};
-use crate::step_result::{Mark, StepResult};
+use crate::step_result::{DIVISION, FRAMES, Mark, StepResult};
 use loom_flow::code::{Compute, Control, Instr, Operand, Step, Target};
 use loom_flow::flow::Flow;
 use loom_trace::request::Request;
@@ -34,8 +38,10 @@ fn apply(
     target: Target,
 ) -> StepResult
     requires phase { machine.old.phase ≡ phase.Before }
-    requires before { machine.old.state.at < 18446744073709551615 }
-    requires room { length machine.old.state.values < machine.old.most_values }
+    requires before { HasNext machine.old.state }
+    requires values { pops a + pops b ≤ length machine.old.state.values }
+    requires room { HasRoomFor machine.old (s.Compute (compute.Apply op a b target)) }
+    requires locals { HasLocals (s.Compute (compute.Apply op a b target)) }
     ensures { (c : Flow) (place : ℕ) → StepsTo c place machine.old machine.new result (of_compute machine.old.state line (compute.Apply op a b target)) }
 {
     match operator_value(op, machine.operand_under(a, b), machine.operand(b)) {
@@ -43,15 +49,17 @@ fn apply(
             machine.replace_two(a, b, target, v);
             StepResult::Goes(None)
         }
-        None => StepResult::Asks(Request::Trap { line, reason: 1 }),
+        None => StepResult::Asks(Request::Trap { line, reason: DIVISION }),
     }
 }
 
 // What an instruction of this line computes.
 fn compute(machine: &mut Machine, line: u32, x: Compute) -> StepResult
     requires phase { machine.old.phase ≡ phase.Before }
-    requires before { machine.old.state.at < 18446744073709551615 }
-    requires room { length machine.old.state.values < machine.old.most_values }
+    requires before { HasNext machine.old.state }
+    requires values { takes_off (s.Compute x) ≤ length machine.old.state.values }
+    requires room { HasRoomFor machine.old (s.Compute x) }
+    requires locals { HasLocals (s.Compute x) }
     ensures { (c : Flow) (place : ℕ) → StepsTo c place machine.old machine.new result (of_compute machine.old.state line x) }
 {
     match x {
@@ -78,7 +86,8 @@ fn compute(machine: &mut Machine, line: u32, x: Compute) -> StepResult
 // Into a new frame, or a trap where it would be one too many.
 fn call(machine: &mut Machine, flow: &Flow, i: &Instr, func: u8, n: u8) -> StepResult
     requires phase { machine.old.phase ≡ phase.Before }
-    requires few { n ≤ 4 }
+    requires few { n ≤ param_limit }
+    requires arguments { n ≤ length machine.old.state.values }
     requires frames { machine.old.most_frames ≡ frames_below }
     requires there { func < length flow.now.entrances }
     ensures { StepsTo flow.now i.now.place machine.old machine.new result (of_control flow.now machine.old.state i.now.line i.now.place (control.Call func n)) }
@@ -86,7 +95,7 @@ fn call(machine: &mut Machine, flow: &Flow, i: &Instr, func: u8, n: u8) -> StepR
     if machine.waiting() >= FRAMES_BELOW {
         return StepResult::Asks(Request::Trap {
             line: i.line,
-            reason: 6,
+            reason: FRAMES,
         });
     }
     let entrance = flow.entrances()[func as usize];
@@ -98,9 +107,11 @@ fn call(machine: &mut Machine, flow: &Flow, i: &Instr, func: u8, n: u8) -> StepR
 // Where an instruction leads.
 fn control(machine: &mut Machine, flow: &Flow, i: &Instr, x: Control) -> StepResult
     requires phase { machine.old.phase ≡ phase.Before }
-    requires before { machine.old.state.at < 18446744073709551615 }
+    requires before { HasNext machine.old.state }
     requires frames { machine.old.most_frames ≡ frames_below }
     requires calls { CallsFunction flow.now x }
+    requires values { takes_off (s.Control x) ≤ length machine.old.state.values }
+    requires locals { HasLocals (s.Control x) }
     ensures { StepsTo flow.now i.now.place machine.old machine.new result (of_control flow.now machine.old.state i.now.line i.now.place x) }
 {
     match x {
@@ -139,8 +150,10 @@ fn control(machine: &mut Machine, flow: &Flow, i: &Instr, x: Control) -> StepRes
 // The instruction before which the thread is.
 fn step(machine: &mut Machine, flow: &Flow, i: &Instr) -> StepResult
     requires phase { machine.old.phase ≡ phase.Before }
-    requires before { machine.old.state.at < 18446744073709551615 }
-    requires room { length machine.old.state.values < machine.old.most_values }
+    requires before { HasNext machine.old.state }
+    requires values { takes_off i.now.step ≤ length machine.old.state.values }
+    requires room { HasRoomFor machine.old i.now.step }
+    requires locals { HasLocals i.now.step }
     requires frames { machine.old.most_frames ≡ frames_below }
     requires arguments { TakesFewArguments flow.now i.now.step }
     ensures { StepsTo flow.now i.now.place machine.old machine.new result (of_step flow.now machine.old.state i.now i.now.step) }
@@ -153,9 +166,10 @@ fn step(machine: &mut Machine, flow: &Flow, i: &Instr) -> StepResult
 }
 
 // The end of the newest frame, with its result.
+#[tactic(auto, using(crate::proofs::Room::room_below))]
 fn leave(machine: &mut Machine, flow: &Flow, v: i64) -> StepResult
     requires leaving { IsLeaving flow.now machine.old.state }
-    requires room { length machine.old.state.values < machine.old.most_values }
+    requires room { HasRoom flow.now machine.old }
     ensures { (place : ℕ) → StepsTo flow.now place machine.old machine.new result (goes (Some (out machine.old.state.func)) (returns flow.now machine.old.state.values v machine.old.state.below)) }
 {
     machine.back(flow.sites(), v);

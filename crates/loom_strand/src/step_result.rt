@@ -2,6 +2,17 @@
 
 use loom_trace::request::Request;
 
+// The reasons of the traps that a thread finds by itself.
+
+/// A division by 0.
+pub(crate) const DIVISION: u8 = 1;
+
+/// An index that isn't one of its array.
+pub(crate) const INDEX: u8 = 2;
+
+/// A frame too many.
+pub(crate) const FRAMES: u8 = 6;
+
 /// A mark that a thread passes: an edge of a statement or of a frame, or a loop's back edge.
 #[derive(Clone, Copy, Debug, Drop)]
 pub(crate) enum Mark {

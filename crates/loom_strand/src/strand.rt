@@ -88,7 +88,7 @@ impl Strand {
         ensures { IfOk result (λ s. IsNew flow.now.program thread limit s) }
     {
         let program = flow.share()?;
-        let machine = Machine::make(alloc, flow.most_values() + 1)?;
+        let machine = Machine::make(alloc, flow.most_values())?;
         let entries = Vec::with_capacity(alloc, limit as usize)?;
         Ok(Strand {
             program,
@@ -173,9 +173,11 @@ impl Strand {
         let Some(birth) = self.birth else {
             unreachable!();
         };
+        let Some(answer) = reply_of(&e) else {
+            unreachable!();
+        };
         // the flat code is that of its program
         let _ = flow.code();
-        let answer = reply_of(&e);
         let (stage, passed) = follow(&mut self.machine, flow, birth, answer);
         self.stage = stage;
         self.passed = passed;

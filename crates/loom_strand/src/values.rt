@@ -1,5 +1,6 @@
 //! The values of a thread.
 ghost use Rattle.std.specs.Prelude.{◌≡◌, ◌<◌, ◌≤◌, [], ◌∷◌, IfOk, length, take, drop, reverse};
+ghost use Rattle.loom_lang.specs.Limits.{param_limit};
 ghost use Rattle.loom_flow.specs.State.{top};
 
 use loom_trace::row::Args;
@@ -33,15 +34,12 @@ impl Values {
         Ok(Values { items })
     }
 
-    /// The value on top, or 0.
-    #[tactic(auto, using(crate::proofs::Stacks::top_last))]
+    /// The value on top.
     pub fn top(&self) -> i64
+        requires { 1 ≤ length self.now.items }
         ensures { result ≡ top self.now.items }
     {
-        match self.items.last() {
-            Some(v) => *v,
-            None => 0,
-        }
+        self.items[self.items.len() - 1]
     }
 
     /// Takes off the value on top, if there is one.
@@ -61,26 +59,22 @@ impl Values {
         self.items.push_reserved(v);
     }
 
-    /// The value below the one on top, or 0.
-    #[tactic(auto, using(crate::proofs::Stacks::second_none))]
+    /// The value below the one on top.
     pub fn second(&self) -> i64
+        requires { 2 ≤ length self.now.items }
         ensures { result ≡ top (drop 1 self.now.items) }
     {
-        let count = self.items.len();
-        if count < 2 {
-            return 0;
-        }
-        self.items[count - 2]
+        self.items[self.items.len() - 2]
     }
 
     /// The last ones put on, so many, in their order.
     #[tactic(auto, using(crate::proofs::Stacks::taken_last))]
     pub fn last(&self, n: usize) -> Args
-        requires { n ≤ 4 }
+        requires few { n ≤ param_limit }
+        requires there { n ≤ length self.now.items }
         ensures { result ≡ reverse (take n self.now.items) }
     {
-        let kept = self.items.len().saturating_sub(n);
-        args_of(&self.items[kept..])
+        args_of(&self.items[self.items.len() - n..])
     }
 
     /// Takes off so many.
@@ -95,7 +89,7 @@ impl Values {
 
 /// The arguments that a slice has.
 pub(crate) fn args_of(values: &[i64]) -> Args
-    requires { length values.now ≤ 4 }
+    requires { length values.now ≤ param_limit }
     ensures { result ≡ values.now }
 {
     let mut args = Args::none();

@@ -5,7 +5,7 @@ use Rattle.loom_flow.specs.declared.expression.Spot.{Spot}
 use Rattle.loom_flow.specs.declared.code.Step.TheVariants as s
 use Rattle.loom_flow.specs.declared.code.Control.TheVariants.{Edge}
 use Rattle.loom_flow.specs.FlatCode.{body_code, site, instr, operand_steps}
-use Rattle.loom_flow.proofs.Bodies.{if_count, while_count, known_then, known_else, known_again, known_first, known_rest, count_first, some_first, sites_more, code_step, sites_step, if_sites, while_sites}
+use Rattle.loom_flow.proofs.Bodies.{if_count, while_count, known_then, known_else, known_again, known_first, known_rest, counted_then, counted_else, counted_again, counted_first, counted_rest, count_first, some_first, sites_more, code_step, sites_step, if_sites, while_sites}
 use Rattle.loom_flow.proofs.Jumps.{at_within, pushed, tested_long, aimed_long, if_code, while_code}
 use Rattle.loom_flow.proofs.block.+blocks.Goals as goal
 
@@ -14,7 +14,7 @@ choice-body-requires t c =
     let many = if_count c.args.spot.line (expression_of c.args.e.now) (body_of c.args.a.now) (body_of c.args.b.now) end in
     let sites = pushed c.args.sites.now.items c.put_site.new.sites.items (site c.args.spot.line 0) c.in_ok-put_site.ensures in
     let room = c.requires.room in
-    (omega arith, (known_then c.args.scope.now.program c.args.scope.now.locals c.args.spot.line (expression_of c.args.e.now) (body_of c.args.a.now) (body_of c.args.b.now) c.requires.known, omega arith))
+    (omega arith, (known_then c.args.scope.now.program c.args.scope.now.locals c.args.spot.line (expression_of c.args.e.now) (body_of c.args.a.now) (body_of c.args.b.now) c.requires.known, (counted_then c.args.scope.now.program c.args.scope.now.locals c.args.spot.line (expression_of c.args.e.now) (body_of c.args.a.now) (body_of c.args.b.now) c.requires.counted, omega arith)))
 
 pub choice-patch-requires : goal.choice-patch-requires
 choice-patch-requires t c =
@@ -26,7 +26,7 @@ choice-body-requires-2 t c =
     let sites = pushed c.args.sites.now.items c.put_site.new.sites.items (site c.args.spot.line 0) c.in_ok-put_site.ensures in
     let more = sites_more c.args.scope.now.program c.args.scope.now.locals (body_of c.args.a.now) _ _ _ c.in_ok-body.ensures.sites in
     let room = c.requires.room in
-    (omega arith, (known_else c.args.scope.now.program c.args.scope.now.locals c.args.spot.line (expression_of c.args.e.now) (body_of c.args.a.now) (body_of c.args.b.now) c.requires.known, omega arith))
+    (omega arith, (known_else c.args.scope.now.program c.args.scope.now.locals c.args.spot.line (expression_of c.args.e.now) (body_of c.args.a.now) (body_of c.args.b.now) c.requires.known, (counted_else c.args.scope.now.program c.args.scope.now.locals c.args.spot.line (expression_of c.args.e.now) (body_of c.args.a.now) (body_of c.args.b.now) c.requires.counted, omega arith)))
 
 pub choice-returns-clause-code : goal.choice-returns-clause-code
 choice-returns-clause-code t c =
@@ -51,7 +51,7 @@ repeat-body-requires t c =
     let first = pushed c.args.sites.now.items c.put_site.new.sites.items (site c.args.spot.line 0) c.in_ok-put_site.ensures in
     let second = pushed c.put_site.new.sites.items c.put_site-2.new.sites.items (site c.args.spot.line 0) c.in_ok-put_site-2.ensures in
     let room = c.requires.room in
-    (omega arith, (known_again c.args.scope.now.program c.args.scope.now.locals c.args.spot.line (expression_of c.args.e.now) (body_of c.args.a.now) c.requires.known, omega arith))
+    (omega arith, (known_again c.args.scope.now.program c.args.scope.now.locals c.args.spot.line (expression_of c.args.e.now) (body_of c.args.a.now) c.requires.known, (counted_again c.args.scope.now.program c.args.scope.now.locals c.args.spot.line (expression_of c.args.e.now) (body_of c.args.a.now) c.requires.counted, omega arith)))
 
 pub repeat-patch-requires : goal.repeat-patch-requires
 repeat-patch-requires t c =
@@ -75,10 +75,10 @@ repeat-returns-clause-sites t c =
     c.in_ok-put_site.ensures c.in_ok-put_site-2.ensures c.in_ok-body.ensures.sites tested
 
 pub statement-choice-requires : goal.statement-choice-requires
-statement-choice-requires t c = (search (rules, the_lemmas), (rw c.in-If.is at c.requires.known, (c.requires.place, rw c.in-If.is at c.requires.room)))
+statement-choice-requires t c = (search (rules, the_lemmas), (rw c.in-If.is at c.requires.known, (rw c.in-If.is at c.requires.counted, (c.requires.place, rw c.in-If.is at c.requires.room))))
 
 pub statement-repeat-requires : goal.statement-repeat-requires
-statement-repeat-requires t c = (search (rules, the_lemmas), (rw c.in-While.is at c.requires.known, (c.requires.place, rw c.in-While.is at c.requires.room)))
+statement-repeat-requires t c = (search (rules, the_lemmas), (rw c.in-While.is at c.requires.known, (rw c.in-While.is at c.requires.counted, (c.requires.place, rw c.in-While.is at c.requires.room))))
 
 pub body-spot_of-spot-requires : goal.body-spot_of-spot-requires
 body-spot_of-spot-requires t c =
@@ -95,7 +95,7 @@ body-statement-requires t c =
     let many = count_first c.args.scope.now.program c.args.scope.now.locals c.spot_of-spot.result.line c.deref-in-More-2.result.now.kind _ _ is in
     let place : c.spot_of-spot.result.place ≡ length c.walk.sites.items = ap (λ (z : Spot). z.place) c.spot_of-spot.ensures ∙ ap length c.deref.ensures.value in
     let room = c.walk.invariant.room in
-    (search (rules, the_lemmas), (known_first c.args.scope.now.program c.args.scope.now.locals _ _ _ _ is c.walk.invariant.known, (place, omega arith)))
+    (search (rules, the_lemmas), (known_first c.args.scope.now.program c.args.scope.now.locals _ _ _ _ is c.walk.invariant.known, (counted_first c.args.scope.now.program c.args.scope.now.locals _ _ _ _ is c.walk.invariant.counted, (place, omega arith))))
 
 pub body-walk-preserved : goal.body-walk-preserved
 body-walk-preserved t c =
@@ -107,6 +107,7 @@ body-walk-preserved t c =
     record {
       within = search (rules, the_lemmas);
       known = known_rest c.args.scope.now.program c.args.scope.now.locals _ _ _ _ is c.walk.invariant.known;
+      counted = counted_rest c.args.scope.now.program c.args.scope.now.locals _ _ _ _ is c.walk.invariant.counted;
       room = omega arith;
       code = code_step c.args.scope.now.program c.args.scope.now.locals c.spot_of-spot.result.line c.deref-in-More-2.result.now.kind _ _ _ _ _ _ is
           (c.in_ok-statement.ensures.code ∙ ap (λ n. c.walk.code.items ++ body_code c.args.scope.now.program c.args.scope.now.locals (length c.walk.code.items) n (behind c.spot_of-spot.result.line c.deref-in-More-2.result.now.kind end)) place) c.in_ok-statement.ensures.sites ∙ c.walk.invariant.code;

@@ -26,5 +26,5 @@ returns-clause-code c =
     function_code c.args.scope.now.program _ _ c.args.f.now.line _ (length c.args.sites.now.items) _ _ (body_of c.args.f.now.body) _ _ _ c.requires.locals c.in_ok-body.ensures.code (omega arith)
     (c.in_ok-push.ensures ∙ ap (λ (z : Spot). c.body.new.code.items ++ instr z.line z.place (s.Control Out) ∷ []) c.spot_of-out.ensures) last
 
-pub body-requires-clause-known : goal.body-requires-clause-known
-body-requires-clause-known c = function_takes c.args.scope.now.program (function_of c.args.f.now) c.requires.lawful
+pub body-requires-clause-counted : goal.body-requires-clause-counted
+body-requires-clause-counted c = function_takes c.args.scope.now.program (function_of c.args.f.now) c.requires.lawful

@@ -1,14 +1,15 @@
-use Rattle.std.proofs.Common.{◌≡◌, ◌∙◌, Option, refl, sym, ap, subst}
+use Rattle.std.proofs.Common.{◌≡◌, ◌∙◌, Option, Some, refl, sym, ap, subst}
 use Rattle.std.specs.Vec.{vec_capacity}
 use Rattle.loom_flow.specs.FlatCode.{lowered}
 use Rattle.loom_trace.specs.declared.request.Request.{Request}
 use Rattle.loom_strand.specs.Strand.{Strand, IsReply}
 use Rattle.loom_strand.specs.StrandInvariant.{StrandInvariant}
 use Rattle.loom_strand.specs.Reply.{reply_of, still_wanted, CanFollow, Follows}
+use Rattle.loom_strand.specs.declared.reply.Reply.{Reply}
 use Rattle.loom_strand.specs.contracts.strand.Strand.{the_view}
 use Rattle.loom_strand.proofs.PrivateRuns.{flat_is}
 use Rattle.loom_strand.proofs.Again.{blocked_wanted}
-use Rattle.loom_strand.proofs.AnswerLaws.{after, with_entries, can_answer, answered_kept, answer_started}
+use Rattle.loom_strand.proofs.AnswerLaws.{HasFollowed, CanFollowAny, after, with_entries, can_answer, answered_kept, answer_started}
 use Rattle.loom_strand.proofs.RequestLaws.{kept_part}
 use Rattle.loom_strand.proofs.strand.Strand.answer.Goals as goal
 
@@ -18,8 +19,9 @@ follow-stage-requires c =
     let reply : IsReply s c.args.e = subst (λ (z : Strand). IsReply z c.args.e) (sym c.self.view_is) c.requires.answers in
     let program : c.args.flow.now.program ≡ s.program = c.requires.program ∙ (let P : Strand → Type 0 = λ z. z.program ≡ s.program in subst P c.self.view_is refl) in
     let flat : c.args.flow.now ≡ lowered s.program = flat_is c.args.flow.now s.program c.code.ensures.lowered program in
-    subst (λ d. CanFollow d c.self.inside.machine c.in-Some.birth c.reply_of-answer.result) (sym flat)
-    (subst (CanFollow (lowered s.program) c.self.inside.machine c.in-Some.birth) (sym c.reply_of-answer.ensures) (can_answer s c.in-Some.birth s.wanted c.args.e c.self.invariant c.in-Some.is refl reply))
+    let is : reply_of c.args.e ≡ Some c.in-Some-reply_of.answer = sym c.reply_of.ensures ∙ c.in-Some-reply_of.is in
+    subst (λ d. CanFollow d c.self.inside.machine c.in-Some.birth c.in-Some-reply_of.answer) (sym flat)
+    (subst (CanFollowAny (lowered s.program) c.self.inside.machine c.in-Some.birth) is (can_answer s c.in-Some.birth s.wanted c.args.e c.self.invariant c.in-Some.is refl reply))
 
 pub invariant_of-self : goal.invariant_of-self
 invariant_of-self c =
@@ -27,10 +29,11 @@ invariant_of-self c =
     let reply : IsReply s c.args.e = subst (λ (z : Strand). IsReply z c.args.e) (sym c.self.view_is) c.requires.answers in
     let program : c.args.flow.now.program ≡ s.program = c.requires.program ∙ (let P : Strand → Type 0 = λ z. z.program ≡ s.program in subst P c.self.view_is refl) in
     let flat : c.args.flow.now ≡ lowered s.program = flat_is c.args.flow.now s.program c.code.ensures.lowered program in
-    let follows : Follows (lowered s.program) c.self.inside.machine c.follow-stage.new.machine c.in-Some.birth (reply_of c.args.e) c.follow-stage.result.0 c.follow-stage.result.1 =
-    subst (λ y. Follows (lowered s.program) c.self.inside.machine c.follow-stage.new.machine c.in-Some.birth y c.follow-stage.result.0 c.follow-stage.result.1) c.reply_of-answer.ensures
-    (subst (λ d. Follows d c.self.inside.machine c.follow-stage.new.machine c.in-Some.birth c.reply_of-answer.result c.follow-stage.result.0 c.follow-stage.result.1) flat c.follow-stage.ensures) in
-    let wanted : c.still_wanted-self-inside.result ≡ still_wanted (reply_of c.args.e) s.wanted = c.still_wanted-self-inside.ensures ∙ ap (λ y. still_wanted y s.wanted) c.reply_of-answer.ensures in
+    let is : reply_of c.args.e ≡ Some c.in-Some-reply_of.answer = sym c.reply_of.ensures ∙ c.in-Some-reply_of.is in
+    let follows : HasFollowed (lowered s.program) c.self.inside.machine c.follow-stage.new.machine c.in-Some.birth (reply_of c.args.e) c.follow-stage.result.0 c.follow-stage.result.1 =
+    subst (λ (y : Option Reply). HasFollowed (lowered s.program) c.self.inside.machine c.follow-stage.new.machine c.in-Some.birth y c.follow-stage.result.0 c.follow-stage.result.1) (sym is)
+    (subst (λ d. Follows d c.self.inside.machine c.follow-stage.new.machine c.in-Some.birth c.in-Some-reply_of.answer c.follow-stage.result.0 c.follow-stage.result.1) flat c.follow-stage.ensures) in
+    let wanted : c.still_wanted-self-inside.result ≡ still_wanted (reply_of c.args.e) s.wanted = c.still_wanted-self-inside.ensures ∙ ap (λ y. still_wanted y s.wanted) (sym is) in
     let kept : StrandInvariant (after s c.args.e (still_wanted (reply_of c.args.e) s.wanted) c.follow-stage.new.machine c.follow-stage.result.0 c.follow-stage.result.1) =
     answered_kept s c.in-Some.birth s.wanted c.args.e c.follow-stage.new.machine c.follow-stage.result.0 c.follow-stage.result.1 c.self.invariant c.in-Some.is refl reply follows in
     subst (λ n. StrandInvariant (with_entries s c.push_reserved.new.self.items c.still_wanted-self-inside.result n c.follow-stage.new.machine c.follow-stage.result.0 c.follow-stage.result.1)) (sym c.push_reserved.ensures.capacity)
@@ -49,6 +52,7 @@ pub returns-clause-waits : goal.returns-clause-waits
 returns-clause-waits c told =
     let s : Strand = the_view c.self.inside in
     let same : still_wanted (reply_of c.args.e) s.wanted ≡ s.wanted = blocked_wanted c.args.e s.wanted told in
-    let wanted : c.still_wanted-self-inside.result ≡ s.wanted = c.still_wanted-self-inside.ensures ∙ (ap (λ y. still_wanted y s.wanted) c.reply_of-answer.ensures ∙ same) in
+    let is : reply_of c.args.e ≡ Some c.in-Some-reply_of.answer = sym c.reply_of.ensures ∙ c.in-Some-reply_of.is in
+    let wanted : c.still_wanted-self-inside.result ≡ s.wanted = c.still_wanted-self-inside.ensures ∙ (ap (λ y. still_wanted y s.wanted) (sym is) ∙ same) in
     let P : Strand → Type 0 = λ z. c.still_wanted-self-inside.result ≡ z.wanted in
     subst P c.self.view_is wanted

@@ -6,7 +6,7 @@ use Rattle.std.proofs.lemmas.Option.{slice_get-map, slice_get-get_or}
 use Rattle.loom_tree.specs.Tree.{Function, Source}
 use Rattle.loom_expression.specs.Text.{node_limit}
 use Rattle.loom_lang.specs.Limits.{param_limit}
-use Rattle.loom_lang.specs.Rules.{KeepsRules, takes, locals_of}
+use Rattle.loom_lang.specs.Rules.{takes, locals_of}
 use Rattle.loom_lang.specs.Places.{places, place_at, line_of_place}
 use Rattle.loom_flow.specs.declared.code.Control.TheVariants.{Out}
 use Rattle.loom_flow.specs.declared.code.Instr.{Instr}
@@ -15,7 +15,7 @@ use Rattle.loom_flow.specs.declared.code.Step.TheVariants as s
 use Rattle.loom_flow.specs.Flow.{Flow}
 use Rattle.loom_flow.specs.Depth.{depth_before, most_values}
 use Rattle.loom_flow.specs.Laws.{HasTraces, HasPlaces, HasInstructionPlaces, HasCalls, HasOperands, KeepsDepth}
-use Rattle.loom_flow.specs.FlatCode.{or_zero, calls_body, set_of, instr, place_count, size, body_code, functions_code, lowered}
+use Rattle.loom_flow.specs.FlatCode.{or_zero, calls_body, set_of, instr, place_count, size, body_code, functions_code}
 use Rattle.loom_flow.specs.Code.{IsLowered}
 use Rattle.loom_flow.proofs.Places.{lowered_places, few_places}
 use Rattle.loom_flow.proofs.CallSets.{lowered_calls}
@@ -24,7 +24,7 @@ use Rattle.loom_flow.proofs.Traces.{lowered_traces}
 use Rattle.loom_flow.proofs.Each.{same_element}
 use Rattle.loom_flow.proofs.Depths.{lowered_operands}
 use Rattle.loom_flow.proofs.SmallExpressions.{small_program}
-use Rattle.loom_flow.proofs.Deepest.{IsFound, found}
+use Rattle.loom_flow.proofs.Deepest.{found}
 
 pub has_places : (c : Flow) → IsLowered c → HasPlaces c c.program
 has_places c h = let P : Flow → Type 0 = λ z. HasPlaces z c.program in subst P (sym h.is) (lowered_places c.program)

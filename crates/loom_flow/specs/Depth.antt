@@ -1,5 +1,5 @@
 -- How many values there are before and behind instructions.
-use Rattle.std.specs.Prelude.{ℕ, suc, ◌+◌, ◌-◌, ◌≤◌, nat_le, max, List, [], ◌∷◌, Option, Some, None, map, take, if◌then◌else◌}
+use Rattle.std.specs.Prelude.{ℕ, ◌+◌, ◌-◌, ◌≤◌, nat_le, max, List, [], ◌∷◌, Option, Some, None, map, take, if◌then◌else◌}
 use Rattle.loom_tree.specs.Tree.{Expression, Right, Simple, let_, set, set_cell, return, Body, end, simple, if_, while_, Function, Source}
 use Rattle.loom_tree.specs.Tree as tree
 use Rattle.loom_lang.specs.WellFormed.{node_count}

@@ -10,7 +10,7 @@ use Rattle.loom_flow.specs.declared.code.Control.TheVariants.{Begin, Done, Edge,
 use Rattle.loom_flow.specs.declared.code.Entrance.{Entrance}
 use Rattle.loom_flow.specs.declared.code.Instr.{Instr}
 use Rattle.loom_flow.specs.Flow.{Flow}
-use Rattle.loom_flow.specs.State.{State, operand, without, forward, jumped, arguments, without_arguments}
+use Rattle.loom_flow.specs.State.{State, operand, without, jumped, arguments, without_arguments}
 use Rattle.loom_flow.specs.Position.{before}
 use Rattle.loom_flow.specs.Progress.{Progress, goes, traps, on, calls, of_ask, of_control, of_step, of_instr, progress}
 use Rattle.loom_flow.proofs.Each.{same_element}

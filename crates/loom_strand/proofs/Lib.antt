@@ -7,7 +7,6 @@ pub mod Cells
 pub mod Entrances
 pub mod Falls
 pub mod Few
-pub mod Frames
 pub mod GoesOn
 pub mod Locals
 pub mod Lone

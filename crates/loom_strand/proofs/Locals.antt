@@ -1,5 +1,5 @@
 -- The locals of a frame.
-use Rattle.std.proofs.Common.{pos, min, ◌+◌, get_or, take, ℕ, zero, suc, ◌≡◌, ◌≤◌, ◌<◌, List, [], ◌∷◌, ℤ, slice_get, slice_set, length, refl, sym, ap, ◌∙◌, arith}
+use Rattle.std.proofs.Common.{pos, min, ◌+◌, get_or, take, ℕ, zero, suc, ◌≡◌, ◌<◌, List, [], ◌∷◌, ℤ, slice_get, slice_set, length, refl, sym, ap, ◌∙◌, arith}
 use Rattle.std.proofs.lemmas.List.{take_min}
 use Rattle.loom_flow.specs.State.{value_of, put_at, filled}
 

@@ -1,7 +1,5 @@
 -- What instructions of the code find: values, locals and room.
 use Rattle.std.proofs.Common.{ℕ, suc, ◌+◌, ◌-◌, ◌≡◌, ◌≤◌, ◌<◌, List, [], ◌∷◌, Some, sym, subst, slice_get, length, arith}
-use Rattle.loom_flow.specs.declared.code.Ask.{Ask}
-use Rattle.loom_flow.specs.declared.code.Ask.TheVariants.{Spawn}
 use Rattle.loom_flow.specs.declared.code.Control.{Control}
 use Rattle.loom_flow.specs.declared.code.Control.TheVariants.{Begin, Done, Edge, Jump, JumpIfZero, Call, Return, Out}
 use Rattle.loom_flow.specs.declared.code.Step.{Step}

@@ -35,7 +35,10 @@ fn read_cell(machine: &Machine, line: u32, array: Array, index: Operand) -> Requ
 {
     match cell_at(array, machine.operand(index)) {
         Some(word) => Request::Read { line, word },
-        None => Request::Trap { line, reason: INDEX },
+        None => Request::Trap {
+            line,
+            reason: INDEX,
+        },
     }
 }
 
@@ -60,7 +63,10 @@ fn write_cell(machine: &Machine, line: u32, array: Array, index: Operand, b: Ope
     let value = machine.operand(b);
     match cell_at(array, machine.operand_under(index, b)) {
         Some(word) => Request::Write { line, word, value },
-        None => Request::Trap { line, reason: INDEX },
+        None => Request::Trap {
+            line,
+            reason: INDEX,
+        },
     }
 }
 

@@ -49,7 +49,10 @@ fn apply(
             machine.replace_two(a, b, target, v);
             StepResult::Goes(None)
         }
-        None => StepResult::Asks(Request::Trap { line, reason: DIVISION }),
+        None => StepResult::Asks(Request::Trap {
+            line,
+            reason: DIVISION,
+        }),
     }
 }
 

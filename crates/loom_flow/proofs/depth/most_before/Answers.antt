@@ -1,4 +1,4 @@
-use Rattle.std.proofs.Common.{◌-◌, ◌≡◌, ◌≤◌, ◌∙◌, ap, sym, arith}
+use Rattle.std.proofs.Common.{◌-◌, ◌≤◌, ◌∙◌, ap, sym, arith}
 use Rattle.loom_flow.proofs.Deepest.{most_more, most_all}
 use Rattle.loom_flow.proofs.depth.most_before.Goals as goal
 

@@ -1,6 +1,5 @@
-use Rattle.std.proofs.Common.{ℕ, to_z, of_z, w64, rules, ◌≡◌, ◌<◌, ◌∙◌, length, sym, ap, Some, slice_get, subst}
+use Rattle.std.proofs.Common.{ℕ, to_z, of_z, w64, rules, ◌≡◌, ◌∙◌, sym, Some, subst}
 use Rattle.std.proofs.lemmas.Int.{to_z-of_z}
-use Rattle.std.proofs.lemmas.Option.{slice_get-get_or}
 use Rattle.loom_lang.specs.Trace.{out}
 use Rattle.loom_flow.specs.Progress.{goes, returns}
 use Rattle.loom_strand.specs.StepResult.{StepsTo}

@@ -1,4 +1,4 @@
-use Rattle.std.proofs.Common.{◌≡◌, ◌∙◌, List, Some, sym, ap}
+use Rattle.std.proofs.Common.{◌≡◌, ◌∙◌, List, sym, ap}
 use Rattle.loom_tree.specs.declared.item.Word.{Word}
 use Rattle.loom_lang.specs.Numbers.{cells_from}
 use Rattle.loom_flow.proofs.Roles.{array_counted}

@@ -7,16 +7,16 @@ use Rattle.loom_trace.specs.declared.entry.Entry.{Entry}
 use Rattle.loom_trace.specs.declared.entry.Entry.TheVariants as e
 use Rattle.loom_trace.specs.declared.request.Request.{Request}
 use Rattle.loom_lang.specs.Acts.{Deed}
-use Rattle.loom_event.specs.Answer.{granted, trapped}
+use Rattle.loom_event.specs.Answer.{granted, trapped, IsAnswered}
 use Rattle.loom_event.specs.Entries.{thread_of, is_thread, is_some_thread, thread_entries, is_over}
 use Rattle.loom_event.proofs.Stops.{never_stopped}
-use Rattle.loom_event.specs.Event.{Event, entry_by}
+use Rattle.loom_event.specs.Event.{Event, event_of_deed, entry_by}
 use Rattle.loom_event.specs.Replay.{ThreadState, Store, start, thread_at, after_event, replay, IsAllowed}
 use Rattle.loom_law.specs.Walk.{tick}
 use Rattle.loom_law.specs.ThreadPart.{Own, AsksToMake, AsksToAct}
 use Rattle.loom_law.specs.Control.{Command, Control, after_entry, takes_version, versions_of, versions_from, entries_of}
 use Rattle.loom_law.specs.Lawful.{Setting, front_of, plans, own, over, IsLawful}
-use Rattle.loom_law.specs.TurnLaws.{IsAnswered, event_of_deed}
+
 use Rattle.loom_law.proofs.NoCommands.{answer_without, tick_without, thread_unfinished}
 use Rattle.loom_strand.specs.Life.{has_none, is_end, has_ended, versions_with}
 use Rattle.loom_top.specs.Answers.{never, plain}

@@ -16,7 +16,6 @@ use Rattle.loom_law.specs.Walk.{tick}
 use Rattle.loom_law.specs.ThreadPart.{Own, AsksToMake, AsksToAct}
 use Rattle.loom_law.specs.Control.{Command, Control, after_entry, takes_version, versions_of, versions_from, entries_of}
 use Rattle.loom_law.specs.Lawful.{Setting, front_of, plans, own, over, IsLawful}
-
 use Rattle.loom_law.proofs.NoCommands.{answer_without, tick_without, thread_unfinished}
 use Rattle.loom_strand.specs.Life.{has_none, is_end, has_ended, versions_with}
 use Rattle.loom_top.specs.Answers.{never, plain}

@@ -29,7 +29,7 @@ fn read(line: u32, word: u16) -> Request
 
 // A cell's value, or the trap of an index that isn't one of the array.
 fn read_cell(machine: &Machine, line: u32, array: Array, index: Operand) -> Request
-    requires value { taken index ≤ length machine.now.state.values }
+    requires value { pops index ≤ length machine.now.state.values }
     requires local { HasLocal index }
     ensures { result ≡ cell_request line (λ w. r.Read line w) (cell_at array (operand machine.now.state index)) }
 {
@@ -56,7 +56,7 @@ fn write(machine: &Machine, line: u32, word: u16, a: Operand) -> Request
 
 // The same of a cell.
 fn write_cell(machine: &Machine, line: u32, array: Array, index: Operand, b: Operand) -> Request
-    requires values { taken index + pops b ≤ length machine.now.state.values }
+    requires values { pops index + pops b ≤ length machine.now.state.values }
     requires locals { HasLocal index × HasLocal b }
     ensures { result ≡ cell_request line (λ w. r.Write line w (operand machine.now.state b)) (cell_at array (operand (without machine.now.state b) index)) }
 {

@@ -8,9 +8,10 @@ use loom_trace::entry::What;
 // The greatest value of a semaphore.
 const SEMA_LIMIT: u32 = 2147483647;
 
-// The reasons of the traps: a mutex that isn't the thread's own, and a semaphore that would pass its limit.
+// Why an unlock is a trap: the thread doesn't hold the mutex.
 const NOT_HELD: u8 = 3;
 
+// Why an up is a trap: the semaphore would pass its limit.
 const OVERFLOW: u8 = 7;
 
 /// The value of a word.

@@ -13,9 +13,10 @@ use std::marker::Model;
 #[cfg(test)]
 pub(crate) mod tests;
 
-// The reasons of the traps: a value that names no thread, and a thread too many.
+// Why a join is a trap: the value names no thread.
 const NOT_SPAWNED: u8 = 4;
 
+// Why a spawn is a trap: there are as many threads as there may be.
 const THREADS: u8 = 5;
 
 /// A thread: its function with its arguments, and how far it is.

@@ -23,7 +23,7 @@ use Rattle.loom_strand.specs.PositionRequest.{question_request}
 use Rattle.loom_strand.specs.declared.reply.Reply.TheVariants as a
 use Rattle.loom_strand.specs.Reply.{reply_of, still_wanted}
 use Rattle.loom_strand.specs.Life.{is_end, has_none, versions_with, IsLastBlockedFor}
-use Rattle.loom_strand.specs.Strand.{AsksNext}
+use Rattle.loom_strand.specs.Strand.{AsksNext, IsReplyTo}
 use Rattle.loom_strand.proofs.GoesOn.{IsGrant}
 use Rattle.loom_strand.proofs.Parts.{own_with}
 
@@ -66,6 +66,10 @@ pub answer_free : (t : ℕ) (q : Request) (x : Entry) → IsAnswerTo t q x → i
 answer_free t (r.Tick l k) x h = ap is_blocked_entry h
 answer_free t q x (inl h) = deed_free t (granted q h.0) x h.1
 answer_free t q x (inr h) = deed_free t (trapped q) x h
+
+-- Behind an answer the last entry isn't `Blocked`.
+pub answer_last : (t : ℕ) (q : Request) (es us : List Entry) (x : Entry) → us ≡ es ++ x ∷ [] → IsAnswerTo t q x → ends_blocked us ≡ false
+answer_last t q es us x is h = ap ends_blocked is ∙ (last_blocked es x ∙ answer_free t q x h)
 
 -- Where the last entry isn't `Blocked` it is so for no request.
 pub free_last : (t : ℕ) (q : Request) (es : List Entry) → ends_blocked es ≡ false → IsLastBlockedFor t q es
@@ -231,3 +235,8 @@ grants_behind c p f t line (join (pos k)) behind last x b (v, h) = record {
 }
 grants_behind c p f t line (join (negsuc k)) behind last x b h = absurd b
 grants_behind c p f t line _ behind last x b h = absurd b
+
+-- A grant may be told in any case.
+pub grant_replies : (b : Bool) (t : ℕ) (q : Request) (x : Entry) → IsGrantOf t q x → IsReplyTo b t (Some q) x
+grant_replies false t q x h = inl (grant_answers t q x h)
+grant_replies true t q x h = h

@@ -243,6 +243,14 @@ fn waits_for_a_lock(rt: HostRuntime) -> Result<(), Fail> {
     next(&flow, &mut strand, &[]);
     assert!(rt; lock_later(&flow, &mut strand));
     let want = strand.run_private(&flow);
-    assert!(rt; matches!(want, Want::Ask(Request::Print { line: 11, value: 1599 })));
+    assert!(rt;
+        matches!(
+            want,
+            Want::Ask(Request::Print {
+                line: 11,
+                value: 1599
+            })
+        )
+    );
     Ok(())
 }

@@ -13,7 +13,8 @@ pub struct Row {
 pub const SUM: &str = "fn main() {\nprint 2 + 3;\n}\n";
 
 /// 600 back edges, a lock, and 999 more.
-pub const LOCK: &str = "mutex m;\nfn main() {\nlet i = 0;\nwhile (i < 600) {\ni = i + 1;\n}\nlock m;\nwhile (i < 1599) {\ni = i + 1;\n}\nprint i;\n}\n";
+pub const LOCK: &str =
+    "mutex m;\nfn main() {\nlet i = 0;\nwhile (i < 600) {\ni = i + 1;\n}\nlock m;\nwhile (i < 1599) {\ni = i + 1;\n}\nprint i;\n}\n";
 
 pub const ROWS: [Row; 14] = [
     Row {

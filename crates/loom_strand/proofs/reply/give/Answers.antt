@@ -5,7 +5,7 @@ use Rattle.loom_flow.specs.Laws.{HasLocals}
 use Rattle.loom_strand.specs.Machine.{HasRoomFor, position, TakesAnswer}
 use Rattle.loom_strand.proofs.Advance.{code_at}
 use Rattle.loom_strand.proofs.Asking.{asks_within, no_control, asked_step}
-use Rattle.loom_strand.proofs.answer.give.Goals as goal
+use Rattle.loom_strand.proofs.reply.give.Goals as goal
 
 pub take-requires-clause-room : goal.take-requires-clause-room
 take-requires-clause-room c =

@@ -15,7 +15,8 @@ use Rattle.loom_law.specs.ThreadPart.{Own, walk_of, IsPart, Point, IsPlaceOf, Ha
 use Rattle.loom_law.specs.FilterView.{IsClear, view_behind}
 use Rattle.loom_law.specs.Paths.{IsUnsafe}
 use Rattle.loom_event.specs.Event.{Event, entry_of}
-use Rattle.loom_event.specs.Replay.{ThreadState, start, thread_at, replay, IsAllowed, thread_limit}
+use Rattle.loom_event.specs.Replay.{ThreadState, start, thread_at, replay, IsAllowed}
+use Rattle.loom_trace.specs.Limits.{thread_limit}
 use Rattle.loom_event.specs.Entries.{thread_of, IsFinished}
 use Rattle.loom_law.specs.Control.{Holder, Control, control, versions_of, entries_of, listed_places, since_asked, is_post, is_past}
 use Rattle.loom_law.specs.Lawful.{Setting, Front, front_of, front_at, plans, own, is_held_by, is_installed, IsHeldOff, IsFlagged, IsOpen, is_cross, is_begin, owes_cross, is_spawn_of, has_any, Permits, MayFollow, IsObeyed, IsLawful, SeesNothing}

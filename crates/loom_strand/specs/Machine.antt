@@ -1,5 +1,6 @@
 -- The machine of a thread: where the thread is, and for how much it has room.
 use Rattle.std.specs.Prelude.{ℕ, ◌-◌, ◌≡◌, ◌≤◌, ◌<◌, Bool, true, false, List, [], ◌∷◌, length, ℤ, pos, replicate}
+use Rattle.loom_trace.specs.Limits.{argument_limit}
 use Rattle.loom_lang.specs.Trace.{frame_limit}
 use Rattle.loom_flow.specs.declared.code.Ask.{Ask}
 use Rattle.loom_flow.specs.declared.code.Ask.TheVariants.{Spawn}
@@ -59,7 +60,7 @@ branch_state false zero other = other
 -- A new frame, or thread, has room for so many arguments.
 
 abbrev pub AskHasFewArguments : Ask → Type 0
-AskHasFewArguments (Spawn f n d) = n ≤ 4
+AskHasFewArguments (Spawn f n d) = n ≤ argument_limit
 AskHasFewArguments _ = Unit {0}
 
 -- It takes an answer with this value, where it asks.
@@ -74,7 +75,7 @@ HasFirstSite sites (f ∷ fs) = f.site < length sites
 
 -- The function that is called has an entrance, and few arguments.
 abbrev pub CallsFunction : Flow → Control → Type 0
-CallsFunction c (Call f n) = (f < length c.entrances) × (n ≤ 4)
+CallsFunction c (Call f n) = (f < length c.entrances) × (n ≤ argument_limit)
 CallsFunction c _ = Unit {0}
 
 abbrev pub TakesFewArguments : Flow → Step → Type 0

@@ -1,5 +1,6 @@
 //! What instructions ask for, and how they take the answer.
 ghost use Rattle.std.specs.Prelude.{ℕ, ◌≡◌, ◌<◌, ◌≤◌, length};
+ghost use Rattle.loom_trace.specs.Limits.{argument_limit};
 ghost use Rattle.loom_flow.specs.State.{operand, without, arguments};
 ghost use Rattle.loom_flow.specs.Progress.{of_ask};
 ghost use Rattle.loom_trace.specs.declared.request.Request.TheVariants as r;
@@ -72,7 +73,7 @@ fn print(machine: &Machine, line: u32, a: Operand) -> Request
 }
 
 fn spawn(machine: &Machine, line: u32, func: u8, n: u8) -> Request
-    requires { n ≤ 4 }
+    requires { n ≤ argument_limit }
     ensures { result ≡ r.Spawn line func (arguments machine.now.state n) }
 {
     Request::Spawn {

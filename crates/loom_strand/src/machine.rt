@@ -1,5 +1,6 @@
 //! The machine of a thread.
 ghost use Rattle.std.specs.Prelude.{slice_get, ◌≡◌, ◌<◌, ◌≤◌, ◌+◌, [], ◌∷◌, IfOk, Some, length, is_some, unwrap_or, pos, replicate};
+ghost use Rattle.loom_trace.specs.Limits.{argument_limit};
 ghost use Rattle.loom_flow.specs.Flow.{Flow, resume};
 ghost use Rattle.loom_flow.specs.State.{operand, without, given, forward, jumped, arguments, without_arguments, frame_locals, at_start};
 ghost use Rattle.loom_flow.specs.Position.{before, leaves, over};
@@ -256,7 +257,7 @@ impl Machine {
 
     /// The arguments that are the last ones put on the values.
     pub fn arguments(&self, n: u8) -> Args
-        requires { n ≤ 4 }
+        requires { n ≤ argument_limit }
         ensures { result ≡ arguments self.now.state n }
     {
         self.values.last(n as usize)
@@ -271,7 +272,7 @@ impl Machine {
 
     /// Takes off so many arguments and gives them.
     pub fn take_arguments(&mut self, n: u8) -> Args
-        requires { n ≤ 4 }
+        requires { n ≤ argument_limit }
         ensures args { result ≡ arguments self.old.state n }
         ensures rest { self.new ≡ with_state self.old (without_arguments self.old.state n) }
     {

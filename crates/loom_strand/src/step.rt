@@ -1,5 +1,6 @@
 //! One step of a thread.
 ghost use Rattle.std.specs.Prelude.{ℕ, ◌≡◌, ◌<◌, ◌≤◌, length, slice_get};
+ghost use Rattle.loom_trace.specs.Limits.{argument_limit};
 ghost use Rattle.loom_lang.specs.Values.{is_zero, negated, inverted};
 ghost use Rattle.loom_flow.specs.declared.code.Operand.TheVariants as o;
 ghost use Rattle.loom_flow.specs.declared.code.Compute.TheVariants as compute;
@@ -78,7 +79,7 @@ fn compute(machine: &mut Machine, line: u32, x: Compute) -> StepResult
 // Into a new frame, or a trap where it would be one too many.
 fn call(machine: &mut Machine, flow: &Flow, i: &Instr, func: u8, n: u8) -> StepResult
     requires phase { machine.old.phase ≡ phase.Before }
-    requires few { n ≤ 4 }
+    requires few { n ≤ argument_limit }
     requires frames { machine.old.most_frames ≡ frames_below }
     requires there { func < length flow.now.entrances }
     ensures { StepsTo flow.now i.now.place machine.old machine.new result (of_control flow.now machine.old.state i.now.line i.now.place (control.Call func n)) }

@@ -1,5 +1,6 @@
 //! The values of a thread.
 ghost use Rattle.std.specs.Prelude.{◌≡◌, ◌<◌, ◌≤◌, [], ◌∷◌, IfOk, length, take, drop, reverse};
+ghost use Rattle.loom_trace.specs.Limits.{argument_limit};
 ghost use Rattle.loom_flow.specs.State.{top};
 
 use loom_trace::row::Args;
@@ -76,7 +77,7 @@ impl Values {
     /// The last ones put on, so many, in their order.
     #[tactic(auto, using(crate::proofs::Stacks::taken_last))]
     pub fn last(&self, n: usize) -> Args
-        requires { n ≤ 4 }
+        requires { n ≤ argument_limit }
         ensures { result ≡ reverse (take n self.now.items) }
     {
         let kept = self.items.len().saturating_sub(n);
@@ -95,7 +96,7 @@ impl Values {
 
 /// The arguments that a slice has.
 pub(crate) fn args_of(values: &[i64]) -> Args
-    requires { length values.now ≤ 4 }
+    requires { length values.now ≤ argument_limit }
     ensures { result ≡ values.now }
 {
     let mut args = Args::none();

@@ -5,6 +5,8 @@ use Rattle.loom_tree.specs.declared.item.Sema.{Sema}
 use Rattle.loom_tree.specs.Tree.{Source}
 use Rattle.loom_trace.specs.declared.entry.What.{What}
 use Rattle.loom_trace.specs.declared.entry.What.TheVariants as w
+use Rattle.loom_trace.specs.Limits.{thread_limit}
+use Rattle.loom_syntax.specs.File.{sema_limit}
 use Rattle.loom_lang.specs.Numbers.{function_number}
 use Rattle.loom_lang.specs.Trace.{Cause, division, index, not_held, not_spawned, threads, frames, overflow, Act, begin, end, trap, read, write, lock, unlock, down, up, spawn, join, print}
 use Rattle.loom_event.specs.Event.{Event}
@@ -68,13 +70,6 @@ pub record HasEnded (s : Store) (t : ℕ) : Type 0 where
   pub state : ThreadState
   pub is : thread_at s t ≡ Some state
   pub ended : state.ended ≡ true
-
--- how many threads a run has at most, and the greatest value of a semaphore
-abbrev pub thread_limit : ℕ
-thread_limit = 8
-
-abbrev pub sema_limit : ℕ
-sema_limit = 2147483647
 
 -- a trap stands only where the store has its cause; the causes in the thread itself ask for nothing
 abbrev pub IsCaused : Store → ℕ → Cause → Type 0

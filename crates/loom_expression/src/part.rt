@@ -14,7 +14,7 @@ const NODE_LIMIT: usize = 128;
 const NESTING_LIMIT: usize = 128;
 
 /// How tightly an operator between two operands binds, from 1 to 5.
-pub fn prec(op: Op) -> u8
+pub(crate) fn prec(op: Op) -> u8
     ensures { result ≡ prec op }
 {
     match op {
@@ -79,28 +79,28 @@ impl Size {
     }
 
     /// Whether an operator and its right operand may follow.
-    pub fn may_join(self) -> bool
+    pub(crate) fn may_join(self) -> bool
         ensures { result ≡ m.has_room 2 (size_of self) }
     {
         self.nodes <= NODE_LIMIT - 2
     }
 
     /// Whether something that nests may begin.
-    pub fn may_nest(self) -> bool
+    pub(crate) fn may_nest(self) -> bool
         ensures { result ≡ m.may_nest (size_of self) }
     {
         self.brackets < NESTING_LIMIT.saturating_sub(self.unary)
     }
 
     /// Whether something that nests and is a node may begin.
-    pub fn may_sign(self) -> bool
+    pub(crate) fn may_sign(self) -> bool
         ensures { result ≡ m.may_sign (size_of self) }
     {
         self.nodes <= NODE_LIMIT - 1 && self.may_nest()
     }
 
     /// The size behind an operator between two operands.
-    pub fn joined(self) -> Size
+    pub(crate) fn joined(self) -> Size
         requires { m.has_room 2 (size_of self) ≡ true }
         ensures { size_of result ≡ m.joined (size_of self) }
     {
@@ -112,7 +112,7 @@ impl Size {
     }
 
     /// The size behind an operator before its operand.
-    pub fn signed(self) -> Size
+    pub(crate) fn signed(self) -> Size
         requires { m.may_sign (size_of self) ≡ true }
         ensures { size_of result ≡ m.signed (size_of self) }
     {
@@ -124,7 +124,7 @@ impl Size {
     }
 
     /// The size where an operator before its operand has it.
-    pub fn unsigned(self) -> Size
+    pub(crate) fn unsigned(self) -> Size
         ensures { size_of result ≡ m.unsigned (size_of self) }
     {
         Size {
@@ -135,7 +135,7 @@ impl Size {
     }
 
     /// The size behind an opening parenthesis.
-    pub fn opened(self) -> Size
+    pub(crate) fn opened(self) -> Size
         requires { m.may_nest (size_of self) ≡ true }
         ensures { size_of result ≡ m.opened (size_of self) }
     {
@@ -147,7 +147,7 @@ impl Size {
     }
 
     /// The size behind an opening bracket.
-    pub fn indexed(self) -> Size
+    pub(crate) fn indexed(self) -> Size
         requires { m.may_sign (size_of self) ≡ true }
         ensures { size_of result ≡ m.indexed (size_of self) }
     {
@@ -159,7 +159,7 @@ impl Size {
     }
 
     /// The size behind a closing parenthesis or bracket.
-    pub fn closed(self) -> Size
+    pub(crate) fn closed(self) -> Size
         ensures { size_of result ≡ m.closed (size_of self) }
     {
         Size {
@@ -172,7 +172,7 @@ impl Size {
 
 impl Phrase {
     /// The operand with these parts.
-    pub fn new(value: Expr, size: Size, prefixes: Vec<Prefix>) -> Phrase
+    pub(crate) fn new(value: Expr, size: Size, prefixes: Vec<Prefix>) -> Phrase
         ensures { result ≡ record { value = value; size = size; prefixes = prefixes } }
     {
         Phrase {

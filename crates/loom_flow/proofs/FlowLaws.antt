@@ -1,5 +1,6 @@
 -- What lowered flat code keeps of its program.
-use Rattle.std.proofs.Common.{ℕ, suc, ◌+◌, ◌<◌, ◌≤◌, ◌≡◌, ◌↔◌, List, [], ◌∷◌, ◌++◌, true, length, length-append, get_or, Some, ap, sym, ◌∙◌, subst, arith}
+use Rattle.std.proofs.Common.{ℕ, suc, ◌*◌, ◌+◌, ◌<◌, ◌≤◌, ◌≡◌, ◌↔◌, List, [], ◌∷◌, ◌++◌, true, length, length-append, get_or, Some, ap, sym, ◌∙◌, subst, arith}
+use Rattle.loom_lang.specs.Limits.{function_limit, statement_limit}
 use Rattle.std.specs.Prelude.{slice_get, option_map, Contains, IsBitSet}
 use Rattle.std.proofs.lemmas.List.{length-map}
 use Rattle.std.proofs.lemmas.Option.{slice_get-map, slice_get-get_or}
@@ -57,7 +58,7 @@ instructions_of c p h e =
 pub as_many_sites : (c : Flow) → IsLowered c → length c.sites ≡ length (places c.program)
 as_many_sites c h = sym (length-map c.sites (λ (s : Site). s.line)) ∙ ap length (has_places c h) ∙ length-map (places c.program) (line_of_place c.program)
 
-pub few_sites : (c : Flow) → IsLowered c → length c.sites ≤ 8321
+pub few_sites : (c : Flow) → IsLowered c → length c.sites ≤ 1 + 2 * (function_limit + statement_limit)
 few_sites c h = let is = as_many_sites c h in let few = few_places c.program h.lawful in omega arith
 
 pub site_line : (c : Flow) (k : ℕ) (d : Site) → IsLowered c → k < length c.sites → option_map (line_of_place c.program) (place_at c.program k) ≡ Some (get_or c.sites k d).line

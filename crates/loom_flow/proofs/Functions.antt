@@ -1,5 +1,6 @@
 -- The flat code of functions, one after another.
-use Rattle.std.proofs.Common.{ℕ, suc, ◌+◌, ◌≤◌, ◌≡◌, List, [], ◌∷◌, ◌++◌, length, map, refl, ap, sym, ◌∙◌, arith, append_assoc, length-append}
+use Rattle.std.proofs.Common.{ℕ, ◌*◌, suc, ◌+◌, ◌≤◌, ◌≡◌, List, [], ◌∷◌, ◌++◌, length, map, refl, ap, sym, ◌∙◌, arith, append_assoc, length-append}
+use Rattle.loom_lang.specs.Limits.{function_limit, statement_limit}
 use Rattle.loom_tree.specs.Tree.{Body, Function, Source}
 use Rattle.loom_lang.specs.Rules.{KeepsRules, locals_of}
 use Rattle.loom_flow.specs.declared.code.Instr.{Instr}
@@ -7,7 +8,7 @@ use Rattle.loom_flow.specs.declared.code.Site.{Site}
 use Rattle.loom_flow.specs.declared.code.Entrance.{Entrance}
 use Rattle.loom_flow.specs.declared.code.Step.TheVariants as s
 use Rattle.loom_flow.specs.declared.code.Control.TheVariants.{Out}
-use Rattle.loom_flow.specs.FlatCode.{instr, site, size, place_count, body_code, body_sites, functions_code, functions_sites, entrances, calls_body, set_of, lowered, place_limit}
+use Rattle.loom_flow.specs.FlatCode.{instr, site, size, place_count, body_code, body_sites, functions_code, functions_sites, entrances, calls_body, set_of, lowered, site_limit}
 use Rattle.loom_flow.proofs.Sizes.{code_length, sites_length}
 use Rattle.loom_flow.proofs.FlowLaws.{few_sites}
 
@@ -105,9 +106,9 @@ calls_on p f all fs ns ns' e h =
     ∙ ap (λ (z : List Function). ns ++ map (λ (g : Function). set_of 0 (calls_body p g.body)) z) (sym e)
 
 -- there is room for the places of the next function
-pub room_for : (p : Source) (f : Function) (all fs : List Function) (at : ℕ) (sites : List Site) → KeepsRules p → all ≡ f ∷ fs → sites ++ functions_sites p at all ≡ (lowered p).sites → length sites + (2 + place_count f.body) ≤ place_limit
+pub room_for : (p : Source) (f : Function) (all fs : List Function) (at : ℕ) (sites : List Site) → KeepsRules p → all ≡ f ∷ fs → sites ++ functions_sites p at all ≡ (lowered p).sites → length sites + (2 + place_count f.body) ≤ site_limit
 room_for p f all fs at sites l e h =
-    let few : length (lowered p).sites ≤ 8321 = few_sites (lowered p) (record { lawful = l; is = refl }) in
+    let few : length (lowered p).sites ≤ 1 + 2 * (function_limit + statement_limit) = few_sites (lowered p) (record { lawful = l; is = refl }) in
     let whole : length (sites ++ functions_sites p at (f ∷ fs)) ≡ length (lowered p).sites = ap (λ (z : List Function). length (sites ++ functions_sites p at z)) (sym e) ∙ ap length h in
     let both = length-append sites (functions_sites p at (f ∷ fs)) in
     let many = sites_long p at f fs in

@@ -1,5 +1,6 @@
 -- The places of flat code are those of its program.
 use Rattle.std.proofs.Common.{ℕ, suc, ◌+◌, ◌*◌, ◌≤◌, ◌≡◌, List, [], ◌∷◌, ◌++◌, length, map, Some, refl, ap, sym, ◌∙◌, arith, length-append, append_assoc}
+use Rattle.loom_lang.specs.Limits.{function_limit, statement_limit}
 use Rattle.std.specs.Prelude.{slice_get, flat_map}
 use Rattle.std.proofs.lemmas.List.{map-append}
 use Rattle.loom_tree.specs.Tree.{Body, end, simple, if_, while_, Function, Source}
@@ -72,5 +73,5 @@ count_functions n (f ∷ fs) =
     let k = count_functions (suc n) fs in
     omega (arith, length-append (body_places f.body) (Place.out n ∷ places_from (suc n) fs), length-append (lines f.body) (flat_map (λ (f : Function). lines f.body) fs))
 
-pub few_places : (p : Source) → KeepsRules p → length (places p) ≤ 8321
+pub few_places : (p : Source) → KeepsRules p → length (places p) ≤ 1 + 2 * (function_limit + statement_limit)
 few_places p h = let k = count_functions 0 p.funcs in let fs = h.function_count in let ls = h.statements in omega arith

@@ -141,9 +141,9 @@ size p xs (simple l x rest) = length (simple_steps p xs x) + size p xs rest
 size p xs (if_ l e a b rest) = length (operand_steps p xs e) + (4 + size p xs a + size p xs b + size p xs rest)
 size p xs (while_ l e a rest) = length (operand_steps p xs e) + (4 + size p xs a + size p xs rest)
 
--- A place's number has 16 bits.
-abbrev pub place_limit : ℕ
-place_limit = 65536
+-- A place's number has 16 bits, so that there may be so many.
+abbrev pub site_limit : ℕ
+site_limit = 65536
 
 -- how many places they have
 abbrev pub place_count : Body → ℕ

@@ -5,7 +5,7 @@ ghost use Rattle.loom_lang.specs.Rules.{knows, knows_body};
 ghost use Rattle.loom_flow.specs.Arguments.{takes_body};
 ghost use Rattle.loom_flow.specs.declared.code.Step.TheVariants as s;
 ghost use Rattle.loom_flow.specs.declared.code.Control.TheVariants.{JumpIfZero};
-ghost use Rattle.loom_flow.specs.FlatCode.{instr, instrs, operand_of, operand_steps, place_count, body_code, body_sites, place_limit};
+ghost use Rattle.loom_flow.specs.FlatCode.{instr, instrs, operand_of, operand_steps, place_count, body_code, body_sites, site_limit};
 
 use crate::code::{Ask, Control, Instr, Operand, Site, Step};
 use crate::expression::{Spot, operand, push};
@@ -63,7 +63,7 @@ fn choice(
     requires known { knows_body scope.now.program scope.now.locals (if_ spot.line (expression_of e.now) (body_of a.now) (body_of b.now) end) ≡ true }
     requires counted { takes_body scope.now.program (if_ spot.line (expression_of e.now) (body_of a.now) (body_of b.now) end) ≡ true }
     requires place { spot.place ≡ length sites.old.items }
-    requires room { length sites.old.items + place_count (if_ spot.line (expression_of e.now) (body_of a.now) (body_of b.now) end) ≤ place_limit }
+    requires room { length sites.old.items + place_count (if_ spot.line (expression_of e.now) (body_of a.now) (body_of b.now) end) ≤ site_limit }
     ensures code { OnOk result (code.new.items ≡ code.old.items ++ body_code scope.now.program scope.now.locals (length code.old.items) spot.place (if_ spot.line (expression_of e.now) (body_of a.now) (body_of b.now) end)) }
     ensures sites { OnOk result (sites.new.items ≡ sites.old.items ++ body_sites scope.now.program scope.now.locals (length code.old.items) (if_ spot.line (expression_of e.now) (body_of a.now) (body_of b.now) end)) }
 {
@@ -99,7 +99,7 @@ fn repeat(
     requires known { knows_body scope.now.program scope.now.locals (while_ spot.line (expression_of e.now) (body_of a.now) end) ≡ true }
     requires counted { takes_body scope.now.program (while_ spot.line (expression_of e.now) (body_of a.now) end) ≡ true }
     requires place { spot.place ≡ length sites.old.items }
-    requires room { length sites.old.items + place_count (while_ spot.line (expression_of e.now) (body_of a.now) end) ≤ place_limit }
+    requires room { length sites.old.items + place_count (while_ spot.line (expression_of e.now) (body_of a.now) end) ≤ site_limit }
     ensures code { OnOk result (code.new.items ≡ code.old.items ++ body_code scope.now.program scope.now.locals (length code.old.items) spot.place (while_ spot.line (expression_of e.now) (body_of a.now) end)) }
     ensures sites { OnOk result (sites.new.items ≡ sites.old.items ++ body_sites scope.now.program scope.now.locals (length code.old.items) (while_ spot.line (expression_of e.now) (body_of a.now) end)) }
 {
@@ -132,7 +132,7 @@ pub fn body(
 ) -> Result<(), NoMemory>
     requires known { knows_body scope.now.program scope.now.locals (body_of body.now) ≡ true }
     requires counted { takes_body scope.now.program (body_of body.now) ≡ true }
-    requires room { length sites.old.items + place_count (body_of body.now) ≤ place_limit }
+    requires room { length sites.old.items + place_count (body_of body.now) ≤ site_limit }
     ensures code { OnOk result (code.new.items ≡ code.old.items ++ body_code scope.now.program scope.now.locals (length code.old.items) (length sites.old.items) (body_of body.now)) }
     ensures sites { OnOk result (sites.new.items ≡ sites.old.items ++ body_sites scope.now.program scope.now.locals (length code.old.items) (body_of body.now)) }
 {
@@ -156,7 +156,7 @@ fn statement(
     requires known { knows_body scope.now.program scope.now.locals (behind spot.line kind.now end) ≡ true }
     requires counted { takes_body scope.now.program (behind spot.line kind.now end) ≡ true }
     requires place { spot.place ≡ length sites.old.items }
-    requires room { length sites.old.items + place_count (behind spot.line kind.now end) ≤ place_limit }
+    requires room { length sites.old.items + place_count (behind spot.line kind.now end) ≤ site_limit }
     ensures code { OnOk result (code.new.items ≡ code.old.items ++ body_code scope.now.program scope.now.locals (length code.old.items) spot.place (behind spot.line kind.now end)) }
     ensures sites { OnOk result (sites.new.items ≡ sites.old.items ++ body_sites scope.now.program scope.now.locals (length code.old.items) (behind spot.line kind.now end)) }
 {

@@ -4,7 +4,7 @@ ghost use Rattle.loom_tree.specs.Tree.{body_of, function_of, functions_of};
 ghost use Rattle.loom_lang.specs.Limits.{param_limit};
 ghost use Rattle.loom_lang.specs.Rules.{KeepsRules, FunctionKeepsRules, locals_of};
 ghost use Rattle.loom_flow.specs.Laws.{HasTraces, HasPlaces, HasInstructionPlaces, HasCalls};
-ghost use Rattle.loom_flow.specs.FlatCode.{place_count, functions_code, functions_sites, entrances, calls_body, set_of, lowered, place_limit};
+ghost use Rattle.loom_flow.specs.FlatCode.{place_count, functions_code, functions_sites, entrances, calls_body, set_of, lowered, site_limit};
 
 use crate::block::body;
 use crate::calls::with_body;
@@ -22,7 +22,7 @@ use std::sync::Arc;
 
 /// Where the function stands that is put next.
 fn entrance(code: &[Instr], sites: &[Site], f: &Func) -> Result<Entrance, NoMemory>
-    requires room { length sites.now < place_limit }
+    requires room { length sites.now < site_limit }
     requires params { length f.now.params ≤ param_limit }
     ensures { IfOk result (λ e. e ≡ record { start = length code.now; place = length sites.now; params = length f.now.params }) }
 {
@@ -42,7 +42,7 @@ fn put_function(
 ) -> Result<(), NoMemory>
     requires locals { scope.now.locals ≡ locals_of (function_of f.now) }
     requires lawful { FunctionKeepsRules scope.now.program (function_of f.now) }
-    requires room { length sites.old.items + (2 + place_count (body_of f.now.body)) ≤ place_limit }
+    requires room { length sites.old.items + (2 + place_count (body_of f.now.body)) ≤ site_limit }
     ensures code { OnOk result (code.new.items ≡ code.old.items ++ functions_code scope.now.program (length code.old.items) (length sites.old.items) (function_of f.now ∷ [])) }
     ensures sites { OnOk result (sites.new.items ≡ sites.old.items ++ functions_sites scope.now.program (length code.old.items) (function_of f.now ∷ [])) }
 {
@@ -66,7 +66,7 @@ struct Parts {
 /// The next function.
 fn put(alloc: Global, parts: &mut Parts, scope: &mut Scope, f: &Func) -> Result<(), NoMemory>
     requires lawful { FunctionKeepsRules scope.old.program (function_of f.now) }
-    requires room { length parts.old.sites.items + (2 + place_count (body_of f.now.body)) ≤ place_limit }
+    requires room { length parts.old.sites.items + (2 + place_count (body_of f.now.body)) ≤ site_limit }
     ensures program { OnOk result (scope.new.program ≡ scope.old.program) }
     ensures code { OnOk result (parts.new.code.items ≡ parts.old.code.items ++ functions_code scope.old.program (length parts.old.code.items) (length parts.old.sites.items) (function_of f.now ∷ [])) }
     ensures sites { OnOk result (parts.new.sites.items ≡ parts.old.sites.items ++ functions_sites scope.old.program (length parts.old.code.items) (function_of f.now ∷ [])) }

@@ -7,7 +7,7 @@ ghost use Rattle.loom_lang.specs.Rules.{is_in, is_word, takes, knows, knows_call
 ghost use Rattle.loom_flow.specs.Arguments.{takes_right};
 ghost use Rattle.loom_flow.specs.declared.code.Step.TheVariants as s;
 ghost use Rattle.loom_flow.specs.declared.code.Control.TheVariants.{Begin, Done};
-ghost use Rattle.loom_flow.specs.FlatCode.{instr, instrs, call_steps, spawn_steps, store_step, value_steps, set_steps, simple_steps, resume_of, site, place_limit};
+ghost use Rattle.loom_flow.specs.FlatCode.{instr, instrs, call_steps, spawn_steps, store_step, value_steps, set_steps, simple_steps, resume_of, site, site_limit};
 
 use crate::code::{Ask, Compute, Control, Instr, Operand, Site, Step, Target};
 use crate::expression::{Spot, arguments, expression, operand, push};
@@ -28,7 +28,7 @@ pub fn next(code: &[Instr]) -> Result<u32, NoMemory>
 
 /// Where the instructions of a statement stand whose place is the next.
 pub fn spot_of(sites: &[Site], line: u32) -> Spot
-    requires { length sites.now < place_limit }
+    requires { length sites.now < site_limit }
     ensures { result ≡ record { line = line; place = length sites.now } }
 {
     Spot {

@@ -9,7 +9,7 @@ use Rattle.loom_gate.specs.declared.view.PassView.{PassView}
 use Rattle.loom_gate.specs.declared.view.Look.{Look}
 use Rattle.loom_gate.specs.declared.view.Look.TheVariants.{Unknown, SawInside, SawPlace}
 use Rattle.loom_gate.specs.declared.view.KeyView.{KeyView}
-use Rattle.loom_gate.specs.View.{mark, place_of}
+use Rattle.loom_gate.specs.View.{mark, place_of, switch_limit}
 use Rattle.loom_gate.specs.Record.{place_from, has_version, AreInOrder}
 
 -- threads are 1 to n
@@ -66,7 +66,7 @@ pub record Lawful (n : ℕ) (m : GateMachine) : Type 0 where
   pub switches : All (SwitchFits n m) m.key.switches
   pub wide : length m.key.looks ≡ n + 1
   pub threads : m.key.threads ≡ n
-  pub most : m.key.version ≤ 128
+  pub most : m.key.version ≤ switch_limit
   -- the mark is no place
   pub small : m.key.places ≤ mark
 

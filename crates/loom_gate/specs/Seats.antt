@@ -14,7 +14,7 @@ use Rattle.loom_gate.specs.declared.view.Look.{Look}
 use Rattle.loom_gate.specs.declared.view.Look.TheVariants.{Unknown, SawInside, SawPlace}
 use Rattle.loom_gate.specs.declared.view.KeyView.{KeyView}
 use Rattle.loom_gate.specs.declared.view.View.TheVariants.{Pass, Key}
-use Rattle.loom_gate.specs.View.{pass_of, key_of, flag_words}
+use Rattle.loom_gate.specs.View.{pass_of, key_of, flag_words, switch_limit, row_limit}
 use Rattle.loom_gate.specs.GateMachine.{IsThread}
 
 -- how many threads and places a gate has
@@ -61,7 +61,7 @@ rows_of_key k = k.rows.items
 -- a pass of the table, of a gate of n threads and so many places
 abbrev pub IsPassAt : TableId → ℕ → ℕ → pass.Pass → Type 0
 IsPassAt id n places p = (p.seat.table_id ≡ id) × IsThread n p.thread × (p.seat.me ≡ (Pass p.thread (view_of_pass p), [])) × (p.place < places)
-    × (p.fresh ≡ (view_of_pass p).fresh) × (p.rows.items ≡ (view_of_pass p).rows) × (129 ≤ vec_capacity p.rows) × (length p.rows.items ≤ 129)
+    × (p.fresh ≡ (view_of_pass p).fresh) × (p.rows.items ≡ (view_of_pass p).rows) × (row_limit ≤ vec_capacity p.rows) × (length p.rows.items ≤ row_limit)
 
 -- the passes of threads t on, in their order
 abbrev pub ArePassesFrom : TableId → ℕ → ℕ → ℕ → List pass.Pass → Type 0
@@ -95,7 +95,7 @@ SeenAs (SawPlace p) place = p ≡ place
 -- the key of this gate
 abbrev pub IsKeyOf : gate.Gate → key.Key → Type 0
 IsKeyOf g k = (k.seat.table_id ≡ g.table.shared.table_id) × (k.seat.me ≡ (Key (view_of_key k), [])) × ((view_of_key k).threads ≡ threads_of g) × (length (view_of_key k).up ≡ flag_words (places_of g))
-    × ((view_of_key k).version ≡ k.version) × (k.version + k.left ≤ 128) × (k.rows.items ≡ (view_of_key k).switches) × (length k.rows.items + k.left * threads_of g ≤ vec_capacity k.rows)
+    × ((view_of_key k).version ≡ k.version) × (k.version + k.left ≤ switch_limit) × (k.rows.items ≡ (view_of_key k).switches) × (length k.rows.items + k.left * threads_of g ≤ vec_capacity k.rows)
     × (length k.places.items ≡ threads_of g + 1) × ((t : ℕ) → SeenAs (slice_index_or (view_of_key k).looks t Unknown) (slice_index k.places.items t))
     × (length (view_of_key k).looks ≡ threads_of g + 1) × ((view_of_key k).finals ≡ []) × ((view_of_key k).places ≡ places_of g)
 

@@ -12,6 +12,14 @@ use Rattle.loom_gate.specs.declared.view.KeyView.{KeyView}
 use Rattle.loom_gate.specs.declared.view.View.{View}
 use Rattle.loom_gate.specs.declared.view.View.TheVariants.{Pass, Key, Nobody}
 
+-- how many switches a gate is made for at most
+abbrev pub switch_limit : ℕ
+switch_limit = 128
+
+-- how many rows a pass may come to have: one for each version
+abbrev pub row_limit : ℕ
+row_limit = switch_limit + 1
+
 -- the mark of a pass that is inside: above every place
 abbrev pub mark : ℕ
 mark = 65536

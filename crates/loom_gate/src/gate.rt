@@ -1,6 +1,7 @@
 //! The gate's table.
 ghost use Rattle.std.specs.Prelude.{◌≡◌, ◌+◌, ◌*◌, ◌<◌, ◌≤◌, [], vec_capacity};
-ghost use Rattle.loom_gate.specs.View.{flag_words};
+ghost use Rattle.loom_trace.specs.Limits.{thread_limit, place_limit};
+ghost use Rattle.loom_gate.specs.View.{flag_words, row_limit};
 
 use crate::log::PassRow;
 use crate::steps::{GateRule, Size};
@@ -19,6 +20,6 @@ pub struct Gate {
     pub(crate) rows: Vec<PassRow>,
     pub(crate) ends: Vec<u16>,
     ghost sized: { (table.shared.table_id.words ≡ (table.shared.key.threads + 1) + flag_words table.shared.key.places) × (table.shared.table_id.slots ≡ 0) × (threads ≡ table.shared.key.threads) × (flags ≡ flag_words table.shared.key.places) },
-    ghost small: { (0 < threads) × (threads ≤ 8) × (0 < table.shared.key.places) × (table.shared.key.places ≤ 8321) },
-    ghost room: { (rows.items ≡ []) × (ends.items ≡ []) × (threads * 129 ≤ vec_capacity rows) × (threads ≤ vec_capacity ends) },
+    ghost small: { (0 < threads) × (threads ≤ thread_limit) × (0 < table.shared.key.places) × (table.shared.key.places ≤ place_limit) },
+    ghost room: { (rows.items ≡ []) × (ends.items ≡ []) × (threads * row_limit ≤ vec_capacity rows) × (threads ≤ vec_capacity ends) },
 }

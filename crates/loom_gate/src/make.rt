@@ -1,8 +1,9 @@
 //! A gate is made.
 ghost use Rattle.std.specs.Prelude.{◌≡◌, ℕ, ◌+◌, ◌*◌, ◌<◌, ◌≤◌, [], IfOk, false, length, replicate, vec_capacity, All};
+ghost use Rattle.loom_trace.specs.Limits.{thread_limit, place_limit};
 ghost use Rattle.loom_trace.specs.Places.{has_place};
 ghost use Rattle.loom_gate.specs.declared.view.View.TheVariants.{Key};
-ghost use Rattle.loom_gate.specs.View.{flag_words};
+ghost use Rattle.loom_gate.specs.View.{flag_words, switch_limit};
 ghost use Rattle.loom_gate.specs.Seats.{threads_of, places_of, view_of_pass, view_of_key, version_of, switches_left, has_flags_up, rows_of_key, place_of_pass, rows_of_pass, IsKeyOf, IsStanding, ArePassesOf};
 
 use crate::gate::Gate;
@@ -21,15 +22,16 @@ const ROWS: usize = 129;
 pub struct Passes(pub Vec<Pass>);
 
 impl Gate {
-    /// A gate for so many threads, places below `places`, and so many switches, with its key and its
-    /// passes. It takes all memory here. An `Err` is want of memory.
+    /// A gate for so many threads (from 1 to 8), places below `places` (from 1 to 8,321), and so many
+    /// switches (128 at most), with its key and its passes. It takes all memory here. An `Err` is
+    /// want of memory.
     pub fn make(
         alloc: Global,
         threads: u8,
         places: u16,
         switches: u16,
     ) -> Result<(Gate, Key, Passes), NoMemory>
-        requires { (0 < threads) × (threads ≤ 8) × (0 < places) × (places ≤ 8321) × (switches ≤ 128) }
+        requires { (0 < threads) × (threads ≤ thread_limit) × (0 < places) × (places ≤ place_limit) × (switches ≤ switch_limit) }
         ensures size { IfOk result (λ r. (threads_of r.0 ≡ threads) × (places_of r.0 ≡ places)) }
         ensures key { IfOk result (λ r. IsKeyOf r.0 r.1) }
         ensures first { IfOk result (λ r. (version_of r.1 ≡ 0) × (switches_left r.1 ≡ switches) × (rows_of_key r.1 ≡ []) × (has_flags_up r.1 ≡ false) × ((p : ℕ) → has_place (view_of_key r.1).up p ≡ false)) }

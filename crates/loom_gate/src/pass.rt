@@ -1,6 +1,6 @@
 //! The pass of one thread.
 ghost use Rattle.std.specs.Prelude.{◌≡◌, ◌+◌, ◌<◌, ◌≤◌, ◌/◌, length, vec_capacity};
-ghost use Rattle.loom_gate.specs.View.{with_row};
+ghost use Rattle.loom_gate.specs.View.{with_row, switch_limit, row_limit};
 ghost use Rattle.loom_gate.specs.GateMachine.{Amid};
 ghost use Rattle.loom_gate.specs.Seats.{threads_of, places_of, flag_index, view_of_pass, thread_of_pass, place_of_pass, rows_of_pass, IsPassOf, IsStanding, IsInside, IsInsideAt, FoundBit};
 ghost use Rattle.loom_gate.specs.Calls.{HasEntered, rows_after};
@@ -69,11 +69,11 @@ impl Pass {
 
     // Notes an entering with a version, where it is the first.
     fn note(&mut self, version: u32)
-        requires room { (length self.old.rows.items ≤ self.old.fresh) × (self.old.fresh ≤ version + 1) × (version ≤ 128) × (129 ≤ vec_capacity self.old.rows) }
+        requires room { (length self.old.rows.items ≤ self.old.fresh) × (self.old.fresh ≤ version + 1) × (version ≤ switch_limit) × (row_limit ≤ vec_capacity self.old.rows) }
         ensures rows { self.new.rows.items ≡ with_row self.old.fresh self.old.thread version self.old.place self.old.rows.items }
         ensures fresh { self.new.fresh ≡ version + 1 }
         ensures same { (self.new.seat ≡ self.old.seat) × (self.new.thread ≡ self.old.thread) × (self.new.place ≡ self.old.place) }
-        ensures room { (length self.new.rows.items ≤ 129) × (129 ≤ vec_capacity self.new.rows) }
+        ensures room { (length self.new.rows.items ≤ row_limit) × (row_limit ≤ vec_capacity self.new.rows) }
     {
         if self.fresh != version + 1 {
             self.rows.push_reserved(PassRow {

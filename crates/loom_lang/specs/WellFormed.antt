@@ -6,7 +6,7 @@ use Rattle.loom_tree.specs.declared.item.Sema.{Sema}
 use Rattle.loom_tree.specs.Tree.{Expression, num, var, cell, neg, inverse, bin, Right, Simple, let_, set, set_cell, return, lock, unlock, down, up, join, print, skip, Body, end, simple, if_, while_}
 use Rattle.loom_lexer.specs.Tokens.{largest_number}
 use Rattle.loom_expression.specs.Text.{node_limit}
-use Rattle.loom_syntax.specs.File.{block_limit, largest_count}
+use Rattle.loom_syntax.specs.File.{block_limit, sema_limit}
 
 -- Expressions
 
@@ -76,4 +76,4 @@ abbrev pub IsWellFormedWord : Word → Type 0
 IsWellFormedWord w = IsFirstValue w.cells w.first
 
 abbrev pub IsWellFormedSema : Sema → Type 0
-IsWellFormedSema s = s.first ≤ largest_count
+IsWellFormedSema s = s.first ≤ sema_limit

@@ -21,7 +21,7 @@ use std::alloc::Global;
 
 /// Why the items of a file are not told.
 #[derive(Clone, Copy, Debug, Drop, PartialEq, Eq)]
-pub enum ReadError {
+pub(crate) enum ReadError {
     /// The bytes are no program.
     Refused(LangRefusal),
     /// Memory ran out.
@@ -70,7 +70,7 @@ fn line_at(tokens: &[Token], n: usize, last_line: u32) -> u32
 }
 
 /// The items of the program that the bytes of a file are, or their refusal.
-pub fn read(alloc: Global, bytes: &[u8]) -> Result<FileItems, ReadError>
+pub(crate) fn read(alloc: Global, bytes: &[u8]) -> Result<FileItems, ReadError>
     requires { length bytes.now ≤ file_limit }
     ensures { IsReading bytes.now result }
 {

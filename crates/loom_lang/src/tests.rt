@@ -1,8 +1,11 @@
 //! Programs that are accepted, and texts that are refused, each at its line and for its reason.
 
+mod rows;
+
 use crate::limits::FILE_LIMIT;
 use crate::parse::{LangError, ReadError, parse_program, read};
 use crate::refusal::{LangRefusal, Reason, Which};
+use rows::{REFUSED, REFUSED_FOR_NAMES};
 use std::alloc::{AllocError, Global};
 use std::test::Fail;
 
@@ -54,175 +57,40 @@ fn accepts(rt: HostRuntime) {
 
 #[test]
 fn refuses(rt: HostRuntime) {
-    let texts: [(&[u8], u32, Reason); 20] = [
-        (b"", 1, Reason::NoMain),
-        (b"fn main() {", 1, Reason::Syntax),
-        (b"fn main() {\n\n", 3, Reason::Syntax),
-        (b"fn main() {}\n}", 2, Reason::Syntax),
-        (b"fn main() {}\n#", 2, Reason::Syntax),
-        (b"fn main() {}\n\xc3\xa9", 2, Reason::Syntax),
-        (b"fn main() {\nskip skip;\n}", 2, Reason::Syntax),
-        (
-            b"fn f() {}\nfn main() {\nlet v = f(1) + 1;\n}",
-            3,
-            Reason::Syntax,
-        ),
-        (
-            b"fn f(p) {}\nfn main() {\nprint f(1);\n}",
-            3,
-            Reason::Syntax,
-        ),
-        (b"sema s = 2147483648;\nfn main() {}", 1, Reason::Syntax),
-        (
-            b"fn main() {\nprint 9223372036854775808;\n}",
-            2,
-            Reason::Syntax,
-        ),
-        (b"fn main() {\nskip; skip;\n}", 2, Reason::SecondOnLine),
-        (
-            b"fn f() { skip; } fn main() { skip; }",
-            1,
-            Reason::SecondOnLine,
-        ),
-        (
-            b"fn main() {\nif (1) { skip;\n}\n}",
-            2,
-            Reason::SecondOnLine,
-        ),
-        (b"fn f() {}\n\n", 3, Reason::NoMain),
-        (b"shared main;\n", 2, Reason::NoMain),
-        (
-            b"shared a[1025];\nfn main() {}",
-            1,
-            Reason::TooMany(Which::Cells),
-        ),
-        (
-            b"shared a[1024];\nshared x;\nfn main() {}",
-            2,
-            Reason::TooMany(Which::Cells),
-        ),
-        (
-            b"shared a[4294967296];\nfn main() {}",
-            1,
-            Reason::TooMany(Which::Cells),
-        ),
-        (
-            b"fn f(a, b, c, d, e) {}\nfn main() {}",
-            1,
-            Reason::TooMany(Which::Params),
-        ),
-    ];
-    for (row, (text, line, reason)) in texts.iter().enumerate() {
+    for (i, row) in REFUSED.iter().enumerate() {
         let refusal = LangRefusal {
-            line: *line,
-            reason: *reason,
+            line: row.line,
+            reason: row.reason,
         };
         assert_eq!(rt;
-            error_of(rt.alloc(), text),
+            error_of(rt.alloc(), row.text),
             Some(LangError::Refused),
-            "row {row}"
+            "row {i}"
         );
         assert_eq!(rt;
-            refusal_of(rt.alloc(), text),
+            refusal_of(rt.alloc(), row.text),
             Ok(Some(refusal)),
-            "row {row}"
+            "row {i}"
         );
     }
 }
 
 #[test]
 fn refuses_names(rt: HostRuntime) {
-    let texts: [(&[u8], u32, Reason); 26] = [
-        (b"fn main() {\nprint x;\n}", 2, Reason::UnknownName),
-        (
-            b"fn f(p) {}\nfn main() {\nprint p;\n}",
-            3,
-            Reason::UnknownName,
-        ),
-        (
-            b"shared x;\nfn main() {\nprint x[0];\n}",
-            3,
-            Reason::UnknownName,
-        ),
-        (
-            b"shared a[2];\nfn main() {\nprint a;\n}",
-            3,
-            Reason::UnknownName,
-        ),
-        (
-            b"shared x;\nfn f() {}\nfn main() {\nx = f();\n}",
-            4,
-            Reason::UnknownName,
-        ),
-        (b"sema s;\nfn main() {\nlock s;\n}", 3, Reason::UnknownName),
-        (b"mutex m;\nfn main() {\ndown m;\n}", 3, Reason::UnknownName),
-        (b"fn main() {\nf();\n}", 2, Reason::UnknownName),
-        (b"fn main() {\nwhile (\nx) {\n}\n}", 2, Reason::UnknownName),
-        (
-            b"fn main() {\nif (1) {\n} else {\nprint x;\n}\n}",
-            4,
-            Reason::UnknownName,
-        ),
-        (b"fn f(p) {}\nfn main() {\nf();\n}", 3, Reason::WrongCount),
-        (
-            b"fn f(p) {}\nfn main() {\nlet t = spawn f(1, 2);\n}",
-            3,
-            Reason::WrongCount,
-        ),
-        (
-            b"fn f(p) {}\nfn main() {\nwhile (1) {\nf();\n}\n}",
-            4,
-            Reason::WrongCount,
-        ),
-        (b"\nfn main(p) {}", 2, Reason::WrongCount),
-        (b"shared x; mutex x;\nfn main() {}", 1, Reason::NameTwice),
-        (b"fn f() {}\nfn f(p) {}\nfn main() {}", 2, Reason::NameTwice),
-        (b"fn f(p,\np) {}\nfn main() {}", 1, Reason::NameTwice),
-        (b"fn f(f) {}\nfn main() {}", 1, Reason::NameTwice),
-        (
-            b"shared x;\nfn main() {\nlet x = 1;\n}",
-            3,
-            Reason::NameTwice,
-        ),
-        (
-            b"fn main() {\nlet x = 1;\n}\nshared x;",
-            4,
-            Reason::NameTwice,
-        ),
-        (
-            b"fn main() {\nlet v = 1;\nlet v = 2;\n}",
-            3,
-            Reason::NameTwice,
-        ),
-        (b"fn main() {}\nfn main(p) {}", 2, Reason::NameTwice),
-        (b"fn main(p) {}\nfn main() {}", 1, Reason::WrongCount),
-        // the lower line counts, and at one line the lesser reason
-        (
-            b"fn f() {}\nfn main() {\nf(1);\nskip; skip;\n}",
-            3,
-            Reason::WrongCount,
-        ),
-        (b"fn f() {}\nfn main() {\nf(x);\n}", 3, Reason::UnknownName),
-        (
-            b"fn f() {}\nfn main() {\nskip; f(x);\n}",
-            3,
-            Reason::SecondOnLine,
-        ),
-    ];
-    for (row, (text, line, reason)) in texts.iter().enumerate() {
+    for (i, row) in REFUSED_FOR_NAMES.iter().enumerate() {
         let refusal = LangRefusal {
-            line: *line,
-            reason: *reason,
+            line: row.line,
+            reason: row.reason,
         };
         assert_eq!(rt;
-            error_of(rt.alloc(), text),
+            error_of(rt.alloc(), row.text),
             Some(LangError::Refused),
-            "row {row}"
+            "row {i}"
         );
         assert_eq!(rt;
-            refusal_of(rt.alloc(), text),
+            refusal_of(rt.alloc(), row.text),
             Ok(Some(refusal)),
-            "row {row}"
+            "row {i}"
         );
     }
 }

@@ -1,5 +1,6 @@
 -- What a thread owes is of filters of its version; where it owes no `Cross` these are installed.
-use Rattle.loom_event.specs.Replay.{thread_limit, ThreadState}
+use Rattle.loom_event.specs.Replay.{ThreadState}
+use Rattle.loom_trace.specs.Limits.{thread_limit}
 use Rattle.loom_trace.specs.declared.entry.Entry.{Entry}
 use Rattle.loom_law.proofs.Strict.{IsStrict}
 use Rattle.std.proofs.Common.{ℕ, suc, ◌≡◌, ◌==◌, true, not, ◌&&◌, List, [], ◌∷◌, ◌++◌, length, Option, Some, refl, sym, ap, subst, ◌∙◌, if◌then◌else◌, arith, ◌<◌}

@@ -1,5 +1,6 @@
 -- A thread leaves only clauses that it holds, and so only those of which the journal says it.
-use Rattle.loom_event.specs.Replay.{thread_limit, ThreadState}
+use Rattle.loom_event.specs.Replay.{ThreadState}
+use Rattle.loom_trace.specs.Limits.{thread_limit}
 use Rattle.loom_law.proofs.Strict.{IsStrict}
 use Rattle.std.proofs.Common.{ℕ, suc, ◌<◌, ◌≡◌, ◌==◌, Bool, true, false, not, ◌&&◌, ◌||◌, List, [], ◌∷◌, ◌++◌, length, Some, refl, sym, ap, subst, ◌∙◌, arith}
 use Rattle.std.specs.List.{filter}

@@ -5,7 +5,8 @@ use Rattle.loom_trace.specs.declared.entry.Entry.{Entry}
 use Rattle.loom_trace.specs.declared.entry.Entry.TheVariants as e
 use Rattle.loom_lang.specs.Trace.{begin, end, trap, read, write, lock, unlock, down, up, spawn, join, print, made, begins, done, edge, enter, out}
 use Rattle.loom_event.specs.Entries.{thread_of, is_thread}
-use Rattle.loom_event.specs.Replay.{ThreadState, thread_limit}
+use Rattle.loom_event.specs.Replay.{ThreadState}
+use Rattle.loom_trace.specs.Limits.{thread_limit}
 use Rattle.loom_law.specs.Walk.{Version, Plans, wait, enters, at, past, post, leave, back, tick, cross, blocked, PartStep, goes, makes, told, Walk, unborn, without_first, taking, behind_entry, crossing, after, walk_from}
 use Rattle.loom_law.specs.ThreadPart.{walk_of, IsPart}
 use Rattle.loom_law.specs.Control.{Command, Control, first_control, after_entry, control_after, versions_from, versions_of, entries_of, row_at, listed_places_after, listed_places_from, listed_places, control}

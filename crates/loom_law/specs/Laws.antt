@@ -15,7 +15,8 @@ use Rattle.loom_law.specs.ThreadPart.{Own, walk_of, IsPart, Point, IsPlaceOf, Ha
 use Rattle.loom_law.specs.FilterView.{IsClear, view_behind}
 use Rattle.loom_law.specs.Paths.{IsUnsafe}
 use Rattle.loom_event.specs.Event.{Event, entry_of}
-use Rattle.loom_event.specs.Replay.{ThreadState, start, thread_at, replay, IsAllowed, thread_limit}
+use Rattle.loom_event.specs.Replay.{ThreadState, start, thread_at, replay, IsAllowed}
+use Rattle.loom_trace.specs.Limits.{thread_limit}
 use Rattle.loom_event.specs.Entries.{thread_of, IsFinished}
 use Rattle.loom_law.specs.Judgement.{IsJudged, IsCommandList}
 use Rattle.loom_law.specs.Control.{Holder, Judgement, Command, Control, control, versions_of, entries_of, listed_places, since_asked, is_post, is_past}

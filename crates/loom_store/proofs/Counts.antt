@@ -4,7 +4,7 @@ use Rattle.std.specs.Prelude.{slice_set, map}
 use Rattle.std.specs.List.{AllByRecursion}
 use Rattle.loom_tree.specs.declared.item.Sema.{Sema}
 use Rattle.loom_lang.specs.WellFormed.{IsWellFormedSema}
-use Rattle.loom_event.specs.Replay.{sema_limit}
+use Rattle.loom_syntax.specs.File.{sema_limit}
 use Rattle.loom_store.specs.Parts.{AreCounts}
 
 pub count_at : (ns : List ℕ) (k : ℕ) → AreCounts ns → slice_index_or ns k 0 ≤ sema_limit

@@ -6,7 +6,8 @@ use Rattle.loom_trace.specs.declared.request.Request.{Request}
 use Rattle.loom_trace.specs.declared.request.Request.TheVariants as r
 use Rattle.loom_lang.specs.Trace.{trap, reason}
 use Rattle.loom_lang.specs.Acts.{Deed}
-use Rattle.loom_event.specs.Replay.{ThreadState, Store, thread_at, IsRunning, IsDisabled, sema_limit}
+use Rattle.loom_syntax.specs.File.{sema_limit}
+use Rattle.loom_event.specs.Replay.{ThreadState, Store, thread_at, IsRunning, IsDisabled}
 use Rattle.loom_event.specs.Answer.{trapped, request_for}
 use Rattle.loom_store.specs.declared.answer.Answer.TheVariants as a
 use Rattle.loom_store.specs.Answer.{is_begin, IsGiven, IsGranted, IsTrap, IsTrapped}

@@ -1,7 +1,9 @@
 -- What an act does to one part of a store, and how it is answered.
 use Rattle.std.specs.Prelude.{ℕ, suc, ◌+◌, ◌<◌, ◌≤◌, ◌≡◌, ◌≢◌, ℤ, pos, true, false, List, [], ◌∷◌, ◌++◌, length, slice_get, slice_set, Option, Some, None}
 use Rattle.loom_trace.specs.declared.entry.What.TheVariants as w
-use Rattle.loom_event.specs.Replay.{ThreadState, new_thread, thread_limit, sema_limit}
+use Rattle.loom_trace.specs.Limits.{thread_limit}
+use Rattle.loom_syntax.specs.File.{sema_limit}
+use Rattle.loom_event.specs.Replay.{ThreadState, new_thread}
 use Rattle.loom_store.specs.declared.answer.Answer.{Answer}
 use Rattle.loom_store.specs.declared.answer.Answer.TheVariants as a
 

@@ -1,6 +1,7 @@
 //! The store of a run.
 ghost use Rattle.std.specs.Prelude.{◌≡◌, true, false, IfOk};
-ghost use Rattle.loom_event.specs.Replay.{start, thread_limit, IsDisabled};
+ghost use Rattle.loom_trace.specs.Limits.{thread_limit};
+ghost use Rattle.loom_event.specs.Replay.{start, IsDisabled};
 ghost use Rattle.loom_store.specs.Answer.{MayAsk, CanAnswer, CanWait, Answers};
 
 use crate::acts::{down, lock, read, unlock, up, write};

@@ -1,6 +1,7 @@
 //! The threads of a run.
 ghost use Rattle.std.specs.Prelude.{◌≡◌, ◌≤◌, ◌<◌, ◌-◌, [], ◌∷◌, length, slice_get, slice_set, IfOk, Some, true};
-ghost use Rattle.loom_event.specs.Replay.{ThreadState, new_thread, thread_limit};
+ghost use Rattle.loom_trace.specs.Limits.{thread_limit};
+ghost use Rattle.loom_event.specs.Replay.{ThreadState, new_thread};
 ghost use Rattle.loom_store.specs.Parts.{Spawns, Joins, IsIndex};
 
 use crate::answer::Answer;
@@ -39,7 +40,8 @@ pub(crate) struct Threads {
 
 impl Model for Threads {
     ghost use Rattle.std.specs.Prelude.{◌≤◌, ◌≡◌, List, map, vec_len, vec_capacity};
-    ghost use Rattle.loom_event.specs.Replay.{ThreadState, thread_limit};
+    ghost use Rattle.loom_trace.specs.Limits.{thread_limit};
+    ghost use Rattle.loom_event.specs.Replay.{ThreadState};
     ghost use Rattle.loom_store.specs.Threads.{state_of};
 
     ghost Value = { List ThreadState };

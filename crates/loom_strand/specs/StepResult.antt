@@ -27,7 +27,8 @@ abbrev pub place_here : Flow → Position → ℕ
 place_here c (before z) = place_of_instr (slice_get c.code z.at)
 place_here c _ = 0
 
--- the mark of an item: of a back edge and of a frame that begins with the number of the place that is passed
+-- the mark of an item: of a back edge and of a frame that begins with the number of the place that is passed, of a frame that ends with that of
+-- its function
 abbrev pub mark_of : Flow → ℕ → Option Item → Option Mark
 mark_of c place None = None
 mark_of c place (Some (made l a)) = None
@@ -35,7 +36,7 @@ mark_of c place (Some (begins l env)) = Some m.Begins
 mark_of c place (Some (done l)) = Some m.Done
 mark_of c place (Some (edge l)) = Some (m.Edge place)
 mark_of c place (Some (enter f env)) = Some (m.Enter (place_of_entrance (slice_get c.entrances f)))
-mark_of c place (Some (out f)) = Some m.Out
+mark_of c place (Some (out f)) = Some (m.Out f)
 
 -- From one machine to the next by an instruction of this place: it goes on, or it is as it was.
 abbrev pub StepsTo : Flow → ℕ → Machine → Machine → StepResult → Progress → Type 0

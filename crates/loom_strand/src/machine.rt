@@ -115,6 +115,13 @@ impl Machine {
         self.at
     }
 
+    /// The number of the function of the newest frame.
+    pub fn func(&self) -> u8
+        ensures { result ≡ self.now.state.func }
+    {
+        self.func
+    }
+
     /// How many frames wait.
     pub fn waiting(&self) -> usize
         ensures { result ≡ length self.now.state.below }

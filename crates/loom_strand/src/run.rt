@@ -23,7 +23,7 @@ fn place_passed(mark: Option<Mark>) -> Option<u16>
         Mark::Done => None,
         Mark::Edge(place) => Some(place),
         Mark::Enter(place) => Some(place),
-        Mark::Out => None,
+        Mark::Out(_) => None,
     }
 }
 

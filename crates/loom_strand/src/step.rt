@@ -175,8 +175,9 @@ fn leave(machine: &mut Machine, flow: &Flow, v: i64) -> StepResult
     requires room { HasRoom flow.now machine.old }
     ensures { (place : ℕ) → StepsTo flow.now place machine.old machine.new result (goes (Some (out machine.old.state.func)) (returns flow.now machine.old.state.values v machine.old.state.below)) }
 {
+    let func = machine.func();
     machine.back(flow.sites(), v);
-    StepResult::Goes(Some(Mark::Out))
+    StepResult::Goes(Some(Mark::Out(func)))
 }
 
 /// One step. The machine stays where it is where the thread asks for something, or is to end.

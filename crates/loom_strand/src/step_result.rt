@@ -24,8 +24,8 @@ pub(crate) enum Mark {
     Edge(u16),
     /// A frame begins, at this entry place.
     Enter(u16),
-    /// A frame has ended.
-    Out,
+    /// A frame of the function of this number has ended.
+    Out(u8),
 }
 
 /// What comes of a step of the machine.

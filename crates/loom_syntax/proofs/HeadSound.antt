@@ -6,7 +6,7 @@ use Rattle.loom_tree.specs.declared.expression.Op.TheVariants as o
 use Rattle.loom_tree.specs.declared.token.Keyword.TheVariants as w
 use Rattle.loom_tree.specs.declared.token.Sign.TheVariants as g
 use Rattle.loom_tree.specs.Token.{Token}
-use Rattle.loom_syntax.specs.File.{behind_commas, with_commas, declaration_tokens, head_tokens, ended, IsDeclaration, largest_count}
+use Rattle.loom_syntax.specs.File.{behind_commas, with_commas, declaration_tokens, head_tokens, ended, IsDeclaration, sema_limit}
 use Rattle.loom_syntax.specs.Head.{Head, SharedName, SharedNamed, SharedValue, SharedMinus, SharedCells, SharedClose, MutexName, SemaName, SemaNamed, SemaValue, Ending, FnName, FnOpen, FnFirst, FnParam, FnNext, FnBrace, HeadNext, Goes, Declares, Begins, begin_item, sema_value, head_step}
 use Rattle.loom_syntax.proofs.Choices.{choose, if_keyword, if_sign, if_minus, if_name, if_number}
 
@@ -96,7 +96,7 @@ begin_good t =
     (if_keyword w.Fn t _ _ (λ t h. Good h × (read h ≡ t ∷ [])) (tt, refl) tt)))
 
 pub sema_good : (x : List ℕ) (n : ℕ) → IfSome (sema_value x n) (Reads (read (SemaValue x)) (Token.num n))
-sema_good x n = choose (nat_le n largest_count) _ _ (Reads (read (SemaValue x)) (Token.num n)) (λ is. (leb-true n largest_count is, refl)) (λ is. tt)
+sema_good x n = choose (nat_le n sema_limit) _ _ (Reads (read (SemaValue x)) (Token.num n)) (λ is. (leb-true n sema_limit is, refl)) (λ is. tt)
 
 pub param_read : (f : List ℕ) (params : List (List ℕ)) (x : List ℕ) → read (FnNext f (params ++ x ∷ [])) ≡ read (FnParam f params) ++ Token.name x ∷ []
 param_read f params x = ap (λ z. opening f ++ z) (ap with_commas (map-append named params (x ∷ [])) ∙ commas_more (map named params) (named x))

@@ -10,7 +10,7 @@ use Rattle.loom_tree.specs.Tree.{Simple}
 use Rattle.loom_expression.specs.Text.{Text, tokens, IsWritten}
 use Rattle.loom_expression.specs.Reader as expression
 use Rattle.loom_expression.specs.Reader.{after}
-use Rattle.loom_syntax.specs.File.{Mark, on, at, FitMarks, Block, none, plus, minus, Declaration, word, array, mutex, sema, ItemForm, declared, func, behind_commas, with_commas, simple_tokens, test_tokens, declaration_tokens, head_tokens, begun, ended, in_braces, block_marks, item_marks, block_limit, largest_count, IsSimple, IsBlock, IsDeclaration, IsItem}
+use Rattle.loom_syntax.specs.File.{Mark, on, at, FitMarks, Block, none, plus, minus, Declaration, word, array, mutex, sema, ItemForm, declared, func, behind_commas, with_commas, simple_tokens, test_tokens, declaration_tokens, head_tokens, begun, ended, in_braces, block_marks, item_marks, block_limit, sema_limit, IsSimple, IsBlock, IsDeclaration, IsItem}
 use Rattle.loom_syntax.specs.Tests.{is_keyword, is_sign}
 use Rattle.loom_syntax.specs.Head.{Head, SharedName, MutexName, SemaName, FnName, FnFirst, FnNext, HeadNext, Declares, Begins, begin_item, head_step}
 use Rattle.loom_syntax.specs.Part.{Test, If, While, Part, TestOpen, PartNext, begin_part, part_step}
@@ -115,7 +115,7 @@ declared_takes is l (word x (minus n)) h = item_takes is l (Token.word w.Shared)
 declared_takes is l (array x n) h = item_takes is l (Token.word w.Shared) SharedName (Declares (array x n)) (Token.name x ∷ Token.sign g.BracketOpen ∷ Token.num n ∷ Token.sign g.BracketClose ∷ Token.sign g.Semicolon ∷ []) refl refl
 declared_takes is l (mutex x) h = item_takes is l (Token.word w.Mutex) MutexName (Declares (mutex x)) (Token.name x ∷ Token.sign g.Semicolon ∷ []) refl refl
 declared_takes is l (sema x None) h = item_takes is l (Token.word w.Sema) SemaName (Declares (sema x None)) (Token.name x ∷ Token.sign g.Semicolon ∷ []) refl refl
-declared_takes is l (sema x (Some n)) h = item_takes is l (Token.word w.Sema) SemaName (Declares (sema x (Some n))) (Token.name x ∷ Token.sign g.Assign ∷ Token.num n ∷ Token.sign g.Semicolon ∷ []) refl (rw (le-leb n largest_count h) refl)
+declared_takes is l (sema x (Some n)) h = item_takes is l (Token.word w.Sema) SemaName (Declares (sema x (Some n))) (Token.name x ∷ Token.sign g.Assign ∷ Token.num n ∷ Token.sign g.Semicolon ∷ []) refl (rw (le-leb n sema_limit h) refl)
 
 pub next_run : (f : List ℕ) (before params : List (List ℕ)) → head_run (HeadNext.Goes (FnNext f before)) (behind_commas (map named params) ++ Token.sign g.ParenClose ∷ Token.sign g.BraceOpen ∷ []) ≡ Some (Begins f (before ++ params))
 next_run f before [] = ap (λ z. Some (Begins f z)) (sym (append-nil before))

@@ -10,6 +10,7 @@ use Rattle.loom_tree.specs.Tree as tree
 use Rattle.loom_tree.specs.Tree.{Expression, Right, Simple, Body}
 use Rattle.loom_expression.specs.Text as expression
 use Rattle.loom_expression.specs.Text.{Text, tokens, IsWritten}
+use Rattle.loom_syntax.specs.declared.item.TheConstants.{SEMA_LIMIT}
 
 -- A token of a written file. Where a statement or an item begins, the mark tells its line.
 pub data Mark : Type 0 where
@@ -142,8 +143,9 @@ item_marks (func l f params body) = begun l (head_tokens f params) ++ in_braces 
 abbrev pub block_limit : ℕ
 block_limit = 32
 
-abbrev pub largest_count : ℕ
-largest_count = 2147483647
+-- the greatest value of a semaphore
+abbrev pub sema_limit : ℕ
+sema_limit = SEMA_LIMIT
 
 abbrev pub IsRight : Right Text → Type 0
 IsRight (Right.value e) = IsWritten e
@@ -178,7 +180,7 @@ IsDeclaration (Declaration.word x first) = Unit {0}
 IsDeclaration (Declaration.array x n) = Unit {0}
 IsDeclaration (Declaration.mutex x) = Unit {0}
 IsDeclaration (Declaration.sema x None) = Unit {0}
-IsDeclaration (Declaration.sema x (Some n)) = n ≤ largest_count
+IsDeclaration (Declaration.sema x (Some n)) = n ≤ sema_limit
 
 abbrev pub IsItem : ItemForm → Type 0
 IsItem (declared l d) = IsDeclaration d

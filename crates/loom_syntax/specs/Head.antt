@@ -4,7 +4,7 @@ use Rattle.loom_tree.specs.declared.token.Keyword.TheVariants as w
 use Rattle.loom_tree.specs.declared.token.Sign.TheVariants as g
 use Rattle.loom_tree.specs.Token.{Token}
 use Rattle.loom_expression.specs.Reader.{after}
-use Rattle.loom_syntax.specs.File.{none, plus, minus, Declaration, word, array, mutex, sema, largest_count}
+use Rattle.loom_syntax.specs.File.{none, plus, minus, Declaration, word, array, mutex, sema, sema_limit}
 use Rattle.loom_syntax.specs.Tests.{is_keyword, is_sign, is_minus, name_of, number_of}
 
 -- What was read of an item, named by what must follow.
@@ -62,7 +62,7 @@ sema_named x t =
     if is_sign g.Assign t then Some (Goes (SemaValue x)) else None
 
 abbrev pub sema_value : List ℕ → ℕ → Option HeadNext
-sema_value x n = if nat_le n largest_count then Some (Goes (Ending (sema x (Some n)))) else None
+sema_value x n = if nat_le n sema_limit then Some (Goes (Ending (sema x (Some n)))) else None
 
 abbrev pub function_first : List ℕ → Token → Option HeadNext
 function_first f t =

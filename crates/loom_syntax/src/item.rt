@@ -10,7 +10,7 @@ use loom_tree::token::{Keyword, Sign};
 use std::alloc::Global;
 
 /// The largest first value of a semaphore.
-const LARGEST_COUNT: u64 = 2147483647;
+pub const SEMA_LIMIT: u64 = 2147483647;
 
 /// The first value of a word.
 #[derive(Drop)]
@@ -177,7 +177,7 @@ fn sema_value(x: Name, spot: Spot) -> Option<HeadNext>
     ensures { next_if result ≡ m.head_step (m.SemaValue x) (token_of spot.entry) }
 {
     let n = spot.number()?.value;
-    if n <= LARGEST_COUNT {
+    if n <= SEMA_LIMIT {
         Some(HeadNext::Goes(Head::Ending(Declaration::Sema(x, Some(n as u32)))))
     } else {
         None

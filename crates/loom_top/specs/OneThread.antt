@@ -13,6 +13,7 @@ use Rattle.loom_trace.specs.Journal.{Contents}
 use Rattle.loom_strand.specs.Life.{has_none, has_ended, versions_with}
 use Rattle.loom_strand.specs.Strand.{Strand}
 use Rattle.loom_top.specs.Answers.{plain}
+use Rattle.loom_trace.specs.Limits.{control_limit}
 
 -- only `main` was spawned, the function of number `f`
 abbrev pub main_store : Source → ℕ → List ℤ → Bool → Bool → Store
@@ -44,5 +45,5 @@ pub record IsUnderWay (p : Source) (f limit : ℕ) (s : Strand) (journal : Conte
   pub most : s.limit ≡ limit
   pub birth : s.birth ≡ Some (record { func = f; args = [] })
   pub entries : s.entries ≡ journal.entries
-  pub room : length journal.entries + journal.room ≡ limit + 129
+  pub room : length journal.entries + journal.room ≡ limit + control_limit
   pub run : IsOneThread p f limit journal.entries vs

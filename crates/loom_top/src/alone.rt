@@ -8,7 +8,7 @@ ghost use Rattle.loom_tree.specs.Tree.{Source};
 ghost use Rattle.loom_top.specs.declared.status.Status.{Status};
 ghost use Rattle.loom_lang.specs.Limits.{file_limit};
 ghost use Rattle.loom_top.specs.Code.{code, ended_as};
-ghost use Rattle.loom_top.specs.Invocation.{largest_limit};
+ghost use Rattle.loom_trace.specs.Limits.{entry_limit};
 ghost use Rattle.loom_top.specs.Answers.{CanEnd, CanRun, IsRunOf, Put, FileEnds, call_of, Answers, IsValid, IsMissing};
 
 use crate::code::{code_of, status_of};
@@ -76,7 +76,7 @@ fn put_run<K: Sink>(sink: &mut K, journal: &Journal, ending: Ending) -> Status
 fn run_of(alloc: Global, file: &[u8], limit: u32) -> Result<(Journal, Ending), LangError>
     requires small { length file.now ≤ file_limit }
     requires least { 1 ≤ limit }
-    requires limit { limit ≤ largest_limit }
+    requires limit { limit ≤ entry_limit }
     ensures ran { IfOk result (λ r. (p : Source) × CanRun file.now p × IsRunOf p limit r.1 r.0.entries) }
     ensures refused { result ≡ Err LangError.Refused → (p : Source) → CanRun file.now p → ⊥ }
 {
@@ -97,7 +97,7 @@ fn run_of(alloc: Global, file: &[u8], limit: u32) -> Result<(Journal, Ending), L
 fn run_file<K: Sink>(alloc: Global, file: &[u8], limit: u32, sink: &mut K) -> Status
     requires small { length file.now ≤ file_limit }
     requires least { 1 ≤ limit }
-    requires limit { limit ≤ largest_limit }
+    requires limit { limit ≤ entry_limit }
     ensures later { K.faults sink.old ≤ K.faults sink.new }
     ensures ends { FileEnds file.now limit (K.taken sink.old) (K.taken sink.new) (K.faults sink.old) (K.faults sink.new) result }
 {

@@ -1,16 +1,15 @@
 //! The invocation: what the words of a call ask for.
 ghost use Rattle.std.specs.Prelude.{◌≡◌, ◌↔◌, ◌≤◌, List, ℕ, codes, map, IfSome, IfNone, IsTrue};
 ghost use Rattle.loom_tree.specs.Decimal.{decimal};
-ghost use Rattle.loom_top.specs.Invocation.{largest_limit, Invocation as Asked, IsInvocation, IsFileName};
+ghost use Rattle.loom_trace.specs.Limits.{entry_limit};
+ghost use Rattle.loom_top.specs.Invocation.{Invocation as Asked, IsInvocation, IsFileName};
 
+use loom_trace::limits::ENTRY_LIMIT;
 use loom_trace::line::Line;
 use loom_trace::text::put_printed;
 
 /// How many thread entries a run has at most, where the words don't say it.
 const DEFAULT_LIMIT: u32 = 100_000;
-
-/// The most that they may say.
-const LARGEST_LIMIT: u32 = 1_000_000;
 
 /// A run of the file of this name, of at most so many thread entries.
 #[derive(Clone, Copy, Debug, Drop)]
@@ -41,12 +40,12 @@ fn is_decimal(text: &str, number: u32) -> bool
 fn limit_of(text: &str) -> Option<u32>
     ensures written { IfSome result (λ limit. text.now ≡ decimal limit) }
     ensures least { IfSome result (λ limit. 1 ≤ limit) }
-    ensures most { IfSome result (λ limit. limit ≤ largest_limit) }
-    ensures none { IfNone result ((limit : ℕ) → 1 ≤ limit → limit ≤ largest_limit → text.now ≡ decimal limit → ⊥) }
+    ensures most { IfSome result (λ limit. limit ≤ entry_limit) }
+    ensures none { IfNone result ((limit : ℕ) → 1 ≤ limit → limit ≤ entry_limit → text.now ≡ decimal limit → ⊥) }
 {
     match text.parse::<u32>() {
         Ok(limit) => {
-            if 1 <= limit && limit <= LARGEST_LIMIT && is_decimal(text, limit) {
+            if 1 <= limit && limit <= ENTRY_LIMIT && is_decimal(text, limit) {
                 Some(limit)
             } else {
                 None
@@ -59,7 +58,7 @@ fn limit_of(text: &str) -> Option<u32>
 /// What the words ask for.
 pub fn invocation_of<'a>(words: &[&'a str]) -> Option<Invocation<'a>>
     ensures found { IfSome result (λ c. IsInvocation (map (λ w. w.now) words.now) (record { name = c.name.now; limit = c.limit })) }
-    ensures most { IfSome result (λ c. c.limit ≤ largest_limit) }
+    ensures most { IfSome result (λ c. c.limit ≤ entry_limit) }
     ensures least { IfSome result (λ c. 1 ≤ c.limit) }
     ensures none { IfNone result ((c : Asked) → IsInvocation (map (λ w. w.now) words.now) c → ⊥) }
 {

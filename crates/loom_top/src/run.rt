@@ -3,7 +3,7 @@ ghost use Rattle.std.specs.Prelude.{ℕ, ℤ, ◌≡◌, ◌<◌, ◌≤◌, ◌
 ghost use Rattle.loom_trace.specs.declared.entry.Entry.TheVariants as e;
 ghost use Rattle.loom_top.specs.Runnable.{is_runnable};
 ghost use Rattle.loom_top.specs.Answers.{IsRunOf};
-ghost use Rattle.loom_top.specs.Invocation.{largest_limit};
+ghost use Rattle.loom_trace.specs.Limits.{entry_limit};
 ghost use Rattle.loom_top.specs.Grant.{AsksAlone, IsGranted};
 ghost use Rattle.loom_top.specs.OneThread.{IsUnderWay};
 
@@ -80,7 +80,7 @@ fn drive(
     words: &mut [i64],
     journal: &mut Journal,
 ) -> Ending
-    requires limit { limit ≤ largest_limit }
+    requires limit { limit ≤ entry_limit }
     requires runnable { is_runnable flow.now.program ≡ true }
     requires begun { (f : ℕ) × IsUnderWay flow.now.program f limit strand.old journal.old words.old }
     requires none { journal.old.entries ≡ [] }
@@ -103,7 +103,7 @@ fn drive(
 /// A run of a program whose every form can be run, with at most `limit` entries of its thread, and how it ended. An `Err` is want of memory,
 /// before the run.
 pub fn run(alloc: Global, flow: &Flow, limit: u32) -> Result<(Journal, Ending), NoMemory>
-    requires limit { limit ≤ largest_limit }
+    requires limit { limit ≤ entry_limit }
     requires runnable { is_runnable flow.now.program ≡ true }
     ensures { IfOk result (λ r. IsRunOf flow.now.program limit r.1 r.0.entries) }
 {

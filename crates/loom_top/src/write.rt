@@ -1,5 +1,5 @@
 //! Writes a journal's text.
-ghost use Rattle.std.specs.Prelude.{◌≤◌, [], ◌∷◌, ◌++◌, length, map, OnOk, OnErr};
+ghost use Rattle.std.specs.Prelude.{◌≡◌, ◌≤◌, [], ◌∷◌, ◌++◌, length, map, OnOk, OnErr};
 ghost use Rattle.std.specs.Io.KnownBytes.{Appends};
 ghost use Rattle.loom_io.specs.FaultCount.{Rose};
 ghost use Rattle.loom_io.specs.Sink.{TookFront};
@@ -19,6 +19,7 @@ fn put_line<K: Sink>(sink: &mut K, page: &mut Page, line: &[u8]) -> Result<(), S
     requires { length line.now ≤ 160 }
     ensures later { K.faults sink.old ≤ K.faults sink.new }
     ensures ok { OnOk result (PageTook (K.taken sink.old) (K.taken sink.new) page.old page.new (line.now ++ 10 ∷ [])) }
+    ensures calm { OnOk result (K.faults sink.new ≡ K.faults sink.old) }
     ensures part { OnErr result (TookFront (K.taken sink.old) (K.taken sink.new) (page.old ++ (line.now ++ 10 ∷ []))) }
     ensures failed { OnErr result (Rose (K.faults sink.old) (K.faults sink.new)) }
 {
@@ -30,6 +31,7 @@ fn put_line<K: Sink>(sink: &mut K, page: &mut Page, line: &[u8]) -> Result<(), S
 fn put_value<K: Sink>(sink: &mut K, page: &mut Page, entry: &Entry) -> Result<(), SinkFailed>
     ensures later { K.faults sink.old ≤ K.faults sink.new }
     ensures ok { OnOk result (PageTook (K.taken sink.old) (K.taken sink.new) page.old page.new (ended (printed_line entry.now))) }
+    ensures calm { OnOk result (K.faults sink.new ≡ K.faults sink.old) }
     ensures part { OnErr result (TookFront (K.taken sink.old) (K.taken sink.new) (page.old ++ ended (printed_line entry.now))) }
     ensures failed { OnErr result (Rose (K.faults sink.old) (K.faults sink.new)) }
 {
@@ -45,6 +47,7 @@ fn put_value<K: Sink>(sink: &mut K, page: &mut Page, entry: &Entry) -> Result<()
 fn put_one<K: Sink>(sink: &mut K, page: &mut Page, entry: &Entry) -> Result<(), SinkFailed>
     ensures later { K.faults sink.old ≤ K.faults sink.new }
     ensures ok { OnOk result (PageTook (K.taken sink.old) (K.taken sink.new) page.old page.new (ended (entry_line entry.now ∷ []))) }
+    ensures calm { OnOk result (K.faults sink.new ≡ K.faults sink.old) }
     ensures part { OnErr result (TookFront (K.taken sink.old) (K.taken sink.new) (page.old ++ ended (entry_line entry.now ∷ []))) }
     ensures failed { OnErr result (Rose (K.faults sink.old) (K.faults sink.new)) }
 {
@@ -57,6 +60,7 @@ fn put_one<K: Sink>(sink: &mut K, page: &mut Page, entry: &Entry) -> Result<(), 
 fn put_values<K: Sink>(sink: &mut K, page: &mut Page, journal: &Journal) -> Result<(), SinkFailed>
     ensures later { K.faults sink.old ≤ K.faults sink.new }
     ensures ok { OnOk result (PageTook (K.taken sink.old) (K.taken sink.new) page.old page.new (ended (printed_lines journal.now.entries))) }
+    ensures calm { OnOk result (K.faults sink.new ≡ K.faults sink.old) }
     ensures part { OnErr result (TookFront (K.taken sink.old) (K.taken sink.new) (page.old ++ ended (printed_lines journal.now.entries))) }
     ensures failed { OnErr result (Rose (K.faults sink.old) (K.faults sink.new)) }
 {
@@ -70,6 +74,7 @@ fn put_values<K: Sink>(sink: &mut K, page: &mut Page, journal: &Journal) -> Resu
 fn put_entries<K: Sink>(sink: &mut K, page: &mut Page, journal: &Journal) -> Result<(), SinkFailed>
     ensures later { K.faults sink.old ≤ K.faults sink.new }
     ensures ok { OnOk result (PageTook (K.taken sink.old) (K.taken sink.new) page.old page.new (ended (map entry_line journal.now.entries))) }
+    ensures calm { OnOk result (K.faults sink.new ≡ K.faults sink.old) }
     ensures part { OnErr result (TookFront (K.taken sink.old) (K.taken sink.new) (page.old ++ ended (map entry_line journal.now.entries))) }
     ensures failed { OnErr result (Rose (K.faults sink.old) (K.faults sink.new)) }
 {
@@ -84,6 +89,7 @@ fn put_entries<K: Sink>(sink: &mut K, page: &mut Page, journal: &Journal) -> Res
 pub(crate) fn put_journal<K: Sink>(sink: &mut K, journal: &Journal) -> Result<(), SinkFailed>
     ensures later { K.faults sink.old ≤ K.faults sink.new }
     ensures ok { OnOk result (Appends (K.taken sink.old) (K.taken sink.new) (journal_text journal.now.entries)) }
+    ensures calm { OnOk result (K.faults sink.new ≡ K.faults sink.old) }
     ensures part { OnErr result (TookFront (K.taken sink.old) (K.taken sink.new) (journal_text journal.now.entries)) }
     ensures failed { OnErr result (Rose (K.faults sink.old) (K.faults sink.new)) }
 {

@@ -1,6 +1,11 @@
 -- Sets of places, as rows of words: place 64 * i + j is bit j of word i.
-use Rattle.std.specs.Prelude.{ℕ, ◌/◌, ◌%◌, ◌==◌, Bool, List, slice_index_or}
+use Rattle.std.specs.Prelude.{ℕ, ◌+◌, ◌/◌, ◌%◌, ◌==◌, Bool, List, slice_index_or}
 use Rattle.std.specs.Int.{bit_at}
+use Rattle.loom_trace.specs.Limits.{place_limit}
+
+-- how many words have a bit for each place
+abbrev pub word_count : ℕ
+word_count = (place_limit + 63) / 64
 
 -- the bit of a place is set in its word
 abbrev pub has_bit : ℕ → ℕ → Bool

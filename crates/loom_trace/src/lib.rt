@@ -4,6 +4,7 @@
 pub mod entry;
 pub mod journal;
 pub mod laws;
+pub mod limits;
 pub mod line;
 mod number;
 pub mod places;

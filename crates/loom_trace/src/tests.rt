@@ -1,11 +1,15 @@
 //! Texts written by hand, one journal, and one set of places.
 
-use crate::entry::{Ending, Entry, What};
+mod rows;
+
+use crate::entry::{Ending, Entry};
 use crate::journal::Journal;
+use crate::limits::ENTRY_LIMIT;
 use crate::line::Line;
 use crate::places::Places;
 use crate::row::{Args, Events, PlaceRow};
 use crate::text::put_entry;
+use rows::{ACTS, OPERATIONS};
 
 fn most_args() -> Args {
     let mut args = Args::none();
@@ -39,62 +43,16 @@ fn line_of(entry: &Entry) -> Line {
 
 #[test]
 fn what_threads_do(rt: HostRuntime) {
+    for (i, row) in ACTS.iter().enumerate() {
+        assert_eq!(rt; line_of(&row.entry).bytes(), row.text, "in row {i}");
+    }
+}
+
+#[test]
+fn what_a_spawn_tells(rt: HostRuntime) {
     let (thread, line) = (3, 65_537);
     let args = most_args();
-    let table: [(Entry, &[u8]); 15] = [
-        (Entry::Begin { thread, line }, b"3:65537 begin"),
-        (Entry::End { thread, line }, b"3:65537 end"),
-        (
-            Entry::Trap {
-                thread,
-                line,
-                reason: 7,
-            },
-            b"3:65537 trap 7",
-        ),
-        (
-            Entry::Read {
-                thread,
-                line,
-                word: 1023,
-                value: i64::MIN,
-            },
-            b"3:65537 read 1023 -9223372036854775808",
-        ),
-        (
-            Entry::Write {
-                thread,
-                line,
-                word: 0,
-                value: -10,
-            },
-            b"3:65537 write 0 -10",
-        ),
-        (
-            Entry::Lock {
-                thread,
-                line,
-                m: 63,
-            },
-            b"3:65537 lock 63",
-        ),
-        (Entry::Unlock { thread, line, m: 0 }, b"3:65537 unlock 0"),
-        (
-            Entry::Down {
-                thread,
-                line,
-                s: 10,
-            },
-            b"3:65537 down 10",
-        ),
-        (
-            Entry::Up {
-                thread,
-                line,
-                s: 11,
-            },
-            b"3:65537 up 11",
-        ),
+    let table: [(Entry, &[u8]); 2] = [
         (
             Entry::Spawn {
                 thread,
@@ -115,31 +73,6 @@ fn what_threads_do(rt: HostRuntime) {
             },
             b"3:65537 spawn 2 0",
         ),
-        (
-            Entry::Join {
-                thread,
-                line,
-                child: 4,
-            },
-            b"3:65537 join 4",
-        ),
-        (
-            Entry::Print {
-                thread,
-                line,
-                value: 9223372036854775807,
-            },
-            b"3:65537 print 9223372036854775807",
-        ),
-        (
-            Entry::Tick {
-                thread,
-                line,
-                place: 8320,
-            },
-            b"3:65537 tick 8320",
-        ),
-        (Entry::Back { thread, line }, b"3:65537 back"),
     ];
     for (i, (entry, text)) in table.iter().enumerate() {
         assert_eq!(rt; line_of(entry).bytes(), *text, "in row {i}");
@@ -148,49 +81,16 @@ fn what_threads_do(rt: HostRuntime) {
 
 #[test]
 fn what_filters_make_threads_do(rt: HostRuntime) {
+    for (i, row) in OPERATIONS.iter().enumerate() {
+        assert_eq!(rt; line_of(&row.entry).bytes(), row.text, "in row {i}");
+    }
+}
+
+#[test]
+fn what_events_tell(rt: HostRuntime) {
     let (thread, line) = (8, 0);
     let events = three_events();
-    let table: [(Entry, &[u8]); 12] = [
-        (
-            Entry::Blocked {
-                thread,
-                line,
-                what: What::Lock(5),
-            },
-            b"8:0 blocked lock 5",
-        ),
-        (
-            Entry::Blocked {
-                thread,
-                line,
-                what: What::Down(6),
-            },
-            b"8:0 blocked down 6",
-        ),
-        (
-            Entry::Blocked {
-                thread,
-                line,
-                what: What::Join(7),
-            },
-            b"8:0 blocked join 7",
-        ),
-        (
-            Entry::Blocked {
-                thread,
-                line,
-                what: What::Enter(64, 8),
-            },
-            b"8:0 blocked enter 64 8",
-        ),
-        (
-            Entry::Blocked {
-                thread,
-                line,
-                what: What::Wait(63, 32),
-            },
-            b"8:0 blocked wait 63 32",
-        ),
+    let table: [(Entry, &[u8]); 2] = [
         (
             Entry::At {
                 thread,
@@ -208,52 +108,6 @@ fn what_filters_make_threads_do(rt: HostRuntime) {
                 events,
             },
             b"8:0 past 1 1 9 32",
-        ),
-        (
-            Entry::Enter {
-                thread,
-                line,
-                k: 64,
-                clause: 8,
-            },
-            b"8:0 enter 64 8",
-        ),
-        (
-            Entry::Leave {
-                thread,
-                line,
-                k: 63,
-                clause: 7,
-            },
-            b"8:0 leave 63 7",
-        ),
-        (
-            Entry::Post {
-                thread,
-                line,
-                k: 62,
-                event: 31,
-            },
-            b"8:0 post 62 31",
-        ),
-        (
-            Entry::Wait {
-                thread,
-                line,
-                k: 61,
-                event: 30,
-            },
-            b"8:0 wait 61 30",
-        ),
-        (
-            Entry::Cross {
-                thread,
-                line,
-                place: 7,
-                version: 128,
-                passed: 1000,
-            },
-            b"8:0 cross 7 128 1000",
         ),
     ];
     for (i, (entry, text)) in table.iter().enumerate() {
@@ -338,7 +192,7 @@ fn a_journal_keeps_its_entries(rt: HostRuntime) {
 
 #[test]
 fn has_memory_at_each_limit(rt: HostRuntime) {
-    for limit in [0, 1, 100_000, 1_000_000] {
+    for limit in [0, 1, 100_000, ENTRY_LIMIT] {
         let journal = Journal::make(rt.alloc(), limit);
         assert!(rt; journal.is_ok(), "with {limit}");
     }

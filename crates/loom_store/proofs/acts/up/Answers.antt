@@ -1,7 +1,7 @@
 use Rattle.std.proofs.Common.{◌<◌, ◌≡◌, slice_index_or, refl, arith, ℕ, ap, ◌+◌, suc}
 use Rattle.std.specs.Prelude.{slice_set}
 use Rattle.std.proofs.lemmas.Option.{slice_get-get_or}
-use Rattle.loom_event.specs.Replay.{sema_limit}
+use Rattle.loom_syntax.specs.File.{sema_limit}
 use Rattle.loom_store.proofs.Counts.{count_at}
 use Rattle.loom_store.proofs.acts.up.Goals as goal
 

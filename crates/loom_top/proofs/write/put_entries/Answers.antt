@@ -1,4 +1,4 @@
-use Rattle.std.proofs.Common.{arith, refl}
+use Rattle.std.proofs.Common.{arith, refl, ◌∙◌}
 use Rattle.loom_top.proofs.Written.{at_err, entries_text, entries_parts, paged_more, front_more}
 use Rattle.loom_top.proofs.write.put_entries.Goals as goal
 
@@ -11,6 +11,7 @@ returns-in_err-put_one-clause-part g c =
 pub entries-preserved : goal.entries-preserved
 entries-preserved g c = record {
   later = omega (arith, c.in_ok-put_one.ensures.later, c.entries.invariant.later);
+  calm = c.in_ok-put_one.ensures.calm ∙ c.entries.invariant.calm;
   paged =
       paged_more entries_text _ _ _ c.args.page.now c.entries.page c.put_one.new.page _ c.args.journal.now.entries c.entries.i c.get.result.now entries_parts c.get.ensures refl
       c.entries.invariant.paged c.in_ok-put_one.ensures.ok;

@@ -1,4 +1,4 @@
-use Rattle.std.proofs.Common.{◌≡◌, ◌∙◌, Option, Some, refl, sym, ap, subst}
+use Rattle.std.proofs.Common.{◌≡◌, ◌∙◌, Option, Some, None, refl, sym, ap, subst}
 use Rattle.std.specs.Vec.{vec_capacity}
 use Rattle.loom_flow.specs.FlatCode.{lowered}
 use Rattle.loom_trace.specs.declared.request.Request.{Request}
@@ -12,6 +12,14 @@ use Rattle.loom_strand.proofs.Again.{blocked_wanted}
 use Rattle.loom_strand.proofs.AnswerLaws.{HasFollowed, CanFollowAny, after, with_entries, can_answer, answered_kept, answer_started}
 use Rattle.loom_strand.proofs.RequestLaws.{kept_part}
 use Rattle.loom_strand.proofs.strand.Strand.answer.Goals as goal
+
+-- An entry that answers no request isn't the reply to one.
+pub unreachable-requires-in_default-reply_of : goal.unreachable-requires-in_default-reply_of
+unreachable-requires-in_default-reply_of c =
+    let s : Strand = the_view c.self.inside in
+    let reply : IsReply s c.args.e = subst (λ (z : Strand). IsReply z c.args.e) (sym c.self.view_is) c.requires.answers in
+    let none : reply_of c.args.e ≡ None = sym c.reply_of.ensures ∙ c.in_default-reply_of.is in
+    subst (CanFollowAny (lowered s.program) c.self.inside.machine c.in-Some.birth) none (can_answer s c.in-Some.birth s.wanted c.args.e c.self.invariant c.in-Some.is refl reply)
 
 pub follow-stage-requires : goal.follow-stage-requires
 follow-stage-requires c =

@@ -1,5 +1,5 @@
 -- Threads in a list.
-use Rattle.std.proofs.Common.{ℕ, zero, suc, ◌-◌, ◌<◌, ◌≡◌, List, [], ◌∷◌, length, map, get_or, slice_get, Some, sym, ap, ◌∙◌, subst, arith}
+use Rattle.std.proofs.Common.{ℕ, zero, suc, ◌-◌, ◌<◌, ◌≤◌, ◌≡◌, List, [], ◌∷◌, length, map, get_or, slice_get, Some, None, refl, sym, ap, ◌∙◌, subst, arith}
 use Rattle.std.specs.Prelude.{slice_set}
 use Rattle.std.proofs.lemmas.List.{map-set}
 use Rattle.loom_event.specs.Replay.{ThreadState, Store, thread_at, with_thread}
@@ -10,6 +10,11 @@ pub spawned_at : (xs : List Thread) (i : ℕ) (y : Thread) → i < length xs →
 spawned_at [] i y h is = absurd (omega (arith, h))
 spawned_at (x ∷ xs) zero y h is = ap (λ z. Some (state_of z)) (sym is)
 spawned_at (x ∷ xs) (suc i) y h is = spawned_at xs i y (omega (arith, h)) is
+
+pub spawned_past : (xs : List Thread) (i : ℕ) → length xs ≤ i → slice_get (map state_of xs) i ≡ None
+spawned_past [] i h = refl
+spawned_past (x ∷ xs) zero h = absurd (omega (arith, h))
+spawned_past (x ∷ xs) (suc i) h = spawned_past xs i (omega (arith, h))
 
 found : (xs : List Thread) (i : ℕ) (y : Thread) (x : ThreadState) → y ≡ get_or xs i y → slice_get (map state_of xs) i ≡ Some x → state_of y ≡ x
 found [] i y x is h = cc

@@ -6,4 +6,4 @@ pub mod answer;
 pub mod laws;
 pub mod start;
 pub mod store;
-mod threads;
+pub mod threads;

@@ -1,13 +1,14 @@
 //! The store of a run.
-ghost use Rattle.std.specs.Prelude.{◌≡◌, true, false, IfOk};
+ghost use Rattle.std.specs.Prelude.{◌≡◌, ◌<◌, true, false, IfOk, IfSome, IfNone, Some, None};
 ghost use Rattle.loom_trace.specs.Limits.{thread_limit};
-ghost use Rattle.loom_event.specs.Replay.{start, IsDisabled};
+ghost use Rattle.loom_event.specs.Replay.{start, thread_at, IsDisabled};
+ghost use Rattle.loom_store.specs.Threads.{state_of};
 ghost use Rattle.loom_store.specs.Answer.{MayAsk, CanAnswer, CanWait, Answers};
 
 use crate::acts::{down, lock, read, unlock, up, write};
 use crate::answer::Answer;
 use crate::start::{first_counts, first_holders, first_words, main_number};
-use crate::threads::Threads;
+use crate::threads::{Thread, Threads};
 use loom_lang::program::Program;
 use loom_trace::entry::What;
 use loom_trace::request::Request;
@@ -89,6 +90,15 @@ impl Store {
             Request::Print { .. } => Answer::Granted(0),
             Request::Tick { .. } => Answer::Granted(0),
         }
+    }
+
+    /// Thread `t`, if it was spawned. It takes no memory.
+    pub fn thread(&self, t: u8) -> Option<Thread>
+        requires first { 0 < t }
+        ensures some { IfSome result (λ x. thread_at self.now t ≡ Some (state_of x)) }
+        ensures none { IfNone result (thread_at self.now t ≡ None) }
+    {
+        self.threads.get(t)
     }
 
     /// Whether it is disabled that thread `_t` locks a mutex, takes a semaphore down or joins a thread. Who asks is of no account: a thread

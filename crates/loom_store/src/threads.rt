@@ -1,7 +1,8 @@
 //! The threads of a run.
-ghost use Rattle.std.specs.Prelude.{◌≡◌, ◌≤◌, ◌<◌, ◌-◌, [], ◌∷◌, length, slice_get, slice_set, IfOk, Some, true};
+ghost use Rattle.std.specs.Prelude.{◌≡◌, ◌≤◌, ◌<◌, ◌-◌, [], ◌∷◌, length, slice_get, slice_set, IfOk, IfSome, IfNone, Some, None, true};
 ghost use Rattle.loom_trace.specs.Limits.{thread_limit};
 ghost use Rattle.loom_event.specs.Replay.{ThreadState, new_thread};
+ghost use Rattle.loom_store.specs.Threads.{state_of};
 ghost use Rattle.loom_store.specs.Parts.{Spawns, Joins, IsIndex};
 
 use crate::answer::Answer;
@@ -22,11 +23,11 @@ const THREADS: u8 = 5;
 
 /// A thread: its function with its arguments, and how far it is.
 #[derive(Clone, Copy, Debug, Drop)]
-pub(crate) struct Thread {
-    func: u8,
-    args: Args,
-    begun: bool,
-    ended: bool,
+pub struct Thread {
+    pub func: u8,
+    pub args: Args,
+    pub begun: bool,
+    pub ended: bool,
 }
 
 /// The threads that were spawned, with room for as many as there may be.
@@ -111,6 +112,21 @@ impl Threads {
             ended: false,
         });
         Answer::Granted(count as i64 + 1)
+    }
+
+    /// Thread `t`, if it was spawned.
+    #[tactic(auto, using(crate::proofs::ThreadList::spawned_at, crate::proofs::ThreadList::spawned_past))]
+    pub(crate) fn get(&self, t: u8) -> Option<Thread>
+        requires first { 0 < t }
+        ensures some { IfSome result (λ x. slice_get self.now (t - 1) ≡ Some (state_of x)) }
+        ensures none { IfNone result (slice_get self.now (t - 1) ≡ None) }
+    {
+        let i = t as usize - 1;
+        if i < self.items.len() {
+            Some(self.items[i])
+        } else {
+            None
+        }
     }
 
     /// Whether thread `t` has ended.

@@ -1,5 +1,5 @@
 //! Threads.
-ghost use Rattle.std.specs.Prelude.{◌≡◌, ◌<◌, true, [], ◌∷◌, ◌++◌, IfOk, Some, None, length, slice_get};
+ghost use Rattle.std.specs.Prelude.{◌≡◌, ◌<◌, true, [], ◌∷◌, ◌++◌, IfOk, Some, None, true, false, length, slice_get};
 ghost use Rattle.loom_lang.specs.Places.{line_of_function};
 ghost use Rattle.loom_flow.specs.Code.{IsLowered};
 ghost use Rattle.loom_trace.specs.declared.request.Request.{Request};
@@ -100,6 +100,14 @@ impl Strand {
             machine,
             entries,
         })
+    }
+
+    /// Whether it was started.
+    pub fn is_started(&self) -> bool
+        ensures started { result ≡ true → IsStarted self.now.birth }
+        ensures unborn { result ≡ false → self.now.birth ≡ None }
+    {
+        self.birth.is_some()
     }
 
     /// Gives the thread its function and its arguments. It hasn't begun yet.

@@ -1,0 +1,153 @@
+-- What a book keeps, as its calls read it.
+use Rattle.std.proofs.Common.{ℕ, zero, suc, ◌+◌, ◌-◌, ◌<◌, ◌≤◌, ◌≡◌, ◌⊎◌, inl, inr, ◌==◌, Bool, true, false, not, ◌||◌, List, [], ◌∷◌, ◌++◌, length, get_or, slice_get, Option, Some, None, refl, sym, ap, ◌∙◌, subst, arith}
+use Rattle.std.proofs.lemmas.Option.{slice_get_read, slice_get_within}
+use Rattle.loom_trace.specs.declared.entry.What.{What}
+use Rattle.loom_trace.specs.declared.entry.Ending.{Ending}
+use Rattle.loom_event.specs.Entries.{thread_entries, last_of_thread}
+use Rattle.loom_event.specs.Replay.{ThreadState, Store, thread_at, IsDisabled, AllEnded}
+use Rattle.loom_law.specs.Lawful.{over, Lives, IsBlocked}
+use Rattle.loom_law.proofs.Earlier.{same_number}
+use Rattle.loom_law.proofs.Turns.{eq_same}
+use Rattle.loom_store.specs.Answer.{CanWait}
+use Rattle.loom_world.specs.Book.{Book, setting, front}
+use Rattle.loom_world.specs.Idle.{IsWritten, IsClosed, CanGoOn}
+use Rattle.loom_world.specs.BookInvariant.{Notes, wait_in, IsAtEnd, IsKept}
+use Rattle.loom_world.proofs.Ends.{over_is, blocked_by, free_by, free_without}
+
+end_if : (b : Book) (more : ℕ) (f c : Bool) → f ≡ c → IsAtEnd b f more → IsAtEnd b c more
+end_if b more f c is h = subst (λ z. IsAtEnd b z more) is h
+
+pub is_written : (b : Book) (n : Notes) → IsKept b n → n.finished ≡ true → IsWritten b
+is_written b n k is = end_if b (n.made + n.room) n.finished true is k.end
+
+pub not_written : (b : Book) (n : Notes) → IsKept b n → n.finished ≡ false → IsWritten b → ⊥
+not_written b n k is h = (end_if b (n.made + n.room) n.finished false is k.end).0 h.0 h.1
+
+pub room_left : (b : Book) (n : Notes) → IsKept b n → n.finished ≡ false → n.made + n.room ≡ b.limit + 129
+room_left b n k is = (end_if b (n.made + n.room) n.finished false is k.end).1
+
+pub count_is : (b : Book) (n : Notes) → IsKept b n → (n.made == b.limit) ≡ (thread_entries b.entries == b.limit)
+count_is b n k = ap (λ z. z == b.limit) k.made
+
+pub full_over : (b : Book) (n : Notes) → IsKept b n → (n.made == b.limit) ≡ true → over (setting b) (front b) ≡ true
+full_over b n k full = over_is b ∙ (sym (count_is b n k) ∙ full)
+
+pub less_goes_on : (b : Book) (n : Notes) → IsKept b n → (n.made == b.limit) ≡ false → over (setting b) (front b) ≡ false
+less_goes_on b n k less = over_is b ∙ (sym (count_is b n k) ∙ less)
+
+pub open_if : (b : Book) (n : Notes) → IsKept b n → n.finished ≡ false → (n.made == b.limit) ≡ false → IsClosed b → ⊥
+open_if b n k is less (inl over_so) = let same : true ≡ false = sym over_so ∙ less_goes_on b n k less in cc
+open_if b n k is less (inr h) = not_written b n k is h
+
+-- Where it goes on the limit isn't reached, and it isn't finished.
+pub not_full : (b : Book) (n : Notes) → IsKept b n → (IsClosed b → ⊥) → n.made < b.limit
+not_full b n k goes_on = by_count (n.made == b.limit) refl
+  where
+    by_count : (c : Bool) → (n.made == b.limit) ≡ c → n.made < b.limit
+    by_count true e = absurd (goes_on (inl (full_over b n k e)))
+    by_count false e =
+        let ne : n.made ≡ b.limit → ⊥ = λ g. (let same : true ≡ false = sym (eq_same b.limit) ∙ subst (λ z. (z == b.limit) ≡ false) g e in cc) in
+        omega (arith, ne, k.few)
+
+pub not_finished : (b : Book) (n : Notes) → IsKept b n → (IsClosed b → ⊥) → n.finished ≡ false
+not_finished b n k goes_on = by_end n.finished refl
+  where
+    by_end : (c : Bool) → n.finished ≡ c → n.finished ≡ false
+    by_end true e = absurd (goes_on (inr (is_written b n k e)))
+    by_end false e = e
+
+-- What a thread is blocked at
+
+note_at : (b : Book) (n : Notes) (k : IsKept b n) (t : ℕ) (o w : Option What) → 1 ≤ t → t ≤ 8 → o ≡ get_or n.waits (t - 1) o → o ≡ w → slice_get n.waits (t - 1) ≡ Some w
+note_at b n k t o w first last is same =
+    slice_get_read n.waits (length n.waits) (t - 1) o refl (omega (arith, first, last, k.waits.count)) is ∙ ap Some same
+
+next : (t : ℕ) → 1 ≤ t → suc (t - 1) ≡ t
+next t h = omega (arith, h)
+
+pub note_says : (b : Book) (n : Notes) (k : IsKept b n) (t : ℕ) (o w : Option What) → 1 ≤ t → t ≤ 8 → o ≡ get_or n.waits (t - 1) o → o ≡ w
+    → wait_in (last_of_thread t None b.entries) ≡ w
+note_says b n k t o w first last is same =
+    let each = k.waits.each (t - 1) w (note_at b n k t o w first last is same) in
+    ap (λ z. wait_in (last_of_thread z None b.entries)) (sym (next t first)) ∙ sym each
+
+pub note_can : (b : Book) (n : Notes) (k : IsKept b n) (t : ℕ) (o : Option What) (w : What) → 1 ≤ t → t ≤ 8 → o ≡ get_or n.waits (t - 1) o → o ≡ Some w → CanWait b.store w
+note_can b n k t o w first last is same = k.waits.can (t - 1) w (note_at b n k t o (Some w) first last is same)
+
+pub is_blocked_at : (b : Book) (n : Notes) (k : IsKept b n) (t : ℕ) (o : Option What) (w : What) → 1 ≤ t → t ≤ 8 → o ≡ get_or n.waits (t - 1) o → o ≡ Some w → IsDisabled b.store w
+    → IsBlocked (setting b) (front b) t
+is_blocked_at b n k t o w first last is same disabled =
+    blocked_by b k.journal t w (note_says b n k t o (Some w) first last is same) (note_can b n k t o w first last is same) disabled
+
+pub is_free_at : (b : Book) (n : Notes) (k : IsKept b n) (t : ℕ) (o : Option What) (w : What) → 1 ≤ t → t ≤ 8 → o ≡ get_or n.waits (t - 1) o → o ≡ Some w → (IsDisabled b.store w → ⊥)
+    → IsBlocked (setting b) (front b) t → ⊥
+is_free_at b n k t o w first last is same enabled =
+    free_by b t w (note_says b n k t o (Some w) first last is same) (note_can b n k t o w first last is same) enabled
+
+pub is_free_without : (b : Book) (n : Notes) (k : IsKept b n) (t : ℕ) (o : Option What) → 1 ≤ t → t ≤ 8 → o ≡ get_or n.waits (t - 1) o → o ≡ None
+    → IsBlocked (setting b) (front b) t → ⊥
+is_free_without b n k t o first last is same = free_without b t (last_of_thread t None b.entries) (note_says b n k t o None first last is same)
+
+-- Threads have the numbers that there may be.
+pub live_number : (b : Book) (n : Notes) → IsKept b n → (t : ℕ) → Lives b.store t → (1 ≤ t) × (t ≤ 8)
+live_number b n k zero h = cc (h.is)
+live_number b n k (suc i) h =
+    let there : i < length b.store.spawned = slice_get_within b.store.spawned i h.state h.is in
+    (omega arith, omega (arith, there, k.few_threads))
+
+-- Loops over the threads
+
+before_first : (u : ℕ) → u < 1 → u ≡ 0
+before_first u h = omega (arith, h)
+
+pub none_first : (s : Store) (u : ℕ) (x : ThreadState) → u < 1 → thread_at s u ≡ Some x → x.ended ≡ true
+none_first s u x h is = let no : None ≡ Some x = sym (ap (thread_at s) (before_first u h)) ∙ is in cc
+
+up_to : (u t : ℕ) → u < t + 1 → (u < t) ⊎ (u ≡ t)
+up_to u t h = by_test (u == t) refl
+  where
+    by_test : (c : Bool) → (u == t) ≡ c → (u < t) ⊎ (u ≡ t)
+    by_test true e = inr (same_number u t e)
+    by_test false e = inl (let ne : u ≡ t → ⊥ = λ g. (let same : true ≡ false = sym (eq_same t) ∙ subst (λ z. (z == t) ≡ false) g e in cc) in omega (arith, ne, h))
+
+pub ended_more : (s : Store) (t : ℕ) → ((u : ℕ) (x : ThreadState) → u < t → thread_at s u ≡ Some x → x.ended ≡ true) → ((x : ThreadState) → thread_at s t ≡ Some x → x.ended ≡ true)
+    → (u : ℕ) (x : ThreadState) → u < t + 1 → thread_at s u ≡ Some x → x.ended ≡ true
+ended_more s t before here u x less is = either (up_to u t less)
+  where
+    either : (u < t) ⊎ (u ≡ t) → x.ended ≡ true
+    either (inl h) = before u x h is
+    either (inr h) = here x (subst (λ z. thread_at s z ≡ Some x) h is)
+
+pub blocked_first : (b : Book) (u : ℕ) → u < 1 → Lives b.store u → IsBlocked (setting b) (front b) u
+blocked_first b u h lives = let no : None ≡ Some lives.state = sym (ap (thread_at b.store) (before_first u h)) ∙ lives.is in cc
+
+pub blocked_more : (b : Book) (t : ℕ) → ((u : ℕ) → u < t → Lives b.store u → IsBlocked (setting b) (front b) u) → (Lives b.store t → IsBlocked (setting b) (front b) t)
+    → (u : ℕ) → u < t + 1 → Lives b.store u → IsBlocked (setting b) (front b) u
+blocked_more b t before here u less lives = either (up_to u t less)
+  where
+    either : (u < t) ⊎ (u ≡ t) → IsBlocked (setting b) (front b) u
+    either (inl h) = before u h lives
+    either (inr h) = subst (λ z. IsBlocked (setting b) (front b) z) (sym h) (here (subst (λ z. Lives b.store z) h lives))
+
+thread_number : (s : Store) → length s.spawned ≤ 8 → (t : ℕ) (x : ThreadState) → thread_at s t ≡ Some x → t < 9
+thread_number s few zero x h = cc
+thread_number s few (suc i) x h = let there : i < length s.spawned = slice_get_within s.spawned i x h in omega (arith, there, few)
+
+pub all_ended : (s : Store) → length s.spawned ≤ 8 → (n : ℕ) → n ≡ 9 → ((u : ℕ) (x : ThreadState) → u < n → thread_at s u ≡ Some x → x.ended ≡ true) → AllEnded s
+all_ended s few n is h t x there = h t x (omega (arith, is, thread_number s few t x there)) there
+
+pub all_blocked : (b : Book) → length b.store.spawned ≤ 8 → (n : ℕ) → n ≡ 9 → ((u : ℕ) → u < n → Lives b.store u → IsBlocked (setting b) (front b) u)
+    → (t : ℕ) → Lives b.store t → IsBlocked (setting b) (front b) t
+all_blocked b few n is h t lives = h t (omega (arith, is, thread_number b.store few t lives.state lives.is)) lives
+
+pub not_true : (c : Bool) → not c ≡ true → c ≡ false
+not_true true h = cc
+not_true false h = refl
+
+pub not_false : (c : Bool) → not c ≡ false → c ≡ true
+not_false true h = refl
+not_false false h = cc
+
+-- as many entries as there may be, or fewer
+pub entries_at : (b : Book) (n : Notes) → IsKept b n → (c : Bool) → (n.made == b.limit) ≡ c → (thread_entries b.entries == b.limit) ≡ c
+entries_at b n k c h = sym (count_is b n k) ∙ h

@@ -1,0 +1,9 @@
+mod States
+mod Going
+mod Answered
+mod Notes
+mod Ends
+mod Kept
+mod Appended
+mod Finished
+mod Strands

@@ -1,0 +1,11 @@
+use Rattle.std.proofs.Common.{ℕ, ◌≡◌, Option, None, Some, length, slice_get}
+use Rattle.std.specs.Prelude.{vec_capacity}
+use Rattle.loom_trace.specs.declared.entry.What.{What}
+use Rattle.loom_world.proofs.book.no_waits.Given as goal
+
+abbrev pub invariant-threads : goal.invariant-threads
+invariant-threads l = record {
+  count : length l.waits.items ≡ l.counter;
+  room : vec_capacity l.waits ≡ 8;
+  none : (i : ℕ) (w : Option What) → slice_get l.waits.items i ≡ Some w → w ≡ None;
+}

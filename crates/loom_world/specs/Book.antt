@@ -1,0 +1,45 @@
+-- The book of a run: its journal, and the store that its events leave.
+use Rattle.std.specs.Prelude.{ℕ, ◌≡◌, Bool, false, List, []}
+use Rattle.loom_tree.specs.Tree.{Source}
+use Rattle.loom_trace.specs.declared.entry.Entry.{Entry}
+use Rattle.loom_event.specs.Replay.{Store, start, replay}
+use Rattle.loom_law.specs.Control.{control}
+use Rattle.loom_law.specs.Lawful.{Setting, Front, IsLawful}
+
+-- No stop test is given.
+abbrev pub never : List Entry → Bool
+never es = false
+
+-- A run of the program without commands, in which threads make at most `limit` entries.
+abbrev pub plain : Source → ℕ → Setting
+plain p limit = record { program = p; commands = []; limit = limit; stop = never }
+
+pub record Book : Type 0 where
+  pub program : Source
+  pub limit : ℕ
+  pub entries : List Entry
+  pub store : Store
+
+abbrev pub setting : Book → Setting
+setting b = plain b.program b.limit
+
+-- the end of its journal
+abbrev pub front : Book → Front
+front b = record { entries = b.entries; store = b.store; control = control [] b.entries }
+
+-- The journal is lawful, and the store is what its events leave.
+pub record HasLawfulJournal (b : Book) : Type 0 where
+  pub lawful : IsLawful (setting b) b.entries
+  pub store : replay (start b.program) lawful.events ≡ b.store
+
+-- Nothing has happened yet.
+pub record IsNew (p : Source) (n : ℕ) (b : Book) : Type 0 where
+  pub program : b.program ≡ p
+  pub limit : b.limit ≡ n
+  pub entries : b.entries ≡ []
+  pub store : b.store ≡ start p
+
+-- It is the book of the same run.
+pub record IsOfSameRun (old new : Book) : Type 0 where
+  pub program : new.program ≡ old.program
+  pub limit : new.limit ≡ old.limit

@@ -1,0 +1,56 @@
+-- When a turn makes no entry, and why.
+use Rattle.std.specs.Prelude.{ℕ, ◌≡◌, ◌⊎◌, true, false, [], Option, Some, None}
+use Rattle.loom_trace.specs.declared.entry.Entry.{Entry}
+use Rattle.loom_trace.specs.declared.entry.Ending.{Ending}
+use Rattle.loom_event.specs.Answer.{IsFunctionWith}
+use Rattle.loom_event.specs.Entries.{thread_of, IsFinished}
+use Rattle.loom_event.specs.Replay.{thread_at, HasEnded}
+use Rattle.loom_law.specs.Control.{entries_of}
+use Rattle.loom_law.specs.Lawful.{over, Lives, IsBlocked, MayControl}
+use Rattle.loom_strand.specs.declared.stage.Birth.{Birth}
+use Rattle.loom_strand.specs.Life.{has_ended}
+use Rattle.loom_world.specs.declared.choice.Choice.{Choice}
+use Rattle.loom_world.specs.declared.choice.Choice.TheVariants as c
+use Rattle.loom_world.specs.declared.choice.Why.{Why}
+use Rattle.loom_world.specs.declared.choice.Why.TheVariants as why
+use Rattle.loom_world.specs.Book.{Book, setting, front}
+
+-- The journal is finished.
+abbrev pub IsWritten : Book → Type 0
+IsWritten b = (kind : Ending) × IsFinished b.entries kind
+
+-- No thread makes an entry any more: there are as many as there may be, or the journal is finished.
+abbrev pub IsClosed : Book → Type 0
+IsClosed b = (over (setting b) (front b) ≡ true) ⊎ IsWritten b
+
+-- Why thread t makes no entry now: the first of these that applies.
+abbrev pub IsIdleThread : Book → ℕ → Why → Type 0
+IsIdleThread b t why.Over = IsClosed b
+IsIdleThread b t why.Ended = (IsClosed b → ⊥) × HasEnded b.store t
+IsIdleThread b t why.Unborn = (IsClosed b → ⊥) × (thread_at b.store t ≡ None)
+IsIdleThread b t why.Blocked = (IsClosed b → ⊥) × (Lives b.store t × IsBlocked (setting b) (front b) t)
+IsIdleThread b t why.Nothing = ⊥
+
+-- No control entry stands next.
+abbrev pub IsIdleControl : Book → Why → Type 0
+IsIdleControl b why.Nothing = IsWritten b ⊎ ((x : Entry) → thread_of x ≡ None → MayControl (setting b) (front b) x [] → ⊥)
+IsIdleControl b _ = ⊥
+
+abbrev pub IsIdle : Book → Choice → Why → Type 0
+IsIdle b (c.Thread t) w = IsIdleThread b t w
+IsIdle b c.Control w = IsIdleControl b w
+
+-- Thread t lives and isn't blocked.
+pub record CanGoOn (b : Book) (t : ℕ) : Type 0 where
+  pub lives : Lives b.store t
+  pub free : IsBlocked (setting b) (front b) t → ⊥
+
+-- The run goes on, and thread t lives, with this function and these arguments.
+pub record IsLive (b : Book) (t : ℕ) (x : Birth) : Type 0 where
+  pub goes_on : IsClosed b → ⊥
+  pub lives : Lives b.store t
+  pub func : x.func ≡ lives.state.func
+  pub args : x.args ≡ lives.state.args
+  -- it is a function of the program, and has as many parameters
+  pub function : IsFunctionWith b.program x.func x.args
+  pub not_ended : has_ended (entries_of t b.entries) ≡ false

@@ -1,0 +1,18 @@
+-- Runs of turns.
+use Rattle.std.specs.Prelude.{ℕ, ◌≡◌, ◌≤◌, List, [], ◌∷◌, length}
+use Rattle.loom_trace.specs.Limits.{thread_limit}
+use Rattle.loom_world.specs.declared.choice.Choice.{Choice}
+use Rattle.loom_world.specs.declared.choice.Choice.TheVariants as c
+use Rattle.loom_world.specs.declared.choice.Turned.{Turned}
+use Rattle.loom_world.specs.Book.{Book}
+use Rattle.loom_world.specs.Turned.{Turns}
+
+-- A thread has a number from 1 up to the number of threads that there may be.
+abbrev pub IsChoice : Choice → Type 0
+IsChoice (c.Thread t) = (1 ≤ t) × (t ≤ thread_limit)
+IsChoice c.Control = Unit {0}
+
+-- The turns lead from the one book to the other, one for each choice, whatever each tells.
+abbrev pub Lead : Book → List Choice → Book → Type 0
+Lead old [] new = new ≡ old
+Lead old (c ∷ cs) new = (next : Book) × ((t : Turned) × Turns old c next t) × Lead next cs new

@@ -1,0 +1,198 @@
+//! A run of a program.
+ghost use Rattle.std.specs.Prelude.{◌≡◌, ◌≤◌, IfOk, Some, true, false};
+ghost use Rattle.std.specs.List.{AllByRecursion};
+ghost use Rattle.loom_trace.specs.Limits.{thread_limit, entry_limit};
+ghost use Rattle.loom_world.specs.declared.choice.Choice.TheVariants as choice;
+ghost use Rattle.loom_world.specs.Book.{IsNew, IsOfSameRun, HasLawfulJournal};
+ghost use Rattle.loom_world.specs.Idle.{IsWritten, IsClosed, IsLive};
+ghost use Rattle.loom_world.specs.Asking.{Asks};
+ghost use Rattle.loom_world.specs.Turned.{Turns};
+ghost use Rattle.loom_world.specs.Threads.{IsStrandOf, KeepsThreads, AreNew};
+ghost use Rattle.loom_world.specs.World.{IsChoice, Lead};
+
+use crate::book::{Book, THREADS};
+use crate::choice::{Choice, Turned, Why};
+use loom_flow::flow::Flow;
+use loom_flow::lower::lower;
+use loom_lang::program::Program;
+use loom_strand::stage::{Birth, Want};
+use loom_strand::strand::Strand;
+use loom_trace::journal::Journal;
+use loom_trace::request::Request;
+use loom_tree::name::NoMemory;
+use std::alloc::Global;
+use std::marker::Model;
+
+/// A run of a program, as far as it is: its journal, its store and its threads.
+#[derive(Debug, Drop)]
+pub struct World {
+    flow: Flow,
+    book: Book,
+    // thread t is the t-th
+    strands: Vec<Strand>,
+}
+
+impl Model for World {
+    ghost use Rattle.std.specs.Prelude.{◌≡◌};
+    ghost use Rattle.std.specs.Coded.{codes};
+    ghost use Rattle.loom_tree.specs.Code.{source_code};
+    ghost use Rattle.loom_world.specs.Book.{Book, HasLawfulJournal};
+    ghost use Rattle.loom_world.specs.Threads.{HasStrands};
+
+    ghost Value = { Book };
+
+    ghost coded = { Prim.hlevel (codes, source_code) };
+
+    ghost view = { λ w. w.book };
+
+    ghost invariant = { λ w. (w.flow.program ≡ w.book.program) × (HasLawfulJournal w.book × HasStrands w.book w.strands.items) };
+}
+
+// A strand for each thread that there may be, none of them started.
+fn strands_of(alloc: Global, flow: &Flow, limit: u32) -> Result<Vec<Strand>, NoMemory>
+    ensures { IfOk result (λ ss. AreNew flow.now.program limit ss.items) }
+{
+    let mut strands = Vec::with_capacity(alloc, THREADS as usize)?;
+    'threads: for t in 1..=THREADS {
+        strands.push_reserved(Strand::make(alloc, flow, t, limit)?);
+    }
+    Ok(strands)
+}
+
+// Makes the entry of thread `t`, whose strand asks for this, in the book and in the strand, or tells why it makes none.
+fn commit(
+    book: &mut Book,
+    flow: &Flow,
+    strand: &mut Strand,
+    t: u8,
+    request: Request,
+) -> Turned
+    requires first { 1 ≤ t }
+    requires last { t ≤ thread_limit }
+    requires program { flow.now.program ≡ book.old.program }
+    requires strand { IsStrandOf book.old t strand.old }
+    requires goes_on { IsClosed book.old → ⊥ }
+    requires asks { Asks book.old t request }
+    requires wanted { strand.old.wanted ≡ Some request }
+    ensures run { IsOfSameRun book.old book.new }
+    ensures turns { Turns book.old (choice.Thread t) book.new result }
+    ensures strand { IsStrandOf book.new t strand.new }
+    ensures threads { KeepsThreads book.old.store book.new.store }
+    ensures lawful { HasLawfulJournal book.new }
+{
+    match book.answer(t, &request) {
+        None => Turned::Idle(Why::Blocked),
+        Some(entry) => {
+            strand.answer(flow, entry);
+            Turned::Moved
+        }
+    }
+}
+
+// Goes on with the strand of thread `t`, which lives, up to its next request, and commits that.
+fn go_on(book: &mut Book, flow: &Flow, strand: &mut Strand, t: u8, birth: Birth) -> Turned
+    requires first { 1 ≤ t }
+    requires last { t ≤ thread_limit }
+    requires program { flow.now.program ≡ book.old.program }
+    requires strand { IsStrandOf book.old t strand.old }
+    requires live { IsLive book.old t birth }
+    ensures run { IsOfSameRun book.old book.new }
+    ensures turns { Turns book.old (choice.Thread t) book.new result }
+    ensures strand { IsStrandOf book.new t strand.new }
+    ensures threads { KeepsThreads book.old.store book.new.store }
+    ensures lawful { HasLawfulJournal book.new }
+{
+    if !strand.is_started() {
+        strand.start(birth.func, birth.args.as_slice());
+    }
+    match strand.run_private(flow) {
+        Want::Ended => unreachable!(),
+        Want::Ask(request) => commit(book, flow, strand, t, request),
+    }
+}
+
+impl World {
+    /// The run of a program, before its first entry, in which threads are to make `limit` entries at most: 1 to 1,000,000. It takes all of its
+    /// memory here. An `Err` is want of memory.
+    pub fn make(alloc: Global, p: &Program, limit: u32) -> Result<World, NoMemory>
+        requires least { 1 ≤ limit }
+        requires most { limit ≤ entry_limit }
+        ensures new { IfOk result (λ w. IsNew p.now limit w) }
+    {
+        let flow = lower(alloc, p)?;
+        let book = Book::make(alloc, flow.share()?, limit)?;
+        let strands = strands_of(alloc, &flow, limit)?;
+        Ok(World {
+            flow,
+            book,
+            strands,
+        })
+    }
+
+    // A turn of thread `t`.
+    fn turn_of(&mut self, t: u8) -> Turned
+        requires first { 1 ≤ t }
+        requires last { t ≤ thread_limit }
+        ensures run { IsOfSameRun self.old self.new }
+        ensures turns { Turns self.old (choice.Thread t) self.new result }
+        ensures lawful { HasLawfulJournal self.new }
+    {
+        match self.book.live(t) {
+            Err(why) => Turned::Idle(why),
+            Ok(birth) => go_on(
+                &mut self.book,
+                &self.flow,
+                &mut self.strands[t as usize - 1],
+                t,
+                birth,
+            ),
+        }
+    }
+
+    /// A turn: at most one entry is made. It takes no memory.
+    ///
+    /// A turn of a thread makes an entry unless one of these applies, of which the first is told: `Over` at the limit, or where the journal is
+    /// finished; `Ended` or `Unborn` where the thread has ended, or was never spawned; `Blocked` where its last entry is `Blocked` and its
+    /// request is still disabled. A turn of control finishes the journal where the run ends, and else tells `Nothing`.
+    pub fn turn(&mut self, c: Choice) -> Turned
+        requires { IsChoice c }
+        ensures run { IsOfSameRun self.old self.new }
+        ensures turns { Turns self.old c self.new result }
+        ensures lawful { HasLawfulJournal self.new }
+    {
+        match c {
+            Choice::Thread(t) => self.turn_of(t),
+            Choice::Control => self.book.control(),
+        }
+    }
+
+    /// One turn for each choice, in their order. It takes no memory.
+    pub fn run_choices(&mut self, cs: &[Choice])
+        requires { AllByRecursion IsChoice cs.now }
+        ensures run { IsOfSameRun self.old self.new }
+        ensures led { Lead self.old cs.now self.new }
+        ensures lawful { HasLawfulJournal self.new }
+    {
+        // its journal is lawful
+        let _ = &self.book;
+        'turns: for c in cs {
+            self.turn(*c);
+        }
+    }
+
+    /// Whether the journal is finished.
+    pub fn finished(&self) -> bool
+        ensures finished { result ≡ true → IsWritten self.now }
+        ensures unfinished { result ≡ false → IsWritten self.now → ⊥ }
+    {
+        self.book.is_finished()
+    }
+
+    /// The journal.
+    pub fn journal(&self) -> &Journal
+        ensures entries { result.now.entries ≡ self.now.entries }
+        ensures lawful { HasLawfulJournal self.now }
+    {
+        self.book.journal()
+    }
+}

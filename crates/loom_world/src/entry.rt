@@ -35,9 +35,23 @@ fn granted(thread: u8, request: &Request, value: i64) -> Entry
     match *request {
         Request::Begin { line } => Entry::Begin { thread, line },
         Request::End { line } => Entry::End { thread, line },
-        Request::Trap { line, reason } => Entry::Trap { thread, line, reason },
-        Request::Read { line, word } => Entry::Read { thread, line, word, value },
-        Request::Write { line, word, value } => Entry::Write { thread, line, word, value },
+        Request::Trap { line, reason } => Entry::Trap {
+            thread,
+            line,
+            reason,
+        },
+        Request::Read { line, word } => Entry::Read {
+            thread,
+            line,
+            word,
+            value,
+        },
+        Request::Write { line, word, value } => Entry::Write {
+            thread,
+            line,
+            word,
+            value,
+        },
         Request::Lock { line, m } => Entry::Lock { thread, line, m },
         Request::Unlock { line, m } => Entry::Unlock { thread, line, m },
         Request::Down { line, s } => Entry::Down { thread, line, s },
@@ -54,8 +68,16 @@ fn granted(thread: u8, request: &Request, value: i64) -> Entry
             line,
             child: value as u8,
         },
-        Request::Print { line, value } => Entry::Print { thread, line, value },
-        Request::Tick { line, place } => Entry::Tick { thread, line, place },
+        Request::Print { line, value } => Entry::Print {
+            thread,
+            line,
+            value,
+        },
+        Request::Tick { line, place } => Entry::Tick {
+            thread,
+            line,
+            place,
+        },
     }
 }
 

@@ -4,4 +4,6 @@
 mod book;
 pub mod choice;
 mod entry;
+#[cfg(test)]
+mod tests;
 pub mod world;

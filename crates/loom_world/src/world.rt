@@ -60,13 +60,7 @@ fn strands_of(alloc: Global, flow: &Flow, limit: u32) -> Result<Vec<Strand>, NoM
 }
 
 // Makes the entry of thread `t`, whose strand asks for this, in the book and in the strand, or tells why it makes none.
-fn commit(
-    book: &mut Book,
-    flow: &Flow,
-    strand: &mut Strand,
-    t: u8,
-    request: Request,
-) -> Turned
+fn commit(book: &mut Book, flow: &Flow, strand: &mut Strand, t: u8, request: Request) -> Turned
     requires first { 1 ≤ t }
     requires last { t ≤ thread_limit }
     requires program { flow.now.program ≡ book.old.program }

@@ -17,8 +17,7 @@ invariant_of-self c =
 pub returns-in-Some-clause-turns : goal.returns-in-Some-clause-turns
 returns-in-Some-clause-turns c =
     let b : Book = the_view c.self.inside in
-    let ends : Ends (setting b) (front b) c.in-Some.kind = subst (λ (z : Book). Ends (setting z) (front z) c.in-Some.kind) (sym c.self.view_is) c.in-Some.ensures.some in
-    (
+    let ends : Ends (setting b) (front b) c.in-Some.kind = subst (λ (z : Book). Ends (setting z) (front z) c.in-Some.kind) (sym c.self.view_is) c.in-Some.ensures.some in (
       record {
         entry = e.Finish c.in-Some.kind;
         one = subst (λ (z : Book). c.push.new.self.entries ≡ z.entries ++ e.Finish c.in-Some.kind ∷ []) c.self.view_is c.push.ensures.appended;

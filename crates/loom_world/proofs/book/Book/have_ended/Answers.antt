@@ -11,9 +11,9 @@ threads-preserved c =
     let here : (x : ThreadState) → thread_at c.args.self.now.store c.threads.t ≡ Some x → x.ended ≡ true =
     λ x is. (let there : thread_at c.self.inside.store c.threads.t ≡ Some x = subst (λ (b : Book). thread_at b.store c.threads.t ≡ Some x) (sym c.self.view_is) is in
     elim c.match-thread.branch [
-      in-Some+else-not-thread w ↦ (let same : state_of w.in-Some.thread ≡ x = cc (w.in-Some.ensures.some, there) in
+      | in-Some+else-not-thread w ↦ (let same : state_of w.in-Some.thread ≡ x = cc (w.in-Some.ensures.some, there) in
           ap (λ (z : ThreadState). z.ended) (sym same) ∙ not_false w.in-Some.thread.ended w.if-not-thread.false)
-    | in_default w ↦ (let none : None ≡ Some x = sym w.in_default.ensures.none ∙ there in cc)
+      | in_default w ↦ (let none : None ≡ Some x = sym w.in_default.ensures.none ∙ there in cc)
     ]) in
     ended_more c.args.self.now.store c.threads.t c.threads.invariant here
 

@@ -16,12 +16,12 @@ go_on-requires-clause-strand c =
 
 pub invariant_of-self : goal.invariant_of-self
 invariant_of-self c = (
-    c.self.invariant.0 ∙ sym c.go_on.ensures.run.program,
-    (
-        c.go_on.ensures.lawful,
-        strands_turned c.self.inside.book c.go_on.new.book c.self.inside.strands.items c.args.t c.go_on.new.strand c.go_on.result c.self.invariant.1.1 c.requires.first c.go_on.ensures.run c.go_on.ensures.threads
+  c.self.invariant.0 ∙ sym c.go_on.ensures.run.program,
+  (
+    c.go_on.ensures.lawful,
+    strands_turned c.self.inside.book c.go_on.new.book c.self.inside.strands.items c.args.t c.go_on.new.strand c.go_on.result c.self.invariant.1.1 c.requires.first c.go_on.ensures.run c.go_on.ensures.threads
         c.go_on.ensures.turns c.go_on.ensures.strand,
-    ),
+  ),
 )
 
 pub returns-in-Err-clause-turns : goal.returns-in-Err-clause-turns

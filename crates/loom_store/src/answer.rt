@@ -5,7 +5,7 @@ use loom_trace::entry::What;
 /// The answer to a request.
 #[derive(Clone, Copy, Debug, Drop, PartialEq, Eq)]
 pub enum Answer {
-    /// The request is granted, with the value that was read, or the number of the new thread; else with 0.
+    /// The request is granted. A read gives the word's value, a spawn says which thread is new; any other request gives 0.
     Granted(i64),
     /// The thread waits until this can be granted.
     Disabled(What),

@@ -145,9 +145,9 @@ impl World {
 
     /// A turn: at most one entry is made. It takes no memory.
     ///
-    /// A turn of a thread makes an entry unless one of these applies, of which the first is told: `Over` at the limit, or where the journal is
-    /// finished; `Ended` or `Unborn` where the thread has ended, or was never spawned; `Blocked` where its last entry is `Blocked` and its
-    /// request is still disabled. A turn of control finishes the journal where the run ends, and else tells `Nothing`.
+    /// A turn of a thread makes an entry unless one of these applies, of which the first is told. `Over`: the limit is reached, or `Finish` stands.
+    /// `Ended` and `Unborn`: the thread is over, or nobody spawned it. `Blocked`: the thread was told so last, and it still holds. A turn of
+    /// control makes `Finish` where the run ends, and else tells `Nothing`.
     pub fn turn(&mut self, c: Choice) -> Turned
         requires { IsChoice c }
         ensures run { IsOfSameRun self.old self.new }

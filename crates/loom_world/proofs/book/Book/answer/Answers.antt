@@ -8,6 +8,7 @@ use Rattle.loom_world.specs.Book.{Book, setting, front}
 use Rattle.loom_world.specs.Idle.{IsClosed}
 use Rattle.loom_world.specs.Asking.{Asks, IsAnswered}
 use Rattle.loom_world.specs.contracts.book.Book.{the_view}
+use Rattle.loom_world.specs.BookInvariant.{IsKept}
 use Rattle.loom_world.proofs.Appended.{kept_more, answered_so}
 use Rattle.loom_world.proofs.book.Book.answer.Goals as goal
 
@@ -52,3 +53,6 @@ returns-clause-some c =
     let new : Book = record { program = b.program; limit = b.limit; entries = c.push.new.self.entries; store = c.ask-answer.new.self } in
     let told : IsAnswered b c.args.t c.args.request.now c.entry_for-entry.result new = rw (c.push.ensures.appended, c.copy.ensures) so in
     subst (λ (z : Book). IsAnswered z c.args.t c.args.request.now c.entry_for-entry.result new) c.self.view_is told
+
+pub returns-clause-lawful : goal.returns-clause-lawful
+returns-clause-lawful c = IsKept.journal (invariant_of-self c)

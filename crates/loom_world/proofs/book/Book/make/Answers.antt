@@ -3,6 +3,7 @@ use Rattle.std.specs.Arc.{arc_value}
 use Rattle.loom_tree.specs.Tree.{Source}
 use Rattle.loom_lang.specs.Rules.{KeepsRules}
 use Rattle.loom_event.specs.Replay.{start}
+use Rattle.loom_world.specs.BookInvariant.{IsKept}
 use Rattle.loom_world.proofs.Finished.{new_kept}
 use Rattle.loom_world.proofs.book.Book.make.Goals as goal
 
@@ -13,3 +14,6 @@ invariant_of-result c =
     let store : c.in_ok-store.store ≡ start p = subst (λ (z : Source). c.in_ok-store.store ≡ start z) c.deref-2.ensures c.in_ok-store.ensures in
     rw (c.in_ok-journal.ensures.empty, store)
     (new_kept p c.args.limit c.in_ok-journal.journal.room c.in_ok-waits.waits.items rules c.requires.least c.requires.most c.in_ok-journal.ensures.room c.in_ok-waits.ensures)
+
+pub returns-clause-lawful : goal.returns-clause-lawful
+returns-clause-lawful c = IsKept.journal (invariant_of-result c)

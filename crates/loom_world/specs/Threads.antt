@@ -20,6 +20,7 @@ pub record IsStrandOf (b : Book) (t : ℕ) (s : Strand) : Type 0 where
   pub thread : s.thread ≡ t
   pub limit : s.limit ≡ b.limit
   pub birth : IsBirthOf (thread_at b.store t) s.birth
+  -- until it is started it has made nothing
   pub unborn : s.birth ≡ None → s.entries ≡ []
   pub entries : s.entries ≡ entries_of t b.entries
 

@@ -45,7 +45,7 @@ impl Model for World {
 
     ghost view = { λ w. w.book };
 
-    ghost invariant = { λ w. (w.flow.program ≡ w.book.program) × (HasLawfulJournal w.book × HasStrands w.book w.strands.items) };
+    ghost invariant = { λ w. (w.flow.program ≡ w.book.program) × HasLawfulJournal w.book × HasStrands w.book w.strands.items };
 }
 
 // A strand for each thread that there may be, none of them started.

@@ -1,4 +1,4 @@
-use Rattle.std.proofs.Common.{ℕ, suc, ◌+◌, ◌≡◌, ◌≤◌, Some, length, slice_get}
+use Rattle.std.proofs.Common.{ℕ, suc, ◌+◌, ◌≡◌, Some, length, slice_get}
 use Rattle.std.specs.Prelude.{vec_capacity}
 use Rattle.loom_strand.specs.Strand.{Strand, IsNew}
 use Rattle.loom_world.proofs.world.strands_of.Given as goal

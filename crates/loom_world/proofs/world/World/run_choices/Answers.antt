@@ -9,7 +9,7 @@ pub turns-init : goal.turns-init
 turns-init c = record {
   run = record { program = refl; limit = refl };
   led = λ new h. h;
-  lawful = subst (λ (b : Book). HasLawfulJournal b) c.self.view_is c.self.invariant.1.0;
+  lawful = subst (λ (b : Book). HasLawfulJournal b) c.self.view_is c.self.invariant.1;
 }
 
 pub turns-preserved : goal.turns-preserved

@@ -1,4 +1,4 @@
-use Rattle.std.proofs.Common.{◌≡◌, ◌<◌, ◌-◌, ◌∙◌, Some, length, slice_get, refl, sym, ap, arith, subst}
+use Rattle.std.proofs.Common.{◌≡◌, ◌<◌, ◌-◌, ◌∙◌, Some, length, slice_get, refl, sym, arith, subst}
 use Rattle.std.proofs.lemmas.Option.{slice_get_read}
 use Rattle.loom_world.specs.declared.choice.Choice.TheVariants as choice
 use Rattle.loom_world.specs.Book.{Book}
@@ -9,20 +9,18 @@ use Rattle.loom_world.proofs.world.World.turn_of.Goals as goal
 
 pub go_on-requires-clause-strand : goal.go_on-requires-clause-strand
 go_on-requires-clause-strand c =
-    let within : c.args.t - 1 < length c.self.inside.strands.items = omega (arith, c.requires.first, c.requires.last, c.self.invariant.1.1.count) in
+    let within : c.args.t - 1 < length c.self.inside.strands.items = omega (arith, c.requires.first, c.requires.last, c.self.invariant.2.count) in
     let there : slice_get c.self.inside.strands.items (c.args.t - 1) ≡ Some c.index_mut.result.now =
     slice_get_read c.self.inside.strands.items (length c.self.inside.strands.items) (c.args.t - 1) c.index_mut.result.now refl within c.index_mut.ensures.value in
-    strand_at c.self.inside.book c.self.inside.strands.items c.args.t (c.args.t - 1) c.index_mut.result.now c.self.invariant.1.1 c.requires.first refl there
+    strand_at c.self.inside.book c.self.inside.strands.items c.args.t c.index_mut.result.now c.self.invariant.2 c.requires.first there
 
 pub invariant_of-self : goal.invariant_of-self
-invariant_of-self c = (
-  c.self.invariant.0 ∙ sym c.go_on.ensures.run.program,
-  (
-    c.go_on.ensures.lawful,
-    strands_turned c.self.inside.book c.go_on.new.book c.self.inside.strands.items c.args.t c.go_on.new.strand c.go_on.result c.self.invariant.1.1 c.requires.first c.go_on.ensures.run c.go_on.ensures.threads
-        c.go_on.ensures.turns c.go_on.ensures.strand,
-  ),
-)
+invariant_of-self c =
+    let e = c.go_on.ensures in (
+      c.self.invariant.0 ∙ sym e.run.program,
+      e.lawful,
+      strands_turned c.self.inside.book c.go_on.new.book c.self.inside.strands.items c.args.t c.go_on.new.strand c.go_on.result c.self.invariant.2 c.requires.first e.run e.threads e.turns e.strand,
+    )
 
 pub returns-in-Err-clause-turns : goal.returns-in-Err-clause-turns
 returns-in-Err-clause-turns c = (subst (λ (b : Book). IsIdleThread b c.args.t c.in-Err.why) c.self.view_is c.in-Err.ensures.err, refl)

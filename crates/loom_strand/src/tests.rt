@@ -159,6 +159,7 @@ fn lock_later(flow: &Flow, strand: &mut Strand) -> bool
     requires thread { strand.old.thread ≡ 1 }
     requires room { length strand.old.entries + 1 < strand.old.limit }
     requires free { ends_blocked strand.old.entries ≡ false }
+    ensures { IsSame strand.old strand.old.birth strand.new.entries strand.new }
 {
     let thread = 1;
     let Want::Ask(Request::Lock { line, m }) = strand.run_private(flow) else {

@@ -1,4 +1,5 @@
-use Rattle.std.proofs.Common.{◌≡◌, ◌≤◌, length}
+use Rattle.std.proofs.Common.{◌≡◌, ◌≤◌, false, length}
+use Rattle.loom_law.specs.TurnLaws.{ends_blocked}
 use Rattle.loom_strand.specs.Strand.{IsStarted}
 use Rattle.loom_strand.proofs.tests.lines_of.Given as goal
 
@@ -9,4 +10,5 @@ invariant-entries l = record {
   limit : l.strand.limit ≡ 1000;
   started : IsStarted l.strand.birth;
   few : length l.strand.entries ≤ l.counter;
+  free : ends_blocked l.strand.entries ≡ false;
 }

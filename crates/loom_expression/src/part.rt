@@ -39,7 +39,9 @@ pub(crate) fn prec(op: Op) -> u8
 pub enum Prefix {
     /// A left operand and its operator.
     Left(Op, Expr),
+    /// `-` before an operand.
     Minus,
+    /// `!` before an operand.
     Bang,
     /// A parenthesis.
     Open,
@@ -61,8 +63,11 @@ pub struct Size {
 /// An operand, and what was begun before it, the last on top.
 #[derive(Debug, Drop)]
 pub struct Phrase {
+    /// The operand.
     pub value: Expr,
+    /// How much was read, with it.
     pub size: Size,
+    /// What was begun before it.
     pub prefixes: Vec<Prefix>,
 }
 

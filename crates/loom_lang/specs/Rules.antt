@@ -193,9 +193,9 @@ pub record KeepsRules (p : Source) : Type 0 where
   -- a name of the file is declared once
   pub once : is_distinct (file_names p) ≡ true
   pub functions : FunctionsKeepRules p p.funcs
-  -- `main` exists and has no parameters
+  -- There is a `main`, and it takes nothing.
   pub main : takes p.funcs (codes "main") 0 ≡ true
-  -- At most one statement begins on a line: in the order of the text each begins behind the line of the one before it.
+  -- In the order of the text each statement begins on a later line than the one before it.
   pub lines : is_ascending 0 (lines_of p) ≡ true
   pub function_count : length p.funcs ≤ function_limit
   pub name_count : length (shared_names p) ≤ name_limit

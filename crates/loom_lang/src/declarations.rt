@@ -6,9 +6,13 @@ use std::marker::Model;
 /// The items of a file by their kinds, each in the order of the text. They may break the rules on names and the limits.
 #[derive(Debug, Drop)]
 pub struct Declarations {
+    /// The words and arrays.
     pub words: Words,
+    /// The mutexes.
     pub mutexes: Mutexes,
+    /// The semaphores.
     pub semas: Semas,
+    /// The functions.
     pub funcs: Funcs,
 }
 

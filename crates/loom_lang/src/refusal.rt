@@ -39,6 +39,8 @@ pub enum Reason {
 /// The refusal of bytes: its line, from 1, and its reason.
 #[derive(Clone, Copy, Debug, Drop, PartialEq, Eq)]
 pub struct LangRefusal {
+    /// Its line, from 1.
     pub line: u32,
+    /// Its reason.
     pub reason: Reason,
 }

@@ -6,16 +6,23 @@ ghost use Rattle.loom_lexer.specs.Scan.{begins, run_len, kind_at, len_at};
 /// A byte by what may begin with it.
 #[derive(Clone, Copy, Debug, Drop)]
 pub enum Class {
+    /// A letter or `_`.
     Letter,
+    /// A digit.
     Digit,
+    /// A space, a tab, a CR or an LF.
     White,
     /// A sign with which no longer one begins.
     Single,
     /// A sign, and one more with `=` behind it.
     Comparison,
+    /// `&`, which begins `&&`.
     Ampersand,
+    /// `|`, which begins `||`.
     Bar,
+    /// `/`, a sign, which begins a comment too.
     Slash,
+    /// A byte with which nothing begins.
     Other,
 }
 
@@ -24,6 +31,7 @@ pub enum Class {
 pub enum LexemeKind {
     /// A space, a tab, a CR or an LF.
     White,
+    /// A comment, up to the end of its line.
     Comment,
     /// A name or a keyword.
     Name,
@@ -40,6 +48,7 @@ pub enum LexemeKind {
 /// The lexeme at a place.
 #[derive(Clone, Copy, Debug, Drop)]
 pub struct Span {
+    /// What it is.
     pub kind: LexemeKind,
     /// The place behind its last byte.
     pub end: usize,

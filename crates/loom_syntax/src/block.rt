@@ -21,25 +21,33 @@ const BLOCK_LIMIT: usize = 32;
 /// An `if` up to the end of its first block.
 #[derive(Drop)]
 pub struct If {
+    /// Its line, from 1.
     pub line: u32,
+    /// Its condition.
     pub condition: Expr,
+    /// The statements of its first block.
     pub body: Stmts,
 }
 
 /// What an open block is part of.
 #[derive(Drop)]
 pub enum Around {
+    /// The first block of an `if` with this condition.
     Then(Expr),
     /// The block behind `else`, and what is before it.
     Else(Expr, Stmts),
+    /// The block of a `while` with this condition.
     Loop(Expr),
 }
 
 /// An open block: the line of its statement, and the statements before that.
 #[derive(Drop)]
 pub struct OpenBlock {
+    /// The line of its statement, from 1.
     pub line: u32,
+    /// What it is part of.
     pub around: Around,
+    /// The statements before that one.
     pub before: Vec<Stmt>,
 }
 
@@ -63,12 +71,14 @@ pub struct BlockReader {
     pub opened: Vec<OpenBlock>,
     /// The statements of the innermost.
     pub before: Vec<Stmt>,
+    /// Where the reader is in the innermost.
     pub point: BlockPosition,
 }
 
 /// How a function goes on behind a token.
 #[derive(Drop)]
 pub enum BlockNext {
+    /// It goes on, in this state.
     Goes(BlockReader),
     /// Its block is whole.
     Ends(Stmts),

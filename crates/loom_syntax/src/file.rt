@@ -22,8 +22,11 @@ use std::alloc::Global;
 /// A function up to its block.
 #[derive(Drop)]
 pub struct Header {
+    /// The line of its `fn`, from 1.
     pub line: u32,
+    /// Its name.
     pub name: Name,
+    /// The names of its parameters, in their order.
     pub params: Vec<Name>,
 }
 

@@ -15,37 +15,55 @@ pub const SEMA_LIMIT: u64 = 2147483647;
 /// The first value of a word.
 #[derive(Drop)]
 pub enum InitialValue {
+    /// None is given.
     None,
+    /// A number.
     Plus(Number),
+    /// A number behind `-`.
     Minus(Number),
 }
 
 /// An item without a block.
 #[derive(Drop)]
 pub enum Declaration {
+    /// A word.
     Word(Name, InitialValue),
     /// An array, and how many cells it has.
     Array(Name, u64),
+    /// A mutex.
     Mutex(Name),
+    /// A semaphore, and its first value where one is given.
     Sema(Name, Option<u32>),
 }
 
 /// What was read of an item, named by what must follow.
 #[derive(Drop)]
 pub enum Head {
+    /// The name behind `shared`.
     SharedName,
+    /// `;`, `=` or `[` behind the name of a word or an array.
     SharedNamed(Name),
+    /// `-` or a number behind `=`.
     SharedValue(Name),
+    /// A number behind `-`.
     SharedMinus(Name),
+    /// A number behind `[`.
     SharedCells(Name),
+    /// `]` behind the number of cells.
     SharedClose(Name, u64),
+    /// The name behind `mutex`.
     MutexName,
+    /// The name behind `sema`.
     SemaName,
+    /// `;` or `=` behind the name of a semaphore.
     SemaNamed(Name),
+    /// A number behind `=`.
     SemaValue(Name),
     /// The `;` of a declaration.
     Ending(Declaration),
+    /// The name behind `fn`.
     FnName,
+    /// `(` behind the name of a function.
     FnOpen(Name),
     /// The first parameter, or `)`.
     FnFirst(Name),
@@ -53,12 +71,14 @@ pub enum Head {
     FnParam(Name, Vec<Name>),
     /// A comma or `)` behind a parameter.
     FnNext(Name, Vec<Name>),
+    /// `{` behind the parameters.
     FnBrace(Name, Vec<Name>),
 }
 
 /// How an item goes on behind a token.
 #[derive(Drop)]
 pub enum HeadNext {
+    /// It goes on, in this state.
     Goes(Head),
     /// It was a declaration.
     Declares(Declaration),
@@ -66,7 +86,7 @@ pub enum HeadNext {
     Begins(Name, Vec<Name>),
 }
 
-/// The first token of an item.
+/// The first token of an item; `None` where no item begins with it.
 pub fn begin_item(spot: Spot) -> Option<Head>
     ensures { head_if result ≡ m.begin_item (token_of spot.entry) }
 {

@@ -20,107 +20,150 @@ use std::alloc::Global;
 /// How a value is written to a name.
 #[derive(Clone, Copy, Drop)]
 pub enum Binding {
+    /// By `let`, which declares it.
     Let,
+    /// Without.
     Set,
 }
 
 /// What a value is written to.
 #[derive(Drop)]
 pub struct Assignee {
+    /// How it is written to.
     pub binding: Binding,
+    /// Its name.
     pub name: Name,
 }
 
 /// What stands at the right of `=`, with arguments.
 #[derive(Clone, Copy, Drop)]
 pub enum Arguing {
+    /// A call.
     Call,
+    /// A `spawn`.
     Spawn,
 }
 
 /// What arguments are for.
 #[derive(Drop)]
 pub enum Goal {
+    /// A call of this function, whose result is dropped.
     Call(Name),
+    /// A call or spawn of the function named last, whose result is written.
     Right(Arguing, Assignee, Name),
 }
 
 /// What is done with a mutex or a semaphore.
 #[derive(Clone, Copy, Drop)]
 pub enum SyncKind {
+    /// `lock`
     Lock,
+    /// `unlock`
     Unlock,
+    /// `down`
     Down,
+    /// `up`
     Up,
 }
 
 /// The statements with a condition.
 #[derive(Clone, Copy, Drop)]
 pub enum Test {
+    /// `if`
     If,
+    /// `while`
     While,
 }
 
 /// What an expression is for.
 #[derive(Drop)]
 pub enum Purpose {
+    /// It is written there.
     Value(Assignee),
     /// An argument behind those before it.
     Argument(Goal, Vec<Expr>),
+    /// The index of a cell of this array, which is written to.
     Index(Name),
+    /// It is written to the cell of this array and index.
     CellValue(Name, Expr),
+    /// The condition of this statement.
     Condition(Test),
+    /// The result of a `return`.
     Return,
+    /// The number of the thread that a `join` waits for.
     Join,
+    /// It is printed.
     Print,
 }
 
 /// A statement without a block.
 #[derive(Drop)]
 pub enum Simple {
+    /// `let` of a local, and what is written to it.
     Let(Name, Right),
+    /// A write to a local or a word.
     Set(Name, Right),
+    /// A write to a cell: the array, the index and the value.
     SetCell(Name, Expr, Expr),
+    /// A call whose result is dropped: the function and its arguments.
     Call(Name, Exprs),
+    /// `return`, with its value where one is given.
     Return(Option<Expr>),
+    /// `lock` of a mutex.
     Lock(Name),
+    /// `unlock` of a mutex.
     Unlock(Name),
+    /// `down` of a semaphore.
     Down(Name),
+    /// `up` of a semaphore.
     Up(Name),
+    /// `join` of the thread of this number.
     Join(Expr),
+    /// `print` of a value.
     Print(Expr),
+    /// `skip`
     Skip,
 }
 
 /// What was read of a statement, named by what must follow.
 #[derive(Drop)]
 pub enum Part {
+    /// The name behind `let`.
     LetName,
+    /// `=` behind the name of a local.
     LetAssign(Name),
     /// `=`, `[` or `(` behind a name.
     Started(Name),
+    /// `spawn`, a name or another expression behind `=`.
     RightOf(Assignee),
     /// A name was read, of a function if `(` follows, else of an expression.
     RightNamed(Assignee, Name),
+    /// The name behind `spawn`.
     SpawnName(Assignee),
+    /// `(` behind the function of a new thread.
     SpawnOpen(Assignee, Name),
+    /// The name of a mutex or a semaphore.
     SyncName(SyncKind),
+    /// `(` behind `if` or `while`.
     TestOpen(Test),
     /// The first argument, or `)`.
     Arguments(Goal),
     /// An expression or `;`.
     Returned,
+    /// `=` behind the index of a cell of this array.
     SetAssign(Name, Expr),
     /// The rest of an expression.
     Reading(Box<Purpose>, Reader),
     /// The `;` of a statement.
     Ending(Box<Simple>),
+    /// `{` behind a condition.
     TestBrace(Test, Expr),
 }
 
 /// How a statement goes on behind a token.
 #[derive(Drop)]
 pub enum PartNext {
+    /// It goes on, in this state.
     Goes(Part),
     /// It is whole.
     Ends(Box<Simple>),

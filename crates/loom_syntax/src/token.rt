@@ -11,6 +11,7 @@ use std::alloc::Global;
 /// A number, from 0 to 9223372036854775807.
 #[derive(Clone, Copy, Debug, Drop)]
 pub struct Number {
+    /// The number.
     pub value: u64,
     ghost small: { value < 2 ^ 63 },
 }
@@ -18,7 +19,9 @@ pub struct Number {
 /// A token, and the bytes of its text.
 #[derive(Clone, Copy, Drop)]
 pub struct Spot<'a> {
+    /// The bytes of the text.
     pub bytes: &'a [u8],
+    /// The token, with its places in them.
     pub token: Token,
     ghost small: { IsSmall token.kind } by { IsSmall-prop token.kind },
     ghost ordered: { token.start ≤ token.end },
@@ -70,7 +73,7 @@ impl<'a> Spot<'a> {
         }
     }
 
-    /// The name that it is. An `Err` is want of memory.
+    /// The name that it is; `None` where it is none. An `Err` is want of memory.
     pub fn name(self, alloc: Global) -> Result<Option<Name>, NoMemory>
         ensures { IfOk result (λ x. x ≡ name_of (token_of self.entry)) }
     {
@@ -83,7 +86,7 @@ impl<'a> Spot<'a> {
         }
     }
 
-    /// The number that it is.
+    /// The number that it is; `None` where it is none.
     pub fn number(self) -> Option<Number>
         ensures { number_if result ≡ number_of (token_of self.entry) }
     {

@@ -6,18 +6,31 @@ use std::marker::Model;
 /// An operator between two operands.
 #[derive(Clone, Copy, Debug, Drop, PartialEq, Eq)]
 pub enum Op {
+    /// `||`
     Or,
+    /// `&&`
     And,
+    /// `==`
     Eq,
+    /// `!=`
     Ne,
+    /// `<`
     Lt,
+    /// `<=`
     Le,
+    /// `>`
     Gt,
+    /// `>=`
     Ge,
+    /// `+`
     Add,
+    /// `-`
     Sub,
+    /// `*`
     Mul,
+    /// `/`
     Div,
+    /// `%`
     Rem,
 }
 
@@ -30,8 +43,11 @@ pub enum Expr {
     Var(Name),
     /// A cell of an array, and its index.
     Cell(Name, Box<Expr>),
+    /// `-` before an operand.
     Neg(Box<Expr>),
+    /// `!` before an operand.
     Not(Box<Expr>),
+    /// An operator, its left operand and its right one.
     Bin(Op, Box<Expr>, Box<Expr>),
 }
 

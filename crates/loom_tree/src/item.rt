@@ -7,6 +7,7 @@ use std::marker::Model;
 /// A shared word, or an array of them.
 #[derive(Debug, Drop)]
 pub struct Word {
+    /// Its name.
     pub name: Name,
     /// How many cells an array has; `None` for a plain word.
     pub cells: Option<u32>,
@@ -42,7 +43,9 @@ impl Model for Mutexes {
 /// A semaphore, and its first value, from 0 to 2147483647.
 #[derive(Debug, Drop)]
 pub struct Sema {
+    /// Its name.
     pub name: Name,
+    /// Its first value.
     pub first: u32,
 }
 
@@ -79,6 +82,7 @@ impl Model for Funcs {
 /// An item of a file, with the line on which it begins.
 #[derive(Debug, Drop)]
 pub enum FileItem {
+    /// A word or an array.
     Word {
         line: u32,
         name: Name,
@@ -87,15 +91,18 @@ pub enum FileItem {
         /// The first value of a plain word; 0 for an array.
         first: i64,
     },
+    /// A mutex.
     Mutex {
         line: u32,
         name: Name,
     },
+    /// A semaphore, and its first value.
     Sema {
         line: u32,
         name: Name,
         first: u32,
     },
+    /// A function; its line is that of its `fn`.
     Func(Func),
 }
 

@@ -19,8 +19,11 @@ impl Model for Names {
 /// What stands at the right of `=`.
 #[derive(Debug, Drop)]
 pub enum Right {
+    /// An expression.
     Value(Expr),
+    /// A call: the function and its arguments.
     Call(Name, Exprs),
+    /// A new thread: its function and the arguments.
     Spawn(Name, Exprs),
 }
 
@@ -28,7 +31,9 @@ pub enum Right {
 #[cycle(statements)]
 #[derive(Debug, Drop)]
 pub struct Stmt {
+    /// Its line, from 1.
     pub line: u32,
+    /// What it does.
     pub kind: Kind,
 }
 
@@ -36,20 +41,33 @@ pub struct Stmt {
 #[cycle(statements)]
 #[derive(Debug, Drop)]
 pub enum Kind {
+    /// Declares a local, and writes to it.
     Let(Name, Right),
+    /// A write to a local or a word.
     Set(Name, Right),
     /// A write to a cell: the array, the index and the value.
     SetCell(Name, Expr, Expr),
+    /// A condition, what is done where it isn't 0, and what where it is.
     If(Expr, Stmts, Stmts),
+    /// A condition, and what is done as long as it isn't 0.
     While(Expr, Stmts),
+    /// A call whose result is dropped: the function and its arguments.
     Call(Name, Exprs),
+    /// The end of the frame with a result, which is 0 where none is given.
     Return(Option<Expr>),
+    /// `lock` of a mutex.
     Lock(Name),
+    /// `unlock` of a mutex.
     Unlock(Name),
+    /// `down` of a semaphore.
     Down(Name),
+    /// `up` of a semaphore.
     Up(Name),
+    /// A wait for the end of the thread of this number.
     Join(Expr),
+    /// A value is printed.
     Print(Expr),
+    /// Nothing.
     Skip,
 }
 
@@ -57,7 +75,9 @@ pub enum Kind {
 #[cycle(statements)]
 #[derive(Debug)]
 pub enum Stmts {
+    /// No statement.
     End,
+    /// A statement, and those behind it.
     More(Box<Stmt>, Box<Stmts>),
 }
 
@@ -76,8 +96,12 @@ impl Drop for Stmts {
 /// A function, and the line of its `fn`.
 #[derive(Debug, Drop)]
 pub struct Func {
+    /// Its name.
     pub name: Name,
+    /// Its line, from 1.
     pub line: u32,
+    /// The names of its parameters, in their order.
     pub params: Names,
+    /// Its statements.
     pub body: Stmts,
 }

@@ -9,7 +9,7 @@ use std::snapshot::Snapshot;
 use std::sync::Wait;
 
 impl<T: Fits> Turn<T> {
-    /// A lock round `value`, with so many seats.
+    /// A lock round `value`, with so many seats: 1 to 255.
     ///
     /// Where memory runs out the value comes back.
     pub fn make(alloc: Global, value: T, seats: u8) -> Result<(Turn<T>, Seats<T>), T>

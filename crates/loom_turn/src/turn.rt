@@ -11,6 +11,7 @@ pub trait Fits {
     /// What the label is.
     type Label;
 
+    /// The label of a value.
     ghost label: { Self → Self.Label };
 }
 

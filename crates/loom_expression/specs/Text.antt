@@ -5,6 +5,7 @@ use Rattle.loom_tree.specs.declared.expression.Op.TheVariants as op
 use Rattle.loom_tree.specs.declared.token.Sign.TheVariants as sign
 use Rattle.loom_tree.specs.Tree.{Expression}
 use Rattle.loom_tree.specs.Token.{Token}
+use Rattle.loom_expression.specs.declared.part.TheConstants.{NODE_LIMIT, NESTING_LIMIT}
 
 -- an expression as it is written: a tree with the parentheses that stand in it
 pub data Text : Type 0 where
@@ -83,10 +84,10 @@ depth (Text.paren a) = suc (depth a)
 -- the limits of the grammar
 
 abbrev pub node_limit : ℕ
-node_limit = 128
+node_limit = NODE_LIMIT
 
 abbrev pub nesting_limit : ℕ
-nesting_limit = 128
+nesting_limit = NESTING_LIMIT
 
 pub record IsWritten (w : Text) : Type 0 where
   pub level : HasLevel 0 w

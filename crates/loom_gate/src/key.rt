@@ -38,7 +38,8 @@ pub struct Key {
 }
 
 impl Key {
-    /// Raises the flags of these places, by one step for each word of flags. None is up before.
+    /// Raises the flags of these places, each one of the gate's, by one step for each word of flags.
+    /// None is up before.
     pub fn raise(&mut self, gate: &Gate, flags: &Places)
         requires gate { IsKeyOf gate.now self.old }
         requires down { has_flags_up self.old ≡ false }

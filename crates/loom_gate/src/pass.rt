@@ -85,7 +85,8 @@ impl Pass {
         }
     }
 
-    /// Whether the flag of a place was up when this call loaded it. The pass is inside.
+    /// Whether the flag of a place, one of the gate's, was up when this call loaded it. The pass is
+    /// inside.
     pub fn poll(&mut self, gate: &Gate, place: u16) -> bool
         requires gate { IsPassOf gate.now self.old }
         requires inside { IsInside self.old }
@@ -103,7 +104,7 @@ impl Pass {
         (word >> (place % 64)) % 2 == 1
     }
 
-    /// Leaves, and stands at a place.
+    /// Leaves, and stands at a place, one of the gate's. The pass is inside before.
     pub fn leave(&mut self, gate: &Gate, place: u16)
         requires gate { IsPassOf gate.now self.old }
         requires inside { IsInside self.old }

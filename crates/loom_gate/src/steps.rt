@@ -9,7 +9,9 @@ pub(crate) const MARK: u64 = 65536;
 /// How many threads and places a gate has.
 #[derive(Drop)]
 pub struct Size {
+    /// The number of threads, from 1 to 8.
     pub threads: u64,
+    /// The number of places, from 1 to 8,321.
     pub places: u64,
 }
 

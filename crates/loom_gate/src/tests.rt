@@ -1,3 +1,4 @@
+//! A gate of one thread, call by call, and one whose thread runs beside its key.
 ghost use Rattle.std.specs.Prelude.{◌≡◌, ℕ, ◌+◌, ◌<◌, ◌≤◌, [], IfSome, All, true, false};
 ghost use Rattle.std.specs.Thread.{IsSync};
 ghost use Rattle.loom_trace.specs.Places.{has_place};

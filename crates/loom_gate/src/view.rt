@@ -7,16 +7,19 @@ use std::collections::LinkedList;
 
 /// Where a pass is. The number is a place, and of `Inside` the version.
 pub enum Stage {
+    /// It stands at the place.
     Stands(u64),
     /// The inside mark was stored, from this place.
     Tries(u64),
     /// The flag of the place was found down.
     Clear(u64),
+    /// It is inside, with the version.
     Inside(u64),
 }
 
 /// What a pass knows.
 pub struct PassView {
+    /// Where the pass is.
     pub stage: Stage,
     /// How many times it stored the inside mark.
     pub tries: u64,
@@ -34,7 +37,9 @@ pub struct PassView {
 pub enum Look {
     /// There was no look since the flags were stored last.
     Unknown,
+    /// The thread was inside, or about to be.
     SawInside,
+    /// The thread stood at the place.
     SawPlace(u64),
 }
 
@@ -46,10 +51,13 @@ pub struct KeyView {
     pub looks: LinkedList<Look>,
     /// How many looks were made.
     pub count: u64,
+    /// The newest version, from 0.
     pub version: u64,
     /// The words of flags stored so far, each with its number.
     pub ever: LinkedList<(u64, u64)>,
+    /// The number of threads.
     pub threads: u64,
+    /// The number of places.
     pub places: u64,
     /// How many passes were made.
     pub born: u64,
@@ -63,6 +71,7 @@ pub struct KeyView {
 pub enum View {
     /// The pass of a thread.
     Pass(u64, PassView),
+    /// The key.
     Key(KeyView),
     /// A seat that was joined.
     Nobody,

@@ -15,6 +15,7 @@ use std::{fs, io};
 /// The files of the system, by their paths. It tells no file.
 #[derive(Drop)]
 pub struct DirShelf<'a, R> {
+    /// What opens files.
     pub rt: &'a R,
     /// The number of faults, up to 18446744073709551615. It is the count of every name.
     pub faults: u64,
@@ -78,6 +79,7 @@ impl<R: Files> Shelf for DirShelf<'_, R> {
 /// Standard output. It doesn't tell what it took.
 #[derive(Drop)]
 pub struct OutSink<'a, P> {
+    /// What prints.
     pub rt: &'a P,
     /// The number of faults, up to 18446744073709551615.
     pub faults: u64,

@@ -7,26 +7,24 @@ ghost use Rattle.loom_io.specs.Page.{PageTook};
 
 use crate::sink::{Sink, SinkFailed};
 use crate::whole::put_all;
+use arrayvec::ArrayVec;
 use std::marker::Model;
 
 /// The most bytes that a page holds.
 pub const PAGE_SIZE: usize = 4096;
 
-/// The bytes of a page, 4,096 at most. It takes no memory.
+/// The bytes of a page, 4,096 at most (`PAGE_SIZE`). It takes no memory.
 #[derive(Debug, Drop)]
 pub struct Page {
-    cells: [u8; PAGE_SIZE],
-    len: usize,
+    cells: ArrayVec<u8, PAGE_SIZE>,
 }
 
 impl Model for Page {
-    ghost use Rattle.std.specs.Prelude.{◌≤◌, List, ℕ, take};
+    ghost use Rattle.std.specs.Prelude.{List, ℕ};
 
     ghost Value = { List ℕ };
 
-    ghost view = { λ p. take p.len p.cells };
-
-    ghost invariant = { λ p. p.len ≤ 4096 };
+    ghost view = { λ p. p.cells.items };
 }
 
 impl Page {
@@ -35,8 +33,7 @@ impl Page {
         ensures { result ≡ [] }
     {
         Page {
-            cells: [0; PAGE_SIZE],
-            len: 0,
+            cells: ArrayVec::new(),
         }
     }
 
@@ -45,29 +42,28 @@ impl Page {
         ensures bytes { result.now ≡ self.now }
         ensures most { length result.now ≤ PAGE_SIZE }
     {
-        &self.cells[..self.len]
+        self.cells.as_slice()
     }
 
     // How many bytes more the page can hold.
     fn room(&self) -> usize
         ensures { result + length self.now ≡ PAGE_SIZE }
     {
-        PAGE_SIZE - self.len
+        self.cells.remaining_capacity()
     }
 
     fn clear(&mut self)
         ensures { self.new ≡ [] }
     {
-        self.len = 0;
+        self.cells.clear();
     }
 
     fn add(&mut self, piece: &[u8])
         requires { length self.old + length piece.now ≤ PAGE_SIZE }
         ensures { self.new ≡ self.old ++ piece.now }
     {
-        let end = self.len + piece.len();
-        self.cells[self.len..end].copy_from_slice(piece);
-        self.len = end;
+        let added = self.cells.try_extend_from_slice(piece);
+        prove!(added.is_ok());
     }
 }
 

@@ -13,6 +13,7 @@ pub mod limits;
 mod local;
 pub mod locals;
 mod names;
+pub mod numbers;
 pub mod parse;
 pub mod program;
 pub mod refusal;

@@ -57,27 +57,7 @@ fn accepts(rt: HostRuntime) {
 
 #[test]
 fn refuses(rt: HostRuntime) {
-    for (i, row) in REFUSED.iter().enumerate() {
-        let refusal = LangRefusal {
-            line: row.line,
-            reason: row.reason,
-        };
-        assert_eq!(rt;
-            error_of(rt.alloc(), row.text),
-            Some(LangError::Refused),
-            "row {i}"
-        );
-        assert_eq!(rt;
-            refusal_of(rt.alloc(), row.text),
-            Ok(Some(refusal)),
-            "row {i}"
-        );
-    }
-}
-
-#[test]
-fn refuses_names(rt: HostRuntime) {
-    for (i, row) in REFUSED_FOR_NAMES.iter().enumerate() {
+    for (i, row) in REFUSED.iter().chain(REFUSED_FOR_NAMES.iter()).enumerate() {
         let refusal = LangRefusal {
             line: row.line,
             reason: row.reason,

@@ -10,6 +10,7 @@ use Rattle.loom_tree.specs.Tree as tree
 use Rattle.loom_tree.specs.Tree.{Expression, Right, Simple, Body}
 use Rattle.loom_expression.specs.Text as expression
 use Rattle.loom_expression.specs.Text.{Text, tokens, IsWritten}
+use Rattle.loom_syntax.specs.declared.block.TheConstants.{BLOCK_LIMIT}
 use Rattle.loom_syntax.specs.declared.item.TheConstants.{SEMA_LIMIT}
 
 -- A token of a written file. Where a statement or an item begins, the mark tells its line.
@@ -141,7 +142,7 @@ item_marks (func l f params body) = begun l (head_tokens f params) ++ in_braces 
 -- body of a function being the first, and a semaphore's first value has a limit.
 
 abbrev pub block_limit : ℕ
-block_limit = 32
+block_limit = BLOCK_LIMIT
 
 -- the greatest value of a semaphore
 abbrev pub sema_limit : ℕ

@@ -9,7 +9,7 @@ use loom_tree::name::{Name, NoMemory};
 use loom_tree::token::{Keyword, Sign};
 use std::alloc::Global;
 
-/// The largest first value of a semaphore.
+/// The greatest value of a semaphore, as its first one and in a run.
 pub const SEMA_LIMIT: u64 = 2147483647;
 
 /// The first value of a word.

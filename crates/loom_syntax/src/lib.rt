@@ -8,7 +8,7 @@ mod block;
 #[cfg(test)]
 mod examples;
 mod file;
-mod item;
+pub mod item;
 pub mod items;
 pub mod laws;
 mod statement;

@@ -9,14 +9,14 @@ use Rattle.loom_trace.specs.declared.entry.What.TheVariants as what
 use Rattle.loom_trace.specs.declared.entry.Entry.{Entry}
 use Rattle.loom_trace.specs.declared.entry.Entry.TheVariants as e
 use Rattle.loom_tree.specs.Decimal.{decimal}
-use Rattle.loom_trace.specs.Text.{thread_at, what_fields, ending_word}
+use Rattle.loom_trace.specs.Text.{thread_prefix, what_fields, ending_word}
 use Rattle.loom_trace.specs.Parts.{thread_and_line, word_of, fields_of}
 use Rattle.loom_trace.proofs.Numbers.{number, signed_number, Digits, digits_told, number_told, signed_told, numbers_told, values_told}
 
 -- the fields of a line: where a thread does something, the word, and the fields behind it
 abbrev pub behind_place : Option (ℕ × ℕ) → List (List ℕ) → List (List ℕ)
 behind_place None fs = fs
-behind_place (Some place) fs = thread_at place.0 place.1 ∷ fs
+behind_place (Some place) fs = thread_prefix place.0 place.1 ∷ fs
 
 abbrev pub line_fields : Entry → List (List ℕ)
 line_fields x = behind_place (thread_and_line x) (word_of x ∷ fields_of x)
@@ -113,13 +113,13 @@ behind_told : (ds xs : List ℕ) → Digits ds → behind_colon (ds ++ 58 ∷ xs
 behind_told [] xs h = refl
 behind_told (b ∷ ds) xs h = rw (ne_eqb b 58 (λ e. omega (arith, e, h.1)), behind_told ds xs h.2) refl
 
-place_colon : (t l : ℕ) → has_colon (thread_at t l) ≡ true
+place_colon : (t l : ℕ) → has_colon (thread_prefix t l) ≡ true
 place_colon t l = colon_told (decimal t) (decimal l) (digits_told t)
 
-place_before : (t l : ℕ) → before_colon (thread_at t l) ≡ decimal t
+place_before : (t l : ℕ) → before_colon (thread_prefix t l) ≡ decimal t
 place_before t l = before_told (decimal t) (decimal l) (digits_told t)
 
-place_behind : (t l : ℕ) → behind_colon (thread_at t l) ≡ decimal l
+place_behind : (t l : ℕ) → behind_colon (thread_prefix t l) ≡ decimal l
 place_behind t l = behind_told (decimal t) (decimal l) (digits_told t)
 
 what_told : (w : What) → what_of (what_fields w) ≡ w

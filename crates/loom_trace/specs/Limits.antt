@@ -1,6 +1,6 @@
 -- How much there is at most of what entries tell.
 use Rattle.std.specs.Prelude.{ℕ}
-use Rattle.loom_trace.specs.declared.limits.TheConstants.{THREAD_LIMIT, ARGUMENT_LIMIT, EVENT_LIMIT, PLACE_LIMIT, ENTRY_LIMIT, CONTROL_LIMIT}
+use Rattle.loom_trace.specs.declared.limits.TheConstants.{THREAD_LIMIT, ARGUMENT_LIMIT, EVENT_LIMIT, PLACE_LIMIT, ENTRY_LIMIT, CONTROL_LIMIT, LINE_LIMIT}
 
 -- threads of a run
 abbrev pub thread_limit : ℕ
@@ -25,3 +25,11 @@ entry_limit = ENTRY_LIMIT
 -- control entries of a run
 abbrev pub control_limit : ℕ
 control_limit = CONTROL_LIMIT
+
+-- bytes of an entry's line, without what ends it
+abbrev pub line_limit : ℕ
+line_limit = LINE_LIMIT
+
+-- bytes before the fields of an entry: its thread, its line and its word
+abbrev pub front_limit : ℕ
+front_limit = 24

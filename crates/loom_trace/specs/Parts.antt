@@ -3,11 +3,11 @@ use Rattle.std.specs.Prelude.{ℕ, List, [], ◌∷◌, ◌++◌, map, codes, Op
 use Rattle.loom_trace.specs.declared.entry.Entry.{Entry}
 use Rattle.loom_trace.specs.declared.entry.Entry.TheVariants as e
 use Rattle.loom_tree.specs.Decimal.{decimal, signed_decimal}
-use Rattle.loom_trace.specs.Text.{thread_at, what_fields, ending_word}
+use Rattle.loom_trace.specs.Text.{thread_prefix, what_fields, ending_word}
 
 -- where a thread does something, and a space
 abbrev pub thread_before : ℕ → ℕ → List ℕ
-thread_before thread line = thread_at thread line ++ 32 ∷ []
+thread_before thread line = thread_prefix thread line ++ 32 ∷ []
 
 -- what stands before a word
 abbrev pub before : Option (ℕ × ℕ) → List ℕ

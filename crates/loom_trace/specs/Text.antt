@@ -15,12 +15,12 @@ spaced [] = []
 spaced (f ∷ fs) = 32 ∷ f ++ spaced fs
 
 -- a thread, a colon and a line
-abbrev pub thread_at : ℕ → ℕ → List ℕ
-thread_at thread line = decimal thread ++ 58 ∷ decimal line
+abbrev pub thread_prefix : ℕ → ℕ → List ℕ
+thread_prefix thread line = decimal thread ++ 58 ∷ decimal line
 
 -- the line of text of what a thread does: where it does it, a word and fields
 abbrev pub thread_line : ℕ → ℕ → List ℕ → List (List ℕ) → List ℕ
-thread_line thread line word fields = thread_at thread line ++ spaced (word ∷ fields)
+thread_line thread line word fields = thread_prefix thread line ++ spaced (word ∷ fields)
 
 -- the line of text of what the controller does: a word and fields
 abbrev pub control_line : List ℕ → List (List ℕ) → List ℕ

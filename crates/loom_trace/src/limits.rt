@@ -17,3 +17,7 @@ pub const ENTRY_LIMIT: u32 = 1_000_000;
 
 /// The most control entries of a run, two for each command, and the one that finishes it.
 pub const CONTROL_LIMIT: u32 = 129;
+
+/// The most bytes of an entry's line, without what ends it. That is enough for each entry: the
+/// longest, a `past` with 32 events, has at most 151.
+pub const LINE_LIMIT: usize = 160;

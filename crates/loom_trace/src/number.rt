@@ -1,6 +1,7 @@
 //! Numbers in decimal, on a line.
 ghost use Rattle.std.specs.Prelude.{◌≡◌, ◌+◌, ◌*◌, ◌≤◌, [], ◌∷◌, ◌++◌, List, ℕ, length, map};
 ghost use Rattle.loom_tree.specs.Decimal.{decimal, signed_decimal};
+ghost use Rattle.loom_trace.specs.Limits.{line_limit};
 ghost use Rattle.loom_trace.specs.Text.{spaced};
 
 use crate::line::Line;
@@ -16,7 +17,7 @@ pub(crate) trait Number: Copy {
 
     // Appends the number.
     fn put(self, out: &mut Line)
-        requires { length out.old + most ≤ 160 }
+        requires { length out.old + most ≤ line_limit }
         ensures text { out.new ≡ out.old ++ text self }
         ensures short { length out.new ≤ length out.old + most };
 }
@@ -67,7 +68,7 @@ impl Number for i64 {
 
 // Appends numbers, each behind a space.
 pub(crate) fn put_numbers<N: Number>(numbers: &[N], out: &mut Line)
-    requires { length out.old + (N.most + 1) * length numbers.now ≤ 160 }
+    requires { length out.old + (N.most + 1) * length numbers.now ≤ line_limit }
     ensures text { out.new ≡ out.old ++ spaced (map N.text numbers.now) }
     ensures short { length out.new ≤ length out.old + (N.most + 1) * length numbers.now }
 {

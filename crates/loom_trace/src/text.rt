@@ -1,6 +1,7 @@
 //! The text of an entry.
 ghost use Rattle.std.specs.Prelude.{◌≡◌, ◌+◌, ◌*◌, ◌<◌, ◌≤◌, [], ◌∷◌, ◌++◌, length, map};
 ghost use Rattle.loom_tree.specs.Decimal.{decimal, signed_decimal};
+ghost use Rattle.loom_trace.specs.Limits.{line_limit, front_limit};
 ghost use Rattle.loom_trace.specs.Text.{spaced, what_fields, ending_word, entry_line};
 ghost use Rattle.loom_trace.specs.Parts.{thread_before, thread_and_line, before, word_of, fields_of};
 
@@ -11,7 +12,7 @@ use crate::row::{Args, Events, PlaceRow};
 
 // The thread and the line of what a thread does, and a space.
 fn put_thread(thread: u8, at: u32, out: &mut Line)
-    requires { length out.old ≤ 145 }
+    requires { length out.old ≤ front_limit }
     ensures text { out.new ≡ out.old ++ thread_before thread at }
     ensures short { length out.new ≤ length out.old + 15 }
 {
@@ -23,7 +24,7 @@ fn put_thread(thread: u8, at: u32, out: &mut Line)
 
 // A word behind a space.
 fn put_word(word: &[u8], out: &mut Line)
-    requires { length out.old + length word.now < 160 }
+    requires { length out.old + length word.now < line_limit }
     ensures text { out.new ≡ out.old ++ 32 ∷ word.now }
     ensures len { length out.new ≡ length out.old + length word.now + 1 }
 {
@@ -33,7 +34,7 @@ fn put_word(word: &[u8], out: &mut Line)
 
 #[tactic(auto, using(std::proofs::Common::append_assoc))]
 fn put_what(what: &What, out: &mut Line)
-    requires { length out.old ≤ 100 }
+    requires { length out.old ≤ front_limit }
     ensures { out.new ≡ out.old ++ spaced (what_fields what.now) }
 {
     match what {
@@ -61,7 +62,7 @@ fn put_what(what: &What, out: &mut Line)
 }
 
 fn put_ending(kind: &Ending, out: &mut Line)
-    requires { length out.old ≤ 100 }
+    requires { length out.old ≤ front_limit }
     ensures { out.new ≡ out.old ++ spaced (ending_word kind.now ∷ []) }
 {
     match kind {
@@ -74,7 +75,7 @@ fn put_ending(kind: &Ending, out: &mut Line)
 
 // A word's number and a value.
 fn put_access(word: u32, value: i64, out: &mut Line)
-    requires { length out.old ≤ 100 }
+    requires { length out.old ≤ front_limit }
     ensures { out.new ≡ out.old ++ spaced (decimal word ∷ signed_decimal value ∷ []) }
 {
     put_numbers(&[word], out);
@@ -82,7 +83,7 @@ fn put_access(word: u32, value: i64, out: &mut Line)
 }
 
 fn put_spawn(child: u8, func: u8, args: &Args, out: &mut Line)
-    requires { length out.old ≤ 24 }
+    requires { length out.old ≤ front_limit }
     ensures { out.new
         ≡ out.old ++ spaced (decimal child ∷ decimal func ∷ map signed_decimal args.now) }
 {
@@ -91,7 +92,7 @@ fn put_spawn(child: u8, func: u8, args: &Args, out: &mut Line)
 }
 
 fn put_events(k: u8, events: &Events, out: &mut Line)
-    requires { length out.old ≤ 24 }
+    requires { length out.old ≤ front_limit }
     ensures { out.new ≡ out.old ++ spaced (decimal k ∷ map decimal events.now) }
 {
     put_numbers(&[k], out);
@@ -100,7 +101,7 @@ fn put_events(k: u8, events: &Events, out: &mut Line)
 
 // A command, the version that it makes, and where the threads stand.
 fn put_change(k: u8, version: u32, places: &PlaceRow, out: &mut Line)
-    requires { length out.old ≤ 24 }
+    requires { length out.old ≤ front_limit }
     ensures { out.new
         ≡ out.old ++ spaced (decimal k ∷ decimal version ∷ map decimal places.now) }
 {
@@ -110,7 +111,7 @@ fn put_change(k: u8, version: u32, places: &PlaceRow, out: &mut Line)
 }
 
 fn put_stalled(k: u8, thread: u8, at: u32, out: &mut Line)
-    requires { length out.old ≤ 24 }
+    requires { length out.old ≤ front_limit }
     ensures { out.new ≡ out.old ++ spaced (decimal k ∷ decimal thread ∷ decimal at ∷ []) }
 {
     put_numbers(&[k, thread], out);
@@ -206,7 +207,7 @@ fn put_before(place: Option<(u8, u32)>, out: &mut Line)
 
 // The fields behind the word.
 fn put_fields(e: &Entry, out: &mut Line)
-    requires { length out.old ≤ 24 }
+    requires { length out.old ≤ front_limit }
     ensures { out.new ≡ out.old ++ spaced (fields_of e.now) }
 {
     match e {

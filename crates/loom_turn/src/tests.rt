@@ -1,3 +1,4 @@
+//! A lock of two seats in one thread, and one that two threads take in turns.
 ghost use Rattle.std.specs.Prelude.{◌≡◌};
 ghost use Rattle.std.specs.Thread.{IsSync};
 ghost use Rattle.loom_turn.specs.Seat.{IsSeatOf, IsIdle, IsSameSeat};

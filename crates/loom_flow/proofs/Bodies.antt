@@ -1,5 +1,5 @@
 -- Statements one after another, and those that hold blocks.
-use Rattle.std.proofs.Common.{ℕ, suc, ◌+◌, ◌≤◌, ◌≡◌, ◌&&◌, true, List, [], ◌∷◌, ◌++◌, length, ap, sym, ◌∙◌, arith, append_assoc, length-append}
+use Rattle.std.proofs.Common.{ℕ, suc, ◌+◌, ◌≤◌, ◌≡◌, ◌&&◌, true, List, [], ◌∷◌, ◌++◌, length, ap, sym, ◌∙◌, arith, append_assoc, length-append, None}
 use Rattle.std.proofs.lemmas.List.{append-nil}
 use Rattle.loom_tree.specs.declared.statement.Kind.{Kind}
 use Rattle.loom_tree.specs.declared.statement.Kind.TheVariants as k
@@ -74,8 +74,8 @@ if_splits p names l e a b rest = record {
       let second : ℕ = first + (1 + size p names a) in
       let done : ℕ = second + size p names b in
       let behind : suc done ≡ at + size p names (if_ l e a b end) = omega arith in
-      ap (λ n. site l 0 ∷ (body_sites p names first a ++ (body_sites p names second b ++ body_sites p names n rest))) behind
-      ∙ ap (λ z. site l 0 ∷ z) (two_split (body_sites p names first a) (body_sites p names second b) (body_sites p names (at + size p names (if_ l e a b end)) rest));
+      ap (λ n. site l None ∷ (body_sites p names first a ++ (body_sites p names second b ++ body_sites p names n rest))) behind
+      ∙ ap (λ z. site l None ∷ z) (two_split (body_sites p names first a) (body_sites p names second b) (body_sites p names (at + size p names (if_ l e a b end)) rest));
   count = let whole = if_count l e a b rest in let alone = if_count l e a b end in omega arith;
   some = omega arith;
 }
@@ -96,8 +96,8 @@ while_splits p names l e a rest = record {
       let first : ℕ = at + (2 + length (operand_steps p names e)) in
       let done : ℕ = first + (1 + size p names a) in
       let behind : suc done ≡ at + size p names (while_ l e a end) = omega arith in
-      ap (λ n. site l 0 ∷ site l 0 ∷ (body_sites p names first a ++ body_sites p names n rest)) behind
-      ∙ ap (λ z. site l 0 ∷ site l 0 ∷ (z ++ body_sites p names (at + size p names (while_ l e a end)) rest)) (sym (append-nil (body_sites p names first a)));
+      ap (λ n. site l None ∷ site l None ∷ (body_sites p names first a ++ body_sites p names n rest)) behind
+      ∙ ap (λ z. site l None ∷ site l None ∷ (z ++ body_sites p names (at + size p names (while_ l e a end)) rest)) (sym (append-nil (body_sites p names first a)));
   count = let whole = while_count l e a rest in let alone = while_count l e a end in omega arith;
   some = omega arith;
 }
@@ -217,29 +217,29 @@ pub known_again : (p : Source) (names : List (List ℕ)) (l : ℕ) (e : Expressi
 known_again p names l e a h = (both _ _ (both _ _ h).1).0
 
 pub if_sites : (p : Source) (names : List (List ℕ)) (l : ℕ) (e : Expression) (a b : Body) (at first second : ℕ) (old begun ran new : List Site) →
-    begun ≡ old ++ site l 0 ∷ [] →
+    begun ≡ old ++ site l None ∷ [] →
     ran ≡ begun ++ body_sites p names first a →
     new ≡ ran ++ body_sites p names second b →
     first ≡ at + (2 + length (operand_steps p names e)) →
     second ≡ at + (2 + length (operand_steps p names e)) + (1 + size p names a) →
     new ≡ old ++ body_sites p names at (if_ l e a b end)
 if_sites p names l e a b at first second old begun ran new h1 h2 h3 h4 h5 =
-    let flat : ((old ++ site l 0 ∷ []) ++ body_sites p names first a) ++ body_sites p names second b ≡ old ++ site l 0 ∷ (body_sites p names first a ++ (body_sites p names second b ++ [])) = simp (append-nil, append_assoc) in
+    let flat : ((old ++ site l None ∷ []) ++ body_sites p names first a) ++ body_sites p names second b ≡ old ++ site l None ∷ (body_sites p names first a ++ (body_sites p names second b ++ [])) = simp (append-nil, append_assoc) in
     h3
     ∙ ap (λ z. z ++ body_sites p names second b) (h2 ∙ ap (λ z. z ++ body_sites p names first a) h1)
     ∙ flat
-    ∙ ap (λ n. old ++ site l 0 ∷ (body_sites p names n a ++ (body_sites p names second b ++ []))) h4
-    ∙ ap (λ n. old ++ site l 0 ∷ (body_sites p names (at + (2 + length (operand_steps p names e))) a ++ (body_sites p names n b ++ []))) h5
+    ∙ ap (λ n. old ++ site l None ∷ (body_sites p names n a ++ (body_sites p names second b ++ []))) h4
+    ∙ ap (λ n. old ++ site l None ∷ (body_sites p names (at + (2 + length (operand_steps p names e))) a ++ (body_sites p names n b ++ []))) h5
 
 pub while_sites : (p : Source) (names : List (List ℕ)) (l : ℕ) (e : Expression) (a : Body) (at first : ℕ) (old begun back new : List Site) →
-    begun ≡ old ++ site l 0 ∷ [] →
-    back ≡ begun ++ site l 0 ∷ [] →
+    begun ≡ old ++ site l None ∷ [] →
+    back ≡ begun ++ site l None ∷ [] →
     new ≡ back ++ body_sites p names first a →
     first ≡ at + (2 + length (operand_steps p names e)) →
     new ≡ old ++ body_sites p names at (while_ l e a end)
 while_sites p names l e a at first old begun back new h1 h2 h3 h4 =
-    let flat : ((old ++ site l 0 ∷ []) ++ site l 0 ∷ []) ++ body_sites p names first a ≡ old ++ site l 0 ∷ site l 0 ∷ (body_sites p names first a ++ []) = simp (append-nil, append_assoc) in
+    let flat : ((old ++ site l None ∷ []) ++ site l None ∷ []) ++ body_sites p names first a ≡ old ++ site l None ∷ site l None ∷ (body_sites p names first a ++ []) = simp (append-nil, append_assoc) in
     h3
-    ∙ ap (λ z. z ++ body_sites p names first a) (h2 ∙ ap (λ z. z ++ site l 0 ∷ []) h1)
+    ∙ ap (λ z. z ++ body_sites p names first a) (h2 ∙ ap (λ z. z ++ site l None ∷ []) h1)
     ∙ flat
-    ∙ ap (λ n. old ++ site l 0 ∷ site l 0 ∷ (body_sites p names n a ++ [])) h4
+    ∙ ap (λ n. old ++ site l None ∷ site l None ∷ (body_sites p names n a ++ [])) h4

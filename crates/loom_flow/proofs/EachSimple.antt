@@ -81,15 +81,11 @@ store_straight : (p : Source) (x : List ℕ) (a : Option ℕ) → AllStraight (s
 store_straight p x None = (refl, (refl, tt))
 store_straight p x (Some j) = (refl, (refl, tt))
 
-resume_set : Source → List (List ℕ) → ℕ → Right Expression → ℕ
-resume_set p xs at (Right.call f es) = at + (1 + length (call_steps p xs f es))
-resume_set p xs at _ = 0
-
 set_meets : (b : Bool) (c : Flow) (t : Thread) (m : ℕ → State → Lists) (n l k at : ℕ) (xs : List (List ℕ)) (z : State) (calls : Calls) (x : List ℕ) (r : Right Expression) (more : Locals → Lists)
     → ((j : ℕ) → Fetches b c t (m j)) → CallsMeet b c t m n (length z.below) calls → names (slice_get c.program.funcs z.func) ≡ xs → length xs ≤ length z.locals
     → IsNumbered t.program x (index_of x xs) → IsKnownRight t.program xs r
     → Lies c.code at (instrs l k (s.Control Begin ∷ (set_steps t.program xs x r ++ s.Control Done ∷ [])))
-    → ((f : List ℕ) (es : List Expression) → r ≡ Right.call f es → resume (slice_get c.sites k) ≡ at + (1 + length (call_steps t.program xs f es)))
+    → ((f : List ℕ) (es : List Expression) → r ≡ Right.call f es → resume (slice_get c.sites k) ≡ Some (at + (1 + length (call_steps t.program xs f es))))
     → Ends b m n xs z (skip at (s.Control Begin ∷ (set_steps t.program xs x r ++ s.Control Done ∷ []))) more
     → Meets b (m n (jumped z at)) (emit (begins l (named xs z.locals)) (right t calls l (named xs z.locals) r (λ v. stored t l (named xs z.locals) (value_in (named xs z.locals) x) x v (λ env. emit (done l) (more env)))))
 set_meets b c t m n l k at xs z calls x (Right.value e) more fetches meets names_are h numbered_x known lies site ends =
@@ -102,7 +98,7 @@ set_meets b c t m n l k at xs z calls x (Right.call f es) more fetches meets nam
     meets_call b c t m n l k at xs z calls f es (store ∷ s.Control Done ∷ []) (λ v. stored t l (named xs z.locals) (value_in (named xs z.locals) x) x v (λ env. emit (done l) (more env)))
     fetches meets names_are h known.0 known.1 (store_straight t.program x (index_of x xs))
     (subst (λ steps. Lies c.code at (instrs l k (s.Control Begin ∷ steps))) (three_behind before call store (s.Control Done)) lies)
-    (site f es refl ∙ call_resumes at before call)
+    (site f es refl ∙ ap Some (call_resumes at before call))
     (λ j le v. meets_store b c t (m j) l k (suc (skip (suc at) before)) x xs z v more h numbered_x (λ vs g.
     subst (λ i. Meets b (m j (jumped (record z { locals = vs }) i)) (more (named xs vs))) (three_steps (suc at) before call store (s.Control Done)) (ends j le vs g)))
 set_meets b c t m n l k at xs z calls x (Right.spawn f es) more fetches meets names_are h numbered_x known lies site ends =
@@ -172,7 +168,7 @@ simple_meets b c t m n l k at xs z calls (Simple.call f es) ret more fetches mee
     meets_call b c t m n l k at xs z calls f es (s.Compute Discard ∷ s.Control Done ∷ []) (λ v. emit (done l) (more (named xs z.locals)))
     fetches meets names_are h known.0 known.1 (refl, (refl, tt))
     (subst (λ steps. Lies c.code at (instrs l k (s.Control Begin ∷ steps))) same lies)
-    (site ∙ call_resumes at before call)
+    (site ∙ ap Some (call_resumes at before call))
     (λ j le v. meets_emit b (done l) _ _
     (subst (λ i. Meets b (m j (jumped z i)) (more (named xs z.locals))) (ap (skip (suc at)) same ∙ skip_append (suc at) before (call ∷ s.Compute Discard ∷ s.Control Done ∷ [])) (ends j le z.locals refl)))
 simple_meets b c t m n l k at xs z calls (return None) ret more fetches meets names_are h known lies site returns ends =

@@ -56,14 +56,15 @@ plain_leads Q c lo hi l k q _ e m from to = q (suc m) (omega (arith, from)) to
 -- a call, with what stands before and behind it
 call_leads : (Q : ℕ → Type 0) (c : Flow) (lo hi l k at : ℕ) (xs : List (List ℕ)) (f : List ℕ) (es : List Expression) (x : Step) (ys : List Step) → Inside Q lo hi → Starts c → IsFunction c.program f → is_plain x ≡ true
     → ys ≡ argument_steps c.program xs es ++ s.Control (Call (or_zero (function_number c.program f)) (length es)) ∷ x ∷ s.Control Done ∷ []
-    → resume (slice_get c.sites k) ≡ at + (1 + length (call_steps c.program xs f es)) → lo ≤ at → at + suc (length ys) ≤ hi → Each (LeadsAt Q c) at (instrs l k (s.Control Begin ∷ ys))
+    → resume (slice_get c.sites k) ≡ Some (at + (1 + length (call_steps c.program xs f es))) → lo ≤ at → at + suc (length ys) ≤ hi → Each (LeadsAt Q c) at (instrs l k (s.Control Begin ∷ ys))
 call_leads Q c lo hi l k at xs f es x ys q starts known plain same site from to =
     let before : List Step = argument_steps c.program xs es in
     let call : Step = s.Control (Call (or_zero (function_number c.program f)) (length es)) in
     let m : ℕ = at + suc (length before) in
     let n : length ys ≡ length before + 3 = ap length same ∙ length-append before (call ∷ x ∷ s.Control Done ∷ []) in
     let d : length (call_steps c.program xs f es) ≡ length before + 1 = length-append before (call ∷ []) in
-    let resumes : resume (slice_get c.sites k) ≡ suc m = omega (arith, site, d) in
+    let next : at + (1 + length (call_steps c.program xs f es)) ≡ suc m = omega (arith, d) in
+    let resumes : resume (slice_get c.sites k) ≡ Some (suc m) = site ∙ ap Some next in
     subst (λ zs. Each (LeadsAt Q c) at (instrs l k (s.Control Begin ∷ zs))) (sym same)
     (each_steps (LeadsAt Q c) at l k (s.Control Begin ∷ before) (call ∷ x ∷ s.Control Done ∷ [])
     (each_instrs (LeadsAt Q c) lo hi at l k (s.Control Begin ∷ before) from (omega (arith, n, to))
@@ -80,7 +81,7 @@ store_plain p x None = refl
 store_plain p x (Some j) = refl
 
 set_call_leads : (Q : ℕ → Type 0) (c : Flow) (lo hi l k at : ℕ) (xs : List (List ℕ)) (x f : List ℕ) (es : List Expression) → Inside Q lo hi → Starts c → IsFunction c.program f
-    → resume (slice_get c.sites k) ≡ at + (1 + length (call_steps c.program xs f es)) → lo ≤ at → at + length (simple_steps c.program xs (set x (Right.call f es))) ≤ hi
+    → resume (slice_get c.sites k) ≡ Some (at + (1 + length (call_steps c.program xs f es))) → lo ≤ at → at + length (simple_steps c.program xs (set x (Right.call f es))) ≤ hi
     → Each (LeadsAt Q c) at (instrs l k (simple_steps c.program xs (set x (Right.call f es))))
 set_call_leads Q c lo hi l k at xs x f es q starts known site from to =
     let before : List Step = argument_steps c.program xs es in

@@ -1,5 +1,5 @@
 -- Where the functions, their places and their ends stand.
-use Rattle.std.proofs.Common.{ℕ, suc, zero, ◌+◌, ◌≡◌, ◌≤◌, ◌<◌, List, [], ◌∷◌, ◌++◌, Option, Some, refl, sym, ap, subst, ◌∙◌, slice_get, length, length-append, append_assoc, ⊎_elim, arith}
+use Rattle.std.proofs.Common.{ℕ, suc, zero, ◌+◌, ◌≡◌, ◌≤◌, ◌<◌, List, [], ◌∷◌, ◌++◌, Option, Some, refl, sym, ap, subst, ◌∙◌, slice_get, length, length-append, append_assoc, ⊎_elim, arith, None}
 use Rattle.std.proofs.lemmas.Bool.{cases_lt}
 use Rattle.loom_tree.specs.Tree.{Body, Function, Source}
 use Rattle.loom_lang.specs.Rules.{locals_of}
@@ -97,7 +97,7 @@ stands_from c (g ∷ gs) n at place code ps sites whole k e h =
 
     sites_more : Lies c.sites later (functions_sites p next gs)
     sites_more = subst (λ m. Lies c.sites m (functions_sites p next gs)) (let f : length (body_sites p xs at g.body) ≡ place_count g.body = sites_length p xs g.body at in omega arith)
-        (lies_second c.sites (suc place) (body_sites p xs at g.body) (site g.line 0 ∷ functions_sites p next gs) sites.1).1
+        (lies_second c.sites (suc place) (body_sites p xs at g.body) (site g.line None ∷ functions_sites p next gs) sites.1).1
 
     whole_more : next + length more ≡ length c.code
     whole_more = let f : length (functions_code p at place (g ∷ gs)) ≡ suc (size p xs g.body) + length more = functions_length p at place g gs in omega (arith, f, whole)
@@ -114,7 +114,7 @@ stands_from c (g ∷ gs) n at place code ps sites whole k e h =
       subst (λ (q : Entrance). Stands c (n + 0) g q (slice_get (entrances p next later gs) 0)) (same_element here e d) (record {
         code = lies_first c.code at (function_code p at place g) more code_here;
         places = subst (λ m. Lies (places p) place (entry m ∷ (body_places g.body ++ out m ∷ []))) (omega arith) (lies_first (places p) place (entry n ∷ (body_places g.body ++ out n ∷ [])) (places_from (suc n) gs) places_here);
-        sites = lies_first c.sites (suc place) (body_sites p xs at g.body) (site g.line 0 ∷ functions_sites p next gs) sites.1;
+        sites = lies_first c.sites (suc place) (body_sites p xs at g.body) (site g.line None ∷ functions_sites p next gs) sites.1;
         behind = next_start p (length c.code) next later gs whole_more;
         inside = omega (arith, whole_more);
       }),
@@ -129,7 +129,7 @@ stands p n e h =
     let f : (g : Function) × (slice_get p.funcs n ≡ Some g) × Stands (lowered p) (0 + n) g e (slice_get (entrances p 0 1 p.funcs) (suc n)) =
     stands_from (lowered p) p.funcs 0 0 1 (lies_whole (functions_code p 0 1 p.funcs))
     (lies_whole (places p)).1
-    (lies_behind (site 0 0) (functions_sites p 0 p.funcs) 0 (functions_sites p 0 p.funcs) (lies_whole (functions_sites p 0 p.funcs))) (omega arith) n e h in
+    (lies_behind (site 0 None) (functions_sites p 0 p.funcs) 0 (functions_sites p 0 p.funcs) (lies_whole (functions_sites p 0 p.funcs))) (omega arith) n e h in
     (f.0, f.1, subst (λ m. Stands (lowered p) m f.0 e (slice_get (entrances p 0 1 p.funcs) (suc n))) (omega arith) f.2)
 
 -- Each instruction is one of a function.

@@ -1,5 +1,5 @@
 -- The flat code of functions, one after another.
-use Rattle.std.proofs.Common.{ℕ, ◌*◌, suc, ◌+◌, ◌≤◌, ◌≡◌, List, [], ◌∷◌, ◌++◌, length, map, refl, ap, sym, ◌∙◌, arith, append_assoc, length-append}
+use Rattle.std.proofs.Common.{ℕ, ◌*◌, suc, ◌+◌, ◌≤◌, ◌≡◌, List, [], ◌∷◌, ◌++◌, length, map, refl, ap, sym, ◌∙◌, arith, append_assoc, length-append, None}
 use Rattle.loom_lang.specs.Limits.{function_limit, statement_limit}
 use Rattle.loom_tree.specs.Tree.{Body, Function, Source}
 use Rattle.loom_lang.specs.Rules.{KeepsRules, locals_of}
@@ -35,7 +35,7 @@ one_code_long p at place f =
 
 sites_long : (p : Source) (at : ℕ) (f : Function) (fs : List Function) → length (functions_sites p at (f ∷ fs)) ≡ 2 + place_count f.body + length (functions_sites p (suc (at + size p (locals_of f) f.body)) fs)
 sites_long p at f fs =
-    let whole = length-append (body_sites p (locals_of f) at f.body) (site f.line 0 ∷ functions_sites p (suc (at + size p (locals_of f) f.body)) fs) in
+    let whole = length-append (body_sites p (locals_of f) at f.body) (site f.line None ∷ functions_sites p (suc (at + size p (locals_of f) f.body)) fs) in
     let many = sites_length p (locals_of f) f.body at in
     omega arith
 
@@ -76,9 +76,9 @@ pub functions_sites_step : (p : Source) (f : Function) (all fs : List Function) 
 functions_sites_step p f all fs code more place sites sites' e h g =
     let at : ℕ = suc (length code + size p (locals_of f) f.body) in
     let body : List Site = body_sites p (locals_of f) (length code) f.body in
-    let flat : (sites ++ site f.line 0 ∷ (body ++ site f.line 0 ∷ [])) ++ functions_sites p at fs ≡ sites ++ site f.line 0 ∷ (body ++ site f.line 0 ∷ functions_sites p at fs) = simp append_assoc in
+    let flat : (sites ++ site f.line None ∷ (body ++ site f.line None ∷ [])) ++ functions_sites p at fs ≡ sites ++ site f.line None ∷ (body ++ site f.line None ∷ functions_sites p at fs) = simp append_assoc in
     ap (λ z. z ++ functions_sites p (length more) fs) g
-    ∙ ap (λ n. (sites ++ site f.line 0 ∷ (body ++ site f.line 0 ∷ [])) ++ functions_sites p n fs) (code_on p f code more place h)
+    ∙ ap (λ n. (sites ++ site f.line None ∷ (body ++ site f.line None ∷ [])) ++ functions_sites p n fs) (code_on p f code more place h)
     ∙ flat
     ∙ ap (λ z. sites ++ functions_sites p (length code) z) (sym e)
 

@@ -19,7 +19,6 @@ pub mod Functions
 pub mod InstructionPlaces
 pub mod Jumps
 mod Locals
-pub mod Lookups
 mod Placement
 pub mod Places
 mod Plain

@@ -1,5 +1,5 @@
 -- Where the functions stand in flat code.
-use Rattle.std.proofs.Common.{ℕ, suc, zero, ◌+◌, ◌≡◌, List, [], ◌∷◌, refl, sym, ap, subst, ◌∙◌, slice_get, length, arith}
+use Rattle.std.proofs.Common.{ℕ, suc, zero, ◌+◌, ◌≡◌, List, [], ◌∷◌, refl, sym, ap, subst, ◌∙◌, slice_get, length, arith, None}
 use Rattle.loom_tree.specs.Tree.{Function, Source}
 use Rattle.loom_lang.specs.Rules.{locals_of, KeepsRules, FunctionsKeepRules}
 use Rattle.loom_flow.specs.declared.code.Step.TheVariants as s
@@ -30,7 +30,7 @@ placed_from c (g ∷ gs) at place l ls code sites zero =
         few = ls.0.locals;
         code = lies_first c.code at (body_code p xs at (suc place) g.body) rest code;
         last = ap (λ n. slice_get c.code (at + n)) (sym (code_length p xs g.body at (suc place))) ∙ last.0;
-        sites = lies_first c.sites (suc place) (body_sites p xs at g.body) (site g.line 0 ∷ functions_sites p (suc (at + size p xs g.body)) gs) sites.1;
+        sites = lies_first c.sites (suc place) (body_sites p xs at g.body) (site g.line None ∷ functions_sites p (suc (at + size p xs g.body)) gs) sites.1;
         known = body_known p xs g.body l ls.0.known;
       },
     )
@@ -43,8 +43,8 @@ placed_from c (g ∷ gs) at place l ls code sites (suc f) =
     let others : List Site = functions_sites p next gs in
     let code_last : Lies c.code (at + length (body_code p xs at (suc place) g.body)) (instr g.line (suc place + place_count g.body) (s.Control Out) ∷ more) =
     lies_second c.code at (body_code p xs at (suc place) g.body) (instr g.line (suc place + place_count g.body) (s.Control Out) ∷ more) code in
-    let sites_last : Lies c.sites (suc place + length (body_sites p xs at g.body)) (site g.line 0 ∷ others) =
-    lies_second c.sites (suc place) (body_sites p xs at g.body) (site g.line 0 ∷ others) sites.1 in
+    let sites_last : Lies c.sites (suc place + length (body_sites p xs at g.body)) (site g.line None ∷ others) =
+    lies_second c.sites (suc place) (body_sites p xs at g.body) (site g.line None ∷ others) sites.1 in
     let code_length_is : length (body_code p xs at (suc place) g.body) ≡ size p xs g.body = code_length p xs g.body at (suc place) in
     let sites_length_is : length (body_sites p xs at g.body) ≡ place_count g.body = sites_length p xs g.body at in
     placed_from c gs next later l ls.1
@@ -52,4 +52,4 @@ placed_from c (g ∷ gs) at place l ls code sites (suc f) =
     (subst (λ n. Lies c.sites n others) (omega arith) sites_last.1) f
 
 pub are_placed : (p : Source) → KeepsRules p → ArePlaced (lowered p)
-are_placed p l = placed_from (lowered p) p.funcs 0 1 l l.functions (lies_whole (functions_code p 0 1 p.funcs)) (lies_behind (site 0 0) (functions_sites p 0 p.funcs) 0 (functions_sites p 0 p.funcs) (lies_whole (functions_sites p 0 p.funcs)))
+are_placed p l = placed_from (lowered p) p.funcs 0 1 l l.functions (lies_whole (functions_code p 0 1 p.funcs)) (lies_behind (site 0 None) (functions_sites p 0 p.funcs) 0 (functions_sites p 0 p.funcs) (lies_whole (functions_sites p 0 p.funcs)))

@@ -1,5 +1,5 @@
 -- The places of flat code are those of its program.
-use Rattle.std.proofs.Common.{ℕ, suc, ◌+◌, ◌*◌, ◌≤◌, ◌≡◌, List, [], ◌∷◌, ◌++◌, length, map, Some, refl, ap, sym, ◌∙◌, arith, length-append, append_assoc}
+use Rattle.std.proofs.Common.{ℕ, suc, ◌+◌, ◌*◌, ◌≤◌, ◌≡◌, List, [], ◌∷◌, ◌++◌, length, map, Some, refl, ap, sym, ◌∙◌, arith, length-append, append_assoc, None}
 use Rattle.loom_lang.specs.Limits.{function_limit, statement_limit}
 use Rattle.std.specs.Prelude.{slice_get, flat_map}
 use Rattle.std.proofs.lemmas.List.{map-append}
@@ -43,10 +43,10 @@ functions_lines p (f ∷ fs) before at n e h =
     let line : f.line ≡ line_of_function (slice_get p.funcs n) = sym (ap line_of_function (ap (λ z. slice_get p.funcs z) h ∙ ap (λ z. slice_get z (length before)) e ∙ get_behind before f fs)) in
     let next : suc n ≡ length (before ++ f ∷ []) = ap suc h ∙ (let is = length-append before (f ∷ []) in omega arith) in
     let more : site_lines rest ≡ place_lines p (places_from (suc n) fs) = functions_lines p fs (before ++ f ∷ []) _ (suc n) (e ∙ sym (append_assoc before (f ∷ []) fs)) next in
-    let out : site_lines (site f.line 0 ∷ rest) ≡ place_lines p (Place.out n ∷ places_from (suc n) fs) = ap (λ z. z ∷ site_lines rest) line ∙ ap (λ z. line_of_function (slice_get p.funcs n) ∷ z) more in
-    ap (λ z. z ∷ site_lines (body_sites p (locals_of f) at f.body ++ site f.line 0 ∷ rest)) line
+    let out : site_lines (site f.line None ∷ rest) ≡ place_lines p (Place.out n ∷ places_from (suc n) fs) = ap (λ z. z ∷ site_lines rest) line ∙ ap (λ z. line_of_function (slice_get p.funcs n) ∷ z) more in
+    ap (λ z. z ∷ site_lines (body_sites p (locals_of f) at f.body ++ site f.line None ∷ rest)) line
     ∙ ap (λ z. line_of_function (slice_get p.funcs n) ∷ z)
-    (joined p (body_sites p (locals_of f) at f.body) (site f.line 0 ∷ rest) (body_places f.body) (Place.out n ∷ places_from (suc n) fs) (body_lines p (locals_of f) f.body at) out)
+    (joined p (body_sites p (locals_of f) at f.body) (site f.line None ∷ rest) (body_places f.body) (Place.out n ∷ places_from (suc n) fs) (body_lines p (locals_of f) f.body at) out)
 
 pub lowered_places : (p : Source) → HasPlaces (lowered p) p
 lowered_places p = ap (λ z. 0 ∷ z) (functions_lines p p.funcs [] 0 0 refl refl)

@@ -12,7 +12,7 @@ use Rattle.loom_flow.specs.declared.code.Step.TheVariants as s
 use Rattle.loom_flow.specs.declared.code.Ask.TheVariants.{Write}
 use Rattle.loom_flow.specs.declared.code.Control.TheVariants.{Begin, Done, Call}
 use Rattle.loom_flow.specs.declared.code.Instr.{Instr}
-use Rattle.loom_flow.specs.Flow.{Flow, resume}
+use Rattle.loom_flow.specs.Flow.{Flow, resume, return_point}
 use Rattle.loom_flow.specs.State.{State, put_at, given, jumped, named, names}
 use Rattle.loom_flow.specs.FlatCode.{or_zero, first_cell, word_named, operand_of, steps_to, operand_steps, argument_steps, store_step, value_steps, instr, instrs}
 use Rattle.loom_flow.proofs.Relations.{Meets, meets_itself, meets_same, meets_on, meets_emit}
@@ -29,7 +29,7 @@ use Rattle.loom_flow.proofs.Statements.{arguments_straight, meets_begin, one_ope
 
 -- behind the result of a call
 abbrev pub resumed : Flow → State → Instr → ℤ → State
-resumed c z i v = record { at = resume (slice_get c.sites i.place); values = v ∷ z.values; func = z.func; locals = z.locals; below = z.below }
+resumed c z i v = record { at = return_point c (resume (slice_get c.sites i.place)); values = v ∷ z.values; func = z.func; locals = z.locals; below = z.below }
 
 -- Calls of the code and calls of the tree meet, in frames with so many below them.
 abbrev pub CallsMeet : Bool → Flow → Thread → (ℕ → State → Lists) → ℕ → ℕ → Calls → Type 1
@@ -45,7 +45,7 @@ pub meets_call : (b : Bool) (c : Flow) (t : Thread) (m : ℕ → State → Lists
     → ((j : ℕ) → Fetches b c t (m j)) → CallsMeet b c t m n (length z.below) calls → names (slice_get c.program.funcs z.func) ≡ xs
     → length xs ≤ length z.locals → IsFunction t.program f → AllKnown t.program xs es → AllStraight rest
     → Lies c.code at (instrs l k (s.Control Begin ∷ (argument_steps t.program xs es ++ s.Control (Call (or_zero (function_number t.program f)) (length es)) ∷ rest)))
-    → resume (slice_get c.sites k) ≡ suc (skip (suc at) (argument_steps t.program xs es))
+    → resume (slice_get c.sites k) ≡ Some (suc (skip (suc at) (argument_steps t.program xs es)))
     → ((j : ℕ) → j ≤ n → (v : ℤ) → Meets b (straight c t l k rest (m j) (jumped (record z { values = v ∷ z.values }) (suc (skip (suc at) (argument_steps t.program xs es))))) (more v))
     → Meets b (m n (jumped z at))
     (emit (begins l (named xs z.locals)) (arguments t l (named xs z.locals) es (λ vs. numbered (function_number t.program f) (λ g. calls l g vs more))))
@@ -69,7 +69,7 @@ meets_call b c t m n l k at xs z calls f es rest more fetches meets names_are h 
     ∙ ap {B = Lists} (λ (g' : ℕ). called c t (m n) (jumped z a) (instr l k x) g' vs) found))
     (meets_on b (called c t (m n) (jumped z a) (instr l k x) function.0 vs) (calls l function.0 vs more) _
     (meets (jumped z a) (instr l k x) function.0 vs more refl (λ j le v.
-    subst (λ d. Meets b (m j (record { at = d; values = v ∷ z.values; func = z.func; locals = z.locals; below = z.below })) (more v)) (sym site)
+    subst (λ d. Meets b (m j (record { at = d; values = v ∷ z.values; func = z.func; locals = z.locals; below = z.below })) (more v)) (sym (ap (return_point c) site))
     (meets_on b (m j (jumped (record z { values = v ∷ z.values }) (suc a))) (straight c t l k rest (m j) (jumped (record z { values = v ∷ z.values }) (suc a))) (more v)
     (meets_straight b c t l k (m j) rest (suc a) (jumped (record z { values = v ∷ z.values }) (suc a)) (fetches j) all behind.1 refl)
     (goes_on j le v))))

@@ -1,5 +1,5 @@
 -- How long flat code is.
-use Rattle.std.proofs.Common.{ℕ, suc, ◌+◌, ◌≡◌, List, [], ◌∷◌, ◌++◌, length, refl, ap, Result, Ok, Err, OnOk, sym, ◌∙◌, subst, append_assoc, arith, length-append}
+use Rattle.std.proofs.Common.{ℕ, suc, ◌+◌, ◌≡◌, List, [], ◌∷◌, ◌++◌, length, refl, ap, Result, Ok, Err, OnOk, sym, ◌∙◌, subst, append_assoc, arith, length-append, Some}
 use Rattle.loom_tree.specs.declared.expression.Expr.{Expr}
 use Rattle.loom_tree.specs.Tree.{expression_of, expressions_of, Body, end, simple, if_, while_, Source}
 use Rattle.loom_lang.specs.Places.{body_places}
@@ -119,12 +119,23 @@ arguments_step p names l place e es rest code more h g =
 
 -- statements from their beginning to their end
 
+statement : (l place : ℕ) (ys zs : List Step) (old a b new : List Instr) → a ≡ old ++ instr l place (s.Control Begin) ∷ [] → b ≡ a ++ instrs l place ys → new ≡ b ++ instrs l place zs → new ≡ old ++ instr l place (s.Control Begin) ∷ instrs l place (ys ++ zs)
+statement l place ys zs old a b new h g k =
+    k ∙ ap (λ w. w ++ instrs l place zs) (g ∙ ap (λ w. w ++ instrs l place ys) h)
+    ∙ append_assoc (old ++ instr l place (s.Control Begin) ∷ []) (instrs l place ys) (instrs l place zs)
+    ∙ append_assoc old (instr l place (s.Control Begin) ∷ []) (instrs l place ys ++ instrs l place zs)
+    ∙ ap (λ w. old ++ instr l place (s.Control Begin) ∷ w) (sym (instrs_append l place ys zs))
+
 pub statement_is : (l place : ℕ) (ys : List Step) (z : Step) (old a b new : List Instr) → a ≡ old ++ instr l place (s.Control Begin) ∷ [] → b ≡ a ++ instrs l place ys → new ≡ b ++ instr l place z ∷ [] → new ≡ old ++ instr l place (s.Control Begin) ∷ instrs l place (ys ++ z ∷ [])
-statement_is l place ys z old a b new h g k =
-    k ∙ ap (λ w. w ++ instr l place z ∷ []) (g ∙ ap (λ w. w ++ instrs l place ys) h)
-    ∙ append_assoc (old ++ instr l place (s.Control Begin) ∷ []) (instrs l place ys) (instr l place z ∷ [])
-    ∙ append_assoc old (instr l place (s.Control Begin) ∷ []) (instrs l place ys ++ instr l place z ∷ [])
-    ∙ ap (λ w. old ++ instr l place (s.Control Begin) ∷ w) (sym (instrs_append l place ys (z ∷ [])))
+statement_is l place ys z old a b new h g k = statement l place ys (z ∷ []) old a b new h g k
+
+pub statement_ends : (l place : ℕ) (ys : List Step) (y z : Step) (old a b new : List Instr) → a ≡ old ++ instr l place (s.Control Begin) ∷ [] → b ≡ a ++ instrs l place ys → new ≡ b ++ instr l place y ∷ instr l place z ∷ [] → new ≡ old ++ instr l place (s.Control Begin) ∷ instrs l place (ys ++ y ∷ z ∷ [])
+statement_ends l place ys y z old a b new h g k = statement l place ys (y ∷ z ∷ []) old a b new h g k
+
+pub cell_is : (l place : ℕ) (xs ys : List Step) (y z : Step) (old a b d new : List Instr) → a ≡ old ++ instr l place (s.Control Begin) ∷ [] → b ≡ a ++ instrs l place xs → d ≡ b ++ instrs l place ys → new ≡ d ++ instr l place y ∷ instr l place z ∷ [] → new ≡ old ++ instr l place (s.Control Begin) ∷ instrs l place (xs ++ (ys ++ y ∷ z ∷ []))
+cell_is l place xs ys y z old a b d new h f g k =
+    let both : d ≡ a ++ instrs l place (xs ++ ys) = g ∙ ap (λ w. w ++ instrs l place ys) f ∙ append_assoc a (instrs l place xs) (instrs l place ys) ∙ ap (λ w. a ++ w) (sym (instrs_append l place xs ys)) in
+    statement l place (xs ++ ys) (y ∷ z ∷ []) old a d new h both k ∙ ap (λ w. old ++ instrs l place (s.Control Begin ∷ w)) (append_assoc xs ys (y ∷ z ∷ []))
 
 -- the number behind these steps, which stand behind the first instruction of a statement
 pub number_behind : (l place : ℕ) (xs : List Step) (old new : List Instr) (n at : ℕ) → n ≡ length new → new ≡ old ++ instrs l place xs → length old ≡ at + 1 → n ≡ at + (1 + length xs)
@@ -134,21 +145,11 @@ number_behind l place xs old new n at h g k =
     let steps = instrs_length l place xs in
     omega arith
 
-pub statement_ends : (l place : ℕ) (ys : List Step) (y z : Step) (old a b d new : List Instr) → a ≡ old ++ instr l place (s.Control Begin) ∷ [] → b ≡ a ++ instrs l place ys → d ≡ b ++ instr l place y ∷ [] → new ≡ d ++ instr l place z ∷ [] → new ≡ old ++ instr l place (s.Control Begin) ∷ instrs l place (ys ++ y ∷ z ∷ [])
-statement_ends l place ys y z old a b d new h g k m =
-    let is : new ≡ old ++ instrs l place (s.Control Begin ∷ ((ys ++ y ∷ []) ++ z ∷ [])) = statement_is l place (ys ++ y ∷ []) z old a d new h (step_is l place ys y a b d g k) m in
-    is ∙ ap (λ w. old ++ instrs l place (s.Control Begin ∷ w)) (append_assoc ys (y ∷ []) (z ∷ []))
-
-pub cell_is : (l place : ℕ) (xs ys : List Step) (y z : Step) (old a b d e new : List Instr) → a ≡ old ++ instr l place (s.Control Begin) ∷ [] → b ≡ a ++ instrs l place xs → d ≡ b ++ instrs l place ys → e ≡ d ++ instr l place y ∷ [] → new ≡ e ++ instr l place z ∷ [] → new ≡ old ++ instr l place (s.Control Begin) ∷ instrs l place (xs ++ (ys ++ y ∷ z ∷ []))
-cell_is l place xs ys y z old a b d e new h f g k m =
-    let both : d ≡ a ++ instrs l place (xs ++ ys) = g ∙ ap (λ w. w ++ instrs l place ys) f ∙ append_assoc a (instrs l place xs) (instrs l place ys) ∙ ap (λ w. a ++ w) (sym (instrs_append l place xs ys)) in
-    statement_ends l place (xs ++ ys) y z old a d e new h both k m ∙ ap (λ w. old ++ instrs l place (s.Control Begin ∷ w)) (append_assoc xs ys (y ∷ z ∷ []))
-
 -- the place of a statement that calls
-pub call_site : (line l place n : ℕ) (x : Step) (xs : List Step) (old now new : List Instr) (before after : List Site) → after ≡ before ++ site line n ∷ [] → n ≡ length new → new ≡ now ++ instrs l place xs → now ≡ old ++ instr l place x ∷ [] → after ≡ before ++ site line (length old + (1 + length xs)) ∷ []
+pub call_site : (line l place n : ℕ) (x : Step) (xs : List Step) (old now new : List Instr) (before after : List Site) → after ≡ before ++ site line (Some n) ∷ [] → n ≡ length new → new ≡ now ++ instrs l place xs → now ≡ old ++ instr l place x ∷ [] → after ≡ before ++ site line (Some (length old + (1 + length xs))) ∷ []
 call_site line l place n x xs old now new before after e h g k =
     let one : length now ≡ length old + 1 = ap length k ∙ length-append old (instr l place x ∷ []) in
-    e ∙ ap (λ z. before ++ site line z ∷ []) (number_behind l place xs now new n (length old) h g one)
+    e ∙ ap (λ z. before ++ site line (Some z) ∷ []) (number_behind l place xs now new n (length old) h g one)
 
 pub length_behind : (l place : ℕ) (xs : List Step) (old new : List Instr) (n : ℕ) → new ≡ old ++ instrs l place xs → n ≡ length new → n ≡ length old + length xs
 length_behind l place xs old new n h g =

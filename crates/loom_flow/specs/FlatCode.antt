@@ -13,6 +13,9 @@ use Rattle.loom_flow.specs.declared.code.Array.{Array}
 use Rattle.loom_flow.specs.declared.code.Step.{Step}
 use Rattle.loom_flow.specs.declared.code.Step.TheVariants as s
 use Rattle.loom_flow.specs.declared.code.Compute.TheVariants.{Move, Negate, Invert, Apply, Discard}
+use Rattle.loom_flow.specs.declared.code.Ask.{Ask}
+use Rattle.loom_flow.specs.declared.statement.Taker.{Taker}
+use Rattle.loom_flow.specs.declared.statement.Taker.TheVariants as taker
 use Rattle.loom_flow.specs.declared.code.Ask.TheVariants.{Read, ReadCell, Write, WriteCell, Lock, Unlock, Down, Up, Join, Print, Spawn}
 use Rattle.loom_flow.specs.declared.code.Control.TheVariants.{Begin, Done, Edge, Jump, JumpIfZero, Call, Return, Out}
 use Rattle.loom_flow.specs.declared.code.Instr.{Instr}
@@ -103,6 +106,11 @@ set_steps p xs x (Right.value e) = value_steps p xs x e (index_of x xs)
 set_steps p xs x (Right.call f es) = call_steps p xs f es ++ store_step p x (index_of x xs) ∷ []
 set_steps p xs x (Right.spawn f es) = spawn_steps p xs f es ++ store_step p x (index_of x xs) ∷ []
 
+-- what takes an operand asks for this
+abbrev pub ask_of : Taker → Operand → Ask
+ask_of taker.Join a = Join a
+ask_of taker.Print a = Print a
+
 -- from the statement's beginning to its completion
 abbrev pub simple_steps : Source → List (List ℕ) → Simple Expression → List Step
 simple_steps p xs (let_ x r) = s.Control Begin ∷ (set_steps p xs x r ++ s.Control Done ∷ [])
@@ -120,12 +128,12 @@ simple_steps p xs (tree.join e) = s.Control Begin ∷ (operand_steps p xs e ++ s
 simple_steps p xs (tree.print e) = s.Control Begin ∷ (operand_steps p xs e ++ s.Ask (Print (operand_of xs e)) ∷ s.Control Done ∷ [])
 simple_steps p xs tree.skip = s.Control Begin ∷ s.Control Done ∷ []
 
--- the number of the instruction behind the call of a statement whose first instruction has this number, or 0
-abbrev pub resume_of : Source → List (List ℕ) → ℕ → Simple Expression → ℕ
-resume_of p xs at (let_ x (Right.call f es)) = at + (1 + length (call_steps p xs f es))
-resume_of p xs at (set x (Right.call f es)) = at + (1 + length (call_steps p xs f es))
-resume_of p xs at (Simple.call f es) = at + (1 + length (call_steps p xs f es))
-resume_of p xs at _ = 0
+-- the number of the instruction behind the call of a statement whose first instruction has this number, if it has one
+abbrev pub resume_of : Source → List (List ℕ) → ℕ → Simple Expression → Option ℕ
+resume_of p xs at (let_ x (Right.call f es)) = Some (at + (1 + length (call_steps p xs f es)))
+resume_of p xs at (set x (Right.call f es)) = Some (at + (1 + length (call_steps p xs f es)))
+resume_of p xs at (Simple.call f es) = Some (at + (1 + length (call_steps p xs f es)))
+resume_of p xs at _ = None
 
 abbrev pub instr : ℕ → ℕ → Step → Instr
 instr line place step = record { line = line; place = place; step = step }
@@ -174,7 +182,7 @@ body_code p xs at place (while_ l e a rest) =
     ∷ instr l place (s.Control Done)
     ∷ body_code p xs (suc done) (suc (suc place) + place_count a) rest)
 
-abbrev pub site : ℕ → ℕ → Site
+abbrev pub site : ℕ → Option ℕ → Site
 site line resume = record { line = line; resume = resume }
 
 -- the places of statements, with the same numbers
@@ -185,11 +193,11 @@ body_sites p xs at (if_ l e a b rest) =
     let first : ℕ = at + (2 + length (operand_steps p xs e)) in
     let second : ℕ = first + (1 + size p xs a) in
     let done : ℕ = second + size p xs b in
-    site l 0 ∷ (body_sites p xs first a ++ (body_sites p xs second b ++ body_sites p xs (suc done) rest))
+    site l None ∷ (body_sites p xs first a ++ (body_sites p xs second b ++ body_sites p xs (suc done) rest))
 body_sites p xs at (while_ l e a rest) =
     let first : ℕ = at + (2 + length (operand_steps p xs e)) in
     let done : ℕ = first + (1 + size p xs a) in
-    site l 0 ∷ site l 0 ∷ (body_sites p xs first a ++ body_sites p xs (suc done) rest)
+    site l None ∷ site l None ∷ (body_sites p xs first a ++ body_sites p xs (suc done) rest)
 
 -- Functions
 
@@ -203,7 +211,7 @@ functions_code p at place (f ∷ fs) =
 abbrev pub functions_sites : Source → ℕ → List Function → List Site
 functions_sites p at [] = []
 functions_sites p at (f ∷ fs) =
-    site f.line 0 ∷ (body_sites p (locals_of f) at f.body ++ site f.line 0 ∷ functions_sites p (suc (at + size p (locals_of f) f.body)) fs)
+    site f.line None ∷ (body_sites p (locals_of f) at f.body ++ site f.line None ∷ functions_sites p (suc (at + size p (locals_of f) f.body)) fs)
 
 abbrev pub entrances : Source → ℕ → ℕ → List Function → List Entrance
 entrances p at place [] = []
@@ -238,7 +246,7 @@ abbrev pub lowered : Source → Flow
 lowered p = record {
   program = p;
   code = functions_code p 0 1 p.funcs;
-  sites = site 0 0 ∷ functions_sites p 0 p.funcs;
+  sites = site 0 None ∷ functions_sites p 0 p.funcs;
   entrances = entrances p 0 1 p.funcs;
   calls = map (λ (f : Function). set_of 0 (calls_body p f.body)) p.funcs;
 }

@@ -77,7 +77,7 @@ abbrev pub LeadsInto : (ℕ → Type 0) → Flow → ℕ → Instr → Step → 
 LeadsInto Q c at i (s.Control (Jump to)) = Q (suc at) × (at < to) × Q to
 LeadsInto Q c at i (s.Control (JumpIfZero a to)) = Q (suc at) × (at < to) × Q to
 LeadsInto Q c at i (s.Control (Edge to)) = Q (suc at) × Q to
-LeadsInto Q c at i (s.Control (Call f n)) = Q (suc at) × HasStart c f × (resume (slice_get c.sites i.place) ≡ suc at)
+LeadsInto Q c at i (s.Control (Call f n)) = Q (suc at) × HasStart c f × (resume (slice_get c.sites i.place) ≡ Some (suc at))
 LeadsInto Q c at i (s.Ask (Spawn f n d)) = Q (suc at) × HasStart c f
 LeadsInto Q c at i (s.Control (Return a)) = Unit {0}
 LeadsInto Q c at i (s.Control Out) = Unit {0}

@@ -14,7 +14,7 @@ use Rattle.loom_flow.specs.declared.code.Step.{Step}
 use Rattle.loom_flow.specs.declared.code.Step.TheVariants as s
 use Rattle.loom_flow.specs.declared.code.Instr.{Instr}
 use Rattle.loom_flow.specs.declared.code.Entrance.{Entrance}
-use Rattle.loom_flow.specs.Flow.{Flow, resume}
+use Rattle.loom_flow.specs.Flow.{Flow, resume, return_point}
 use Rattle.loom_flow.specs.State.{Frame, State, operand, without, given, forward, jumped, arguments, without_arguments, at_start, locals_now}
 use Rattle.loom_flow.specs.Position.{Position, before, leaves, over}
 use Rattle.loom_flow.specs.Question.{Question, read, write, lock, unlock, down, up, spawn, join, print}
@@ -89,7 +89,7 @@ calls c z place f vs (Some e) = enters c f (at_start f e vs z.values ((record { 
 -- in the frame below the one that has ended, with its result on top of the values
 abbrev pub returns : Flow → List ℤ → ℤ → List Frame → Position
 returns c vs v [] = over
-returns c vs v (f ∷ fs) = before (record { at = resume (slice_get c.sites f.site); values = v ∷ vs; func = f.func; locals = f.locals; below = fs })
+returns c vs v (f ∷ fs) = before (record { at = return_point c (resume (slice_get c.sites f.site)); values = v ∷ vs; func = f.func; locals = f.locals; below = fs })
 
 -- a frame too many traps
 abbrev pub of_control : Flow → State → ℕ → ℕ → Control → Progress

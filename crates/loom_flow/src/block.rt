@@ -11,7 +11,7 @@ use crate::code::{Ask, Control, Instr, Operand, Site, Step};
 use crate::expression::{Spot, operand, push};
 use crate::numbers::Scope;
 use crate::statement::{
-    assign, call_alone, give_back, join, next, one_step, print, put_site, set_cell, skip, spot_of,
+    Taker, assign, call_alone, give_back, next, one_step, put_site, set_cell, skip, spot_of, take,
 };
 use loom_tree::expression::Expr;
 use loom_tree::name::NoMemory;
@@ -67,7 +67,7 @@ fn choice(
     ensures code { OnOk result (code.new.items ≡ code.old.items ++ body_code scope.now.program scope.now.locals (length code.old.items) spot.place (if_ spot.line (expression_of e.now) (body_of a.now) (body_of b.now) end)) }
     ensures sites { OnOk result (sites.new.items ≡ sites.old.items ++ body_sites scope.now.program scope.now.locals (length code.old.items) (if_ spot.line (expression_of e.now) (body_of a.now) (body_of b.now) end)) }
 {
-    put_site(sites, spot.line, 0)?;
+    put_site(sites, spot.line, None)?;
     push(code, spot, Step::Control(Control::Begin))?;
     let test = open_test(code, scope, spot, e)?;
     body(code, sites, scope, a)?;
@@ -103,9 +103,9 @@ fn repeat(
     ensures code { OnOk result (code.new.items ≡ code.old.items ++ body_code scope.now.program scope.now.locals (length code.old.items) spot.place (while_ spot.line (expression_of e.now) (body_of a.now) end)) }
     ensures sites { OnOk result (sites.new.items ≡ sites.old.items ++ body_sites scope.now.program scope.now.locals (length code.old.items) (while_ spot.line (expression_of e.now) (body_of a.now) end)) }
 {
-    put_site(sites, spot.line, 0)?;
+    put_site(sites, spot.line, None)?;
     let back = spot_of(sites, spot.line);
-    put_site(sites, spot.line, 0)?;
+    put_site(sites, spot.line, None)?;
     push(code, spot, Step::Control(Control::Begin))?;
     let head = next(code)?;
     let test = open_test(code, scope, spot, e)?;
@@ -172,8 +172,8 @@ fn statement(
         Kind::Unlock(x) => one_step(code, sites, spot, Step::Ask(Ask::Unlock(scope.mutex(x)))),
         Kind::Down(x) => one_step(code, sites, spot, Step::Ask(Ask::Down(scope.sema(x)))),
         Kind::Up(x) => one_step(code, sites, spot, Step::Ask(Ask::Up(scope.sema(x)))),
-        Kind::Join(e) => join(code, sites, scope, spot, e),
-        Kind::Print(e) => print(code, sites, scope, spot, e),
+        Kind::Join(e) => take(code, sites, scope, spot, Taker::Join, e),
+        Kind::Print(e) => take(code, sites, scope, spot, Taker::Print, e),
         Kind::Skip => skip(code, sites, spot),
     }
 }

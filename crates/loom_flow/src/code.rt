@@ -124,8 +124,8 @@ pub struct Instr {
 pub struct Site {
     /// A line of the program; 0 at place 0.
     pub line: u32,
-    /// Where the statement goes on behind its call, or 0 where it has none.
-    pub resume: u32,
+    /// The number of the instruction behind the call of the statement, if it has one.
+    pub resume: Option<u32>,
 }
 
 /// Where a function begins.

@@ -13,7 +13,9 @@ use loom_tree::name::NoMemory;
 /// Where the instructions of a statement stand.
 #[derive(Clone, Copy, Drop)]
 pub struct Spot {
+    /// The line of the statement, from 1.
     pub line: u32,
+    /// The number of its place.
     pub place: u16,
 }
 

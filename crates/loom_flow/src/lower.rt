@@ -46,11 +46,11 @@ fn put_function(
     ensures code { OnOk result (code.new.items ≡ code.old.items ++ functions_code scope.now.program (length code.old.items) (length sites.old.items) (function_of f.now ∷ [])) }
     ensures sites { OnOk result (sites.new.items ≡ sites.old.items ++ functions_sites scope.now.program (length code.old.items) (function_of f.now ∷ [])) }
 {
-    put_site(sites, f.line, 0)?;
+    put_site(sites, f.line, None)?;
     body(code, sites, scope, &f.body)?;
     let out = spot_of(sites, f.line);
     push(code, out, Step::Control(Control::Out))?;
-    put_site(sites, f.line, 0)?;
+    put_site(sites, f.line, None)?;
     Ok(())
 }
 
@@ -96,7 +96,7 @@ fn put_all(alloc: Global, scope: &mut Scope, funcs: &[Func]) -> Result<Parts, No
         entrances: Vec::new(alloc),
         calls: Vec::new(alloc),
     };
-    put_site(&mut parts.sites, 0, 0)?;
+    put_site(&mut parts.sites, 0, None)?;
     'put: for f in funcs {
         put(alloc, &mut parts, scope, f)?;
     }

@@ -1,5 +1,5 @@
 //! The instructions and the place of a statement without a block. An `Err` is want of memory throughout.
-ghost use Rattle.std.specs.Prelude.{ℕ, ◌≡◌, ◌<◌, ◌+◌, ◌||◌, ◌∷◌, ◌++◌, [], Some, true, OnOk, IfOk, length};
+ghost use Rattle.std.specs.Prelude.{ℕ, ◌≡◌, ◌<◌, ◌+◌, ◌||◌, ◌∷◌, ◌++◌, [], None, true, OnOk, IfOk, length};
 ghost use Rattle.loom_tree.specs.Tree.{Simple, expression_of, expressions_of, right_of, returned_of};
 ghost use Rattle.loom_tree.specs.Tree as tree;
 ghost use Rattle.loom_lang.specs.Numbers.{index_of};
@@ -7,7 +7,7 @@ ghost use Rattle.loom_lang.specs.Rules.{is_in, is_word, takes, knows, knows_call
 ghost use Rattle.loom_flow.specs.Arguments.{takes_right};
 ghost use Rattle.loom_flow.specs.declared.code.Step.TheVariants as s;
 ghost use Rattle.loom_flow.specs.declared.code.Control.TheVariants.{Begin, Done};
-ghost use Rattle.loom_flow.specs.FlatCode.{instr, instrs, call_steps, spawn_steps, store_step, value_steps, set_steps, simple_steps, resume_of, site, site_limit};
+ghost use Rattle.loom_flow.specs.FlatCode.{instr, instrs, operand_of, operand_steps, ask_of, call_steps, spawn_steps, store_step, value_steps, set_steps, simple_steps, resume_of, site, site_limit};
 
 use crate::code::{Ask, Compute, Control, Instr, Operand, Site, Step, Target};
 use crate::expression::{Spot, arguments, expression, operand, push};
@@ -38,7 +38,7 @@ pub fn spot_of(sites: &[Site], line: u32) -> Spot
 }
 
 /// One place more.
-pub fn put_site(sites: &mut Vec<Site>, line: u32, resume: u32) -> Result<(), NoMemory>
+pub fn put_site(sites: &mut Vec<Site>, line: u32, resume: Option<u32>) -> Result<(), NoMemory>
     ensures { OnOk result (sites.new.items ≡ sites.old.items ++ site line resume ∷ []) }
 {
     sites.push(Site { line, resume })?;
@@ -53,6 +53,25 @@ fn count(scope: &Scope, f: &Name, es: &Exprs) -> u8
 {
     let _rules = scope.program.funcs();
     es.0.len() as u8
+}
+
+/// The beginning of a statement without a call, and its place.
+fn begin(code: &mut Vec<Instr>, sites: &mut Vec<Site>, spot: Spot) -> Result<(), NoMemory>
+    ensures code { OnOk result (code.new.items ≡ code.old.items ++ instr spot.line spot.place (s.Control Begin) ∷ []) }
+    ensures sites { OnOk result (sites.new.items ≡ sites.old.items ++ site spot.line None ∷ []) }
+{
+    put_site(sites, spot.line, None)?;
+    push(code, spot, Step::Control(Control::Begin))?;
+    Ok(())
+}
+
+/// The last step of a statement, and its completion.
+fn complete(code: &mut Vec<Instr>, spot: Spot, step: Step) -> Result<(), NoMemory>
+    ensures { OnOk result (code.new.items ≡ code.old.items ++ instr spot.line spot.place step ∷ instr spot.line spot.place (s.Control Done) ∷ []) }
+{
+    push(code, spot, step)?;
+    push(code, spot, Step::Control(Control::Done))?;
+    Ok(())
 }
 
 /// A call. The answer is the number of the instruction behind it.
@@ -139,7 +158,7 @@ fn value(
     }
 }
 
-/// What stands at the right of `=` goes into a name. The answer is the number of the instruction behind the call, or 0.
+/// What stands at the right of `=` goes into a name. The answer is the number of the instruction behind the call, if there is one.
 #[tactic(auto, using(crate::proofs::Sizes::step_is))]
 fn set(
     code: &mut Vec<Instr>,
@@ -147,7 +166,7 @@ fn set(
     spot: Spot,
     x: &Name,
     right: &Right,
-) -> Result<u32, NoMemory>
+) -> Result<Option<u32>, NoMemory>
     requires known { knows_right scope.now.program scope.now.locals x.now (right_of right.now) ≡ true }
     requires counted { takes_right scope.now.program (right_of right.now) ≡ true }
     ensures code { OnOk result (code.new.items ≡ code.old.items ++ instrs spot.line spot.place (set_steps scope.now.program scope.now.locals x.now (right_of right.now))) }
@@ -156,17 +175,17 @@ fn set(
     match right {
         Right::Value(e) => {
             value(code, scope, spot, x, e)?;
-            Ok(0)
+            Ok(None)
         }
         Right::Call(f, es) => {
             let resume = call(code, scope, spot, f, es)?;
             store(code, scope, spot, x)?;
-            Ok(resume)
+            Ok(Some(resume))
         }
         Right::Spawn(f, es) => {
             spawn(code, scope, spot, f, es)?;
             store(code, scope, spot, x)?;
-            Ok(0)
+            Ok(None)
         }
     }
 }
@@ -206,18 +225,16 @@ pub fn set_cell(
 ) -> Result<(), NoMemory>
     requires { knows_simple scope.now.program scope.now.locals (tree.set_cell x.now (expression_of i.now) (expression_of e.now)) ≡ true }
     ensures code { OnOk result (code.new.items ≡ code.old.items ++ instrs spot.line spot.place (simple_steps scope.now.program scope.now.locals (tree.set_cell x.now (expression_of i.now) (expression_of e.now)))) }
-    ensures sites { OnOk result (sites.new.items ≡ sites.old.items ++ site spot.line 0 ∷ []) }
+    ensures sites { OnOk result (sites.new.items ≡ sites.old.items ++ site spot.line None ∷ []) }
 {
-    put_site(sites, spot.line, 0)?;
-    push(code, spot, Step::Control(Control::Begin))?;
+    begin(code, sites, spot)?;
     let index = operand(code, scope, spot, i)?;
     let value = operand(code, scope, spot, e)?;
-    push(
+    complete(
         code,
         spot,
         Step::Ask(Ask::WriteCell(scope.array(x), index, value)),
     )?;
-    push(code, spot, Step::Control(Control::Done))?;
     Ok(())
 }
 
@@ -238,9 +255,8 @@ pub fn call_alone(
 {
     push(code, spot, Step::Control(Control::Begin))?;
     let resume = call(code, scope, spot, f, es)?;
-    push(code, spot, Step::Compute(Compute::Discard))?;
-    push(code, spot, Step::Control(Control::Done))?;
-    put_site(sites, spot.line, resume)?;
+    complete(code, spot, Step::Compute(Compute::Discard))?;
+    put_site(sites, spot.line, Some(resume))?;
     Ok(())
 }
 
@@ -255,10 +271,9 @@ pub fn give_back(
 ) -> Result<(), NoMemory>
     requires { knows_returned scope.now.program scope.now.locals (returned_of e.now) ≡ true }
     ensures code { OnOk result (code.new.items ≡ code.old.items ++ instrs spot.line spot.place (simple_steps scope.now.program scope.now.locals (tree.return (returned_of e.now)))) }
-    ensures sites { OnOk result (sites.new.items ≡ sites.old.items ++ site spot.line 0 ∷ []) }
+    ensures sites { OnOk result (sites.new.items ≡ sites.old.items ++ site spot.line None ∷ []) }
 {
-    put_site(sites, spot.line, 0)?;
-    push(code, spot, Step::Control(Control::Begin))?;
+    begin(code, sites, spot)?;
     match e {
         None => {
             push(
@@ -284,64 +299,58 @@ pub fn one_step(
     step: Step,
 ) -> Result<(), NoMemory>
     ensures code { OnOk result (code.new.items ≡ code.old.items ++ instrs spot.line spot.place (s.Control Begin ∷ step ∷ s.Control Done ∷ [])) }
-    ensures sites { OnOk result (sites.new.items ≡ sites.old.items ++ site spot.line 0 ∷ []) }
+    ensures sites { OnOk result (sites.new.items ≡ sites.old.items ++ site spot.line None ∷ []) }
 {
-    put_site(sites, spot.line, 0)?;
-    push(code, spot, Step::Control(Control::Begin))?;
-    push(code, spot, step)?;
-    push(code, spot, Step::Control(Control::Done))?;
+    begin(code, sites, spot)?;
+    complete(code, spot, step)?;
     Ok(())
 }
 
 /// A statement of no step.
 pub fn skip(code: &mut Vec<Instr>, sites: &mut Vec<Site>, spot: Spot) -> Result<(), NoMemory>
     ensures code { OnOk result (code.new.items ≡ code.old.items ++ instrs spot.line spot.place (s.Control Begin ∷ s.Control Done ∷ [])) }
-    ensures sites { OnOk result (sites.new.items ≡ sites.old.items ++ site spot.line 0 ∷ []) }
+    ensures sites { OnOk result (sites.new.items ≡ sites.old.items ++ site spot.line None ∷ []) }
 {
-    put_site(sites, spot.line, 0)?;
-    push(code, spot, Step::Control(Control::Begin))?;
+    begin(code, sites, spot)?;
     push(code, spot, Step::Control(Control::Done))?;
     Ok(())
 }
 
-/// A wait for a thread.
-#[tactic(auto, using(crate::proofs::Sizes::statement_ends))]
-pub fn join(
-    code: &mut Vec<Instr>,
-    sites: &mut Vec<Site>,
-    scope: &Scope,
-    spot: Spot,
-    e: &Expr,
-) -> Result<(), NoMemory>
-    requires { knows scope.now.program scope.now.locals (expression_of e.now) ≡ true }
-    ensures code { OnOk result (code.new.items ≡ code.old.items ++ instrs spot.line spot.place (simple_steps scope.now.program scope.now.locals (tree.join (expression_of e.now)))) }
-    ensures sites { OnOk result (sites.new.items ≡ sites.old.items ++ site spot.line 0 ∷ []) }
-{
-    put_site(sites, spot.line, 0)?;
-    push(code, spot, Step::Control(Control::Begin))?;
-    let thread = operand(code, scope, spot, e)?;
-    push(code, spot, Step::Ask(Ask::Join(thread)))?;
-    push(code, spot, Step::Control(Control::Done))?;
-    Ok(())
+/// What takes the value of an expression.
+#[derive(Clone, Copy, Debug, Drop)]
+pub enum Taker {
+    /// A wait for the thread of that number.
+    Join,
+    /// A print.
+    Print,
 }
 
-/// The value of an expression, printed.
+/// What it asks for, with the operand where the value is.
+fn ask_of(taker: Taker, a: Operand) -> Ask
+    ensures { result ≡ ask_of taker a }
+{
+    match taker {
+        Taker::Join => Ask::Join(a),
+        Taker::Print => Ask::Print(a),
+    }
+}
+
+/// A statement that takes the value of one expression.
 #[tactic(auto, using(crate::proofs::Sizes::statement_ends))]
-pub fn print(
+pub fn take(
     code: &mut Vec<Instr>,
     sites: &mut Vec<Site>,
     scope: &Scope,
     spot: Spot,
+    taker: Taker,
     e: &Expr,
 ) -> Result<(), NoMemory>
     requires { knows scope.now.program scope.now.locals (expression_of e.now) ≡ true }
-    ensures code { OnOk result (code.new.items ≡ code.old.items ++ instrs spot.line spot.place (simple_steps scope.now.program scope.now.locals (tree.print (expression_of e.now)))) }
-    ensures sites { OnOk result (sites.new.items ≡ sites.old.items ++ site spot.line 0 ∷ []) }
+    ensures code { OnOk result (code.new.items ≡ code.old.items ++ instrs spot.line spot.place (s.Control Begin ∷ (operand_steps scope.now.program scope.now.locals (expression_of e.now) ++ s.Ask (ask_of taker (operand_of scope.now.locals (expression_of e.now))) ∷ s.Control Done ∷ []))) }
+    ensures sites { OnOk result (sites.new.items ≡ sites.old.items ++ site spot.line None ∷ []) }
 {
-    put_site(sites, spot.line, 0)?;
-    push(code, spot, Step::Control(Control::Begin))?;
-    let printed = operand(code, scope, spot, e)?;
-    push(code, spot, Step::Ask(Ask::Print(printed)))?;
-    push(code, spot, Step::Control(Control::Done))?;
+    begin(code, sites, spot)?;
+    let a = operand(code, scope, spot, e)?;
+    complete(code, spot, Step::Ask(ask_of(taker, a)))?;
     Ok(())
 }

@@ -99,7 +99,7 @@ fn makes_code(rt: HostRuntime) -> Result<(), Fail> {
     }
     let call = Site {
         line: 8,
-        resume: 14,
+        resume: Some(14),
     };
     assert_eq!(rt; flow.sites().get(8).copied(), Some(call));
     let main = Entrance {

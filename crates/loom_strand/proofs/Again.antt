@@ -5,7 +5,7 @@ use Rattle.loom_lang.specs.Trace as trace
 use Rattle.loom_lang.specs.Trace.{Item, Act, Open, Finished, made, begin, end, trap}
 use Rattle.loom_flow.specs.Flow.{Flow}
 use Rattle.loom_flow.specs.Position.{Position}
-use Rattle.loom_flow.specs.Question.{Question, read, write, lock, unlock, down, up, spawn, join, print}
+use Rattle.loom_flow.specs.Question.{Question, lock, down, join}
 use Rattle.loom_trace.specs.declared.entry.Entry.{Entry}
 use Rattle.loom_trace.specs.declared.entry.Entry.TheVariants as e
 use Rattle.loom_trace.specs.declared.entry.What.{What}

@@ -35,8 +35,8 @@ use Rattle.loom_strand.specs.Reply.{reply_of, still_wanted, IsAsking, CanFollow,
 use Rattle.loom_strand.specs.Life.{is_end}
 use Rattle.loom_strand.specs.Strand.{Strand, IsStarted, IsReplyTo}
 use Rattle.loom_strand.specs.PlainWalk.{IsPlainWalk}
-use Rattle.loom_strand.specs.StrandInvariant.{IsSoundPosition, HasRoom, GoesOnFrom, end_line, thread_with, IsIdle, AsksTick, AsksHere, WaitingInvariant, RunningInvariant, AsksAgain, EndInvariant, StageInvariant, IsBlank, StrandInvariant}
-use Rattle.loom_strand.proofs.Walks.{items_append, is_begin, walk_begin, walk_enter, walk_act, walk_told, walk_tick}
+use Rattle.loom_strand.specs.StrandInvariant.{IsSoundPosition, HasRoom, GoesOnFrom, end_line, thread_with, AsksNothing, AsksTick, AsksHere, WaitingInvariant, RunningInvariant, AsksAgain, EndInvariant, StageInvariant, IsBlank, StrandInvariant}
+use Rattle.loom_strand.proofs.Walks.{items_append, is_begin_act, walk_begin, walk_enter, walk_act, walk_told, walk_tick}
 use Rattle.loom_strand.proofs.GoesOn.{is_lowered, tree_trace, whole, traps_on, IsGrant, IsTrap, answers, granted_on, trapped_on, begun_on}
 use Rattle.loom_strand.proofs.Soundness.{Keeps, keeps, sound_start}
 use Rattle.loom_strand.proofs.Room.{room_at, locals_at}
@@ -64,7 +64,7 @@ with_entries s es wanted limit m st k = record {
 abbrev pub after : Strand → Entry → Option Request → Machine → Stage → ℕ → Strand
 after s x wanted m st k = with_entries s (s.entries ++ x ∷ []) wanted s.limit m st k
 
-idle_now : (n : ℕ) → n < tick_after → IsIdle None [] n
+idle_now : (n : ℕ) → n < tick_after → AsksNothing None [] n
 idle_now n h = (refl, refl, h)
 
 -- Its begin: behind it the entry place of its function is passed.
@@ -123,7 +123,7 @@ acted_running p t b es steps line act x y function goes_with made_so lives sound
 
 -- the walk of a thread that owes nothing, with an act
 act_walk : (p : Source) (t : ℕ) (b : Birth) (es : List Entry) (wanted : Option Request) (n line : ℕ) (act : Act) (z : Position) → (h : RunningInvariant p t b es wanted n z) → h.owed ≡ []
-    → is_begin act ≡ false → IsPlainWalk p t (h.steps ++ walk.goes (made line act) ∷ []) (es ++ entry_by t line act ∷ []) [] 0
+    → is_begin_act act ≡ false → IsPlainWalk p t (h.steps ++ walk.goes (made line act) ∷ []) (es ++ entry_by t line act ∷ []) [] 0
 act_walk p t b es wanted n line act z h owed other = walk_act p t h.steps es n line act other (subst (λ os. IsPlainWalk p t h.steps es os n) owed h.walk)
 
 -- its end
@@ -209,7 +209,7 @@ tick_kept s b line place x m st k wanted g is h owed =
     (ticked_running s.program s.thread b s.entries wanted line place s.execution.passed (position s.execution.machine) h owed))
 
 stopped_kept : (s : Strand) (b : Birth) (line : ℕ) (act : Act) (x : Entry) (m : Machine) (st : Stage) (k : ℕ) (wanted : Option Request) → IsNext s b x m st k → reply_of x ≡ Some a.Traps
-    → x ≡ entry_by s.thread line act → is_begin act ≡ false → is_end x ≡ false
+    → x ≡ entry_by s.thread line act → is_begin_act act ≡ false → is_end x ≡ false
     → (h : RunningInvariant s.program s.thread b s.entries wanted s.execution.passed (position s.execution.machine)) → h.owed ≡ []
     → GoesOnFrom (lowered s.program) (thread_with s.program b.func) b.func b.args (items h.steps ++ made line act ∷ []) over → StrandInvariant (after s x None m st k)
 stopped_kept s b line act x m st k wanted g answer made_so other lives h owed goes_so =
@@ -282,7 +282,7 @@ runs_kept : (s : Strand) (b : Birth) (q : Request) (x : Entry) (m : Machine) (st
     → RunningInvariant s.program s.thread b s.entries (Some q) s.execution.passed (position s.execution.machine) → StrandInvariant (after s x None m st k)
 runs_kept s b q x m st k g answered h = by_owed h.asks
   where
-    by_owed : IsIdle (Some q) h.owed s.execution.passed ⊎ (AsksTick (Some q) h.owed ⊎ AsksHere (lowered s.program) (end_line s.program b.func) (position s.execution.machine) (Some q) h.owed) → StrandInvariant (after s x None m st k)
+    by_owed : AsksNothing (Some q) h.owed s.execution.passed ⊎ (AsksTick (Some q) h.owed ⊎ AsksHere (lowered s.program) (end_line s.program b.func) (position s.execution.machine) (Some q) h.owed) → StrandInvariant (after s x None m st k)
     by_owed (inl y) = absurd (no_request q (sym y.0))
     by_owed (inr (inl (line, place, is, owed))) =
         tick_kept s b line place x m st k (Some q) g (tick_answer s.thread line place q x (same_request (r.Tick line place) q (sym is)) answered) h owed
@@ -328,7 +328,7 @@ again_kept : (s : Strand) (b : Birth) (x : Entry) (m : Machine) (st : Stage) (k 
     → (h : AsksAgain s.program s.thread b s.entries wanted s.execution.passed (position s.execution.machine)) → IsGrantOf s.thread h.request x → StrandInvariant (after s x None m st k)
 again_kept s b x m st k wanted g h granted = by_owed h.runs.asks
   where
-    by_owed : IsIdle (Some h.request) h.runs.owed h.count ⊎ (AsksTick (Some h.request) h.runs.owed ⊎ AsksHere (lowered s.program) (end_line s.program b.func) (position s.execution.machine) (Some h.request) h.runs.owed)
+    by_owed : AsksNothing (Some h.request) h.runs.owed h.count ⊎ (AsksTick (Some h.request) h.runs.owed ⊎ AsksHere (lowered s.program) (end_line s.program b.func) (position s.execution.machine) (Some h.request) h.runs.owed)
         → StrandInvariant (after s x None m st k)
     by_owed (inl y) = absurd (no_request h.request (sym y.0))
     by_owed (inr (inl (line, place, is, owed))) = absurd (subst (λ o. IsBlockedFor s.thread o h.last) (same_request h.request (r.Tick line place) is) h.blocked)
@@ -430,7 +430,7 @@ can_running : (s : Strand) (b : Birth) (q : Request) (x : Entry) (es : List Entr
     → RunningInvariant s.program s.thread b es (Some q) n (position s.execution.machine) → CanFollowAny (lowered s.program) s.execution.machine b (reply_of x)
 can_running s b q x es n l room answered h = by_owed h.asks
   where
-    by_owed : IsIdle (Some q) h.owed n ⊎ (AsksTick (Some q) h.owed ⊎ AsksHere (lowered s.program) (end_line s.program b.func) (position s.execution.machine) (Some q) h.owed)
+    by_owed : AsksNothing (Some q) h.owed n ⊎ (AsksTick (Some q) h.owed ⊎ AsksHere (lowered s.program) (end_line s.program b.func) (position s.execution.machine) (Some q) h.owed)
         → CanFollowAny (lowered s.program) s.execution.machine b (reply_of x)
     by_owed (inl y) = absurd (no_request q (sym y.0))
     by_owed (inr (inl (line, place, is, owed))) = can_as s b x a.Ticks (ap reply_of (tick_answer s.thread line place q x (same_request (r.Tick line place) q (sym is)) answered)) tt

@@ -14,7 +14,7 @@ use Rattle.loom_flow.specs.declared.code.Step.{Step}
 use Rattle.loom_flow.specs.declared.code.Step.TheVariants as s
 use Rattle.loom_flow.specs.declared.code.Instr.{Instr}
 use Rattle.loom_flow.specs.declared.code.Entrance.{Entrance}
-use Rattle.loom_flow.specs.Flow.{Flow, resume}
+use Rattle.loom_flow.specs.Flow.{Flow, resume, return_point}
 use Rattle.loom_flow.specs.State.{Frame, State, operand, without, given, jumped, arguments, without_arguments}
 use Rattle.loom_flow.specs.Position.{Position, before, leaves, over}
 use Rattle.loom_flow.specs.Question.{read, write}
@@ -127,7 +127,7 @@ step_nears c z i (s.Control x) h leads = control_nears c z i x h leads
 
 nears_returns : (c : Flow) (z : State) (v : ℤ) (fs : List Frame) → ahead c (returns c z.values v fs) < length fs * frame_steps c + 1
 nears_returns c z v [] = omega arith
-nears_returns c z v (f ∷ fs) = frame_falls (length fs) (length c.code) z.at (resume (slice_get c.sites f.site))
+nears_returns c z v (f ∷ fs) = frame_falls (length fs) (length c.code) z.at (return_point c (resume (slice_get c.sites f.site)))
 
 nears : (c : Flow) (z : Position) → IsLowered c → IsSoundPosition c z → Nears c (ahead c z) (progress c z)
 nears c (before z) l h =

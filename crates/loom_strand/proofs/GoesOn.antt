@@ -25,7 +25,7 @@ use Rattle.loom_strand.specs.Reply.{reply_of}
 use Rattle.loom_strand.specs.Life.{is_end}
 use Rattle.loom_strand.specs.PositionRequest.{question_request}
 use Rattle.loom_strand.specs.StrandInvariant.{GoesOnFrom, end_line, thread_with}
-use Rattle.loom_strand.proofs.Walks.{is_begin}
+use Rattle.loom_strand.proofs.Walks.{is_begin_act}
 
 pub is_lowered : (p : Source) → KeepsRules p → IsLowered (lowered p)
 is_lowered p l = record { lawful = l; is = refl }
@@ -83,7 +83,7 @@ pub record IsGrant (c : Flow) (p : Source) (f t line : ℕ) (q : Question) (behi
   pub entry : x ≡ entry_by t deed.line deed.act
   pub answer : reply_of x ≡ Some (a.Gives value)
   pub lives : is_end x ≡ false
-  pub other : is_begin deed.act ≡ false
+  pub other : is_begin_act deed.act ≡ false
   pub gives : (es : List Item) (o : Outcome) (n : ℕ) → runs c (thread_with p f) n (behind value) es o
       → question_lists (thread_with p f) line q (λ v. runs c (thread_with p f) n (behind v)) (made deed.line deed.act ∷ es) o
 
@@ -93,13 +93,13 @@ pub record IsTrap (c : Flow) (p : Source) (f t line : ℕ) (q : Question) (behin
   pub entry : x ≡ entry_by t deed.line deed.act
   pub answer : reply_of x ≡ Some a.Traps
   pub lives : is_end x ≡ false
-  pub other : is_begin deed.act ≡ false
+  pub other : is_begin_act deed.act ≡ false
   pub gives : (es : List Item) (o : Outcome) (n : ℕ) → (thread_with p f).stopped es o
       → question_lists (thread_with p f) line q (λ v. runs c (thread_with p f) n (behind v)) (made deed.line deed.act ∷ es) o
 
 -- an entry that gives no value, and a trap
 act_grant : (c : Flow) (p : Source) (f t line : ℕ) (q : Question) (behind : ℤ → Position) (x : Entry) (act : Act) → x ≡ entry_by t line act → reply_of (entry_by t line act) ≡ Some (a.Gives (pos 0))
-    → is_end (entry_by t line act) ≡ false → is_begin act ≡ false
+    → is_end (entry_by t line act) ≡ false → is_begin_act act ≡ false
     → ((es : List Item) (o : Outcome) (n : ℕ) → runs c (thread_with p f) n (behind (pos 0)) es o → question_lists (thread_with p f) line q (λ v. runs c (thread_with p f) n (behind v)) (made line act ∷ es) o)
     → IsGrant c p f t line q behind x ⊎ IsTrap c p f t line q behind x
 act_grant c p f t line q behind x act e answer lives other gives = inl (record {

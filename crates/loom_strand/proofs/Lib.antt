@@ -9,7 +9,6 @@ pub mod Falls
 pub mod Few
 pub mod GoesOn
 pub mod Locals
-pub mod Lone
 pub mod Marks
 pub mod Parts
 pub mod PrivateRuns

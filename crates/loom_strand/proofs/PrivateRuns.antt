@@ -20,7 +20,7 @@ use Rattle.loom_strand.specs.Machine.{Machine, position}
 use Rattle.loom_strand.specs.PositionRequest.{request_at}
 use Rattle.loom_strand.specs.Strand.{Strand}
 use Rattle.loom_strand.specs.PlainWalk.{IsPlainWalk}
-use Rattle.loom_strand.specs.StrandInvariant.{IsSoundPosition, HasRoom, GoesOnFrom, end_line, thread_with, IsIdle, AsksTick, AsksHere, WaitingInvariant, RunningInvariant, StageInvariant, IsBlank, StrandInvariant}
+use Rattle.loom_strand.specs.StrandInvariant.{IsSoundPosition, HasRoom, GoesOnFrom, end_line, thread_with, AsksNothing, AsksTick, AsksHere, WaitingInvariant, RunningInvariant, StageInvariant, IsBlank, StrandInvariant}
 use Rattle.loom_strand.specs.PrivateRun.{HasGone, Stops}
 use Rattle.loom_strand.proofs.Walks.{items_append}
 use Rattle.loom_strand.proofs.RequestLaws.{no_request}
@@ -64,10 +64,10 @@ free_running c s b h = subst (λ o. RunningInvariant s.program s.thread b s.entr
     runs (inl x) = x
     runs (inr x) = absurd (no_request x.request (sym h.wanted ∙ x.asks))
 
-idle : (p : Source) (t n : ℕ) (b : Birth) (es : List Entry) (z : Position) → (h : RunningInvariant p t b es None n z) → IsIdle None h.owed n
+idle : (p : Source) (t n : ℕ) (b : Birth) (es : List Entry) (z : Position) → (h : RunningInvariant p t b es None n z) → AsksNothing None h.owed n
 idle p t n b es z h = by_owed h.asks
   where
-    by_owed : IsIdle None h.owed n ⊎ (AsksTick None h.owed ⊎ AsksHere (lowered p) (end_line p b.func) z None h.owed) → IsIdle None h.owed n
+    by_owed : AsksNothing None h.owed n ⊎ (AsksTick None h.owed ⊎ AsksHere (lowered p) (end_line p b.func) z None h.owed) → AsksNothing None h.owed n
     by_owed (inl x) = x
     by_owed (inr (inl (line, place, is, owed))) = absurd (no_request (r.Tick line place) is)
     by_owed (inr (inr (q, is, at, owed))) = absurd (no_request q is)
@@ -98,7 +98,7 @@ has_function p s b x e h birth is lives = function_at p s b x e (subst (λ y. St
 -- Behind a private run
 
 gone_running : (p : Source) (t : ℕ) (b : Birth) (es : List Entry) (n k : ℕ) (old new : Machine) (wanted : Option Request) (os : Queue) → RunningInvariant p t b es None n (position old)
-    → HasGone (lowered p) old new n k os → IsIdle wanted os k ⊎ (AsksTick wanted os ⊎ AsksHere (lowered p) (end_line p b.func) (position new) wanted os)
+    → HasGone (lowered p) old new n k os → AsksNothing wanted os k ⊎ (AsksTick wanted os ⊎ AsksHere (lowered p) (end_line p b.func) (position new) wanted os)
     → RunningInvariant p t b es wanted k (position new)
 gone_running p t b es n k old new wanted os h g asks = record {
   function = h.function;

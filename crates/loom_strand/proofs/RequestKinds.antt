@@ -2,7 +2,6 @@
 use Rattle.std.proofs.Common.{ℕ, suc, ◌+◌, ◌&&◌, ◌≡◌, ◌≤◌, ◌<◌, Bool, true, false, List, ℤ, pos, negsuc, Option, Some, None, refl, inl, inr, subst, ◌∙◌, nat_lt, if◌then◌else◌}
 use Rattle.std.proofs.Common.{ltb-true, slice_get, length, length-take, take, arith}
 use Rattle.std.proofs.lemmas.List.{length-reverse}
-use Rattle.loom_tree.specs.Tree.{Source}
 use Rattle.loom_lang.specs.Values.{is_zero, applied, divides}
 use Rattle.loom_lang.specs.Trace.{division, index, frames, reason, frame_limit}
 use Rattle.loom_flow.specs.declared.code.Array.{Array}
@@ -18,7 +17,6 @@ use Rattle.loom_flow.specs.State.{State, operand, without, given, jumped, argume
 use Rattle.loom_flow.specs.Position.{Position, before, leaves, over}
 use Rattle.loom_flow.specs.Question.{read, write}
 use Rattle.loom_flow.specs.Progress.{Progress, goes, asks, traps, on, in_array, asks_value, asks_act, calls, of_step, of_instr, progress}
-use Rattle.loom_flow.specs.FlatCode.{lowered}
 use Rattle.loom_flow.specs.Code.{IsLowered}
 use Rattle.loom_flow.specs.Laws.{KeepsDepth, HasProgramNumbers}
 use Rattle.loom_flow.proofs.ProgramNumbers.{lowered_numbers}
@@ -26,10 +24,8 @@ use Rattle.loom_trace.specs.declared.request.Request.{Request}
 use Rattle.loom_trace.specs.declared.request.Request.TheVariants as r
 use Rattle.loom_event.specs.Answer.{HasNumbers}
 use Rattle.loom_strand.specs.PositionRequest.{question_request}
-use Rattle.loom_strand.specs.Alone.{has_one_thread, NeedsNoOther}
 use Rattle.loom_strand.specs.StrandInvariant.{IsBefore, IsSoundPosition}
 use Rattle.loom_strand.proofs.Soundness.{depth_at, instr_at}
-use Rattle.loom_strand.proofs.Lone.{IsLone, lone_code}
 
 -- What is asked for, if anything, is in `P`.
 abbrev pub Asked : (Request → Type 0) → Progress → Type 0
@@ -139,26 +135,3 @@ numbers_at c at i l e = lowered_numbers c.program l.lawful at i (subst (λ (d : 
 pub asks_numbers : (c : Flow) (z : Position) → IsLowered c → IsSoundPosition c z → Asked (HasNumbers c.program) (progress c z)
 asks_numbers c z l h =
     asked_at (HasNumbers c.program) c z h (λ y i e there sound. numbers_asked c y i.line i.step (numbers_at c y.at i l there) (depth_at c y i l there sound))
-
--- Another thread is asked for by a spawn or a join.
-
-no_other : (z : State) (line : ℕ) (x : Step) → IsLone x → Requests NeedsNoOther z line x
-no_other z line (s.Compute (Apply o a b d)) h = tt
-no_other z line (s.Compute _) h = tt
-no_other z line (s.Ask (Read w d)) h = tt
-no_other z line (s.Ask (ReadCell a n d)) h = ((λ k l. tt), tt)
-no_other z line (s.Ask (Write w a)) h = tt
-no_other z line (s.Ask (WriteCell a n b)) h = ((λ k l. tt), tt)
-no_other z line (s.Ask (Lock k)) h = tt
-no_other z line (s.Ask (Unlock k)) h = tt
-no_other z line (s.Ask (Down k)) h = tt
-no_other z line (s.Ask (Up k)) h = tt
-no_other z line (s.Ask (Join a)) h = h
-no_other z line (s.Ask (Print a)) h = tt
-no_other z line (s.Ask (Spawn f n d)) h = h
-no_other z line (s.Control (Call f n)) h = tt
-no_other z line (s.Control _) h = tt
-
--- A program of one thread asks for no other.
-pub asks_no_other : (p : Source) (z : Position) → has_one_thread p ≡ true → IsSoundPosition (lowered p) z → Asked NeedsNoOther (progress (lowered p) z)
-asks_no_other p z alone h = asked_at NeedsNoOther (lowered p) z h (λ y i e there sound. no_other y i.line i.step (lone_code p y.at i alone there))

@@ -10,7 +10,7 @@ use Rattle.loom_flow.specs.FlatCode.{lowered}
 use Rattle.loom_trace.specs.declared.entry.Entry.{Entry}
 use Rattle.loom_trace.specs.declared.request.Request.{Request}
 use Rattle.loom_trace.specs.declared.request.Request.TheVariants as r
-use Rattle.loom_event.specs.Answer.{HasNumbers}
+use Rattle.loom_event.specs.Answer.{asks_begin, HasNumbers}
 use Rattle.loom_law.specs.Walk.{tick, items}
 use Rattle.loom_law.specs.ThreadPart.{IsPart}
 use Rattle.loom_law.specs.TurnLaws.{ends_blocked}
@@ -20,15 +20,14 @@ use Rattle.loom_strand.specs.declared.stage.Stage.TheVariants as stage
 use Rattle.loom_strand.specs.declared.stage.Want.TheVariants as w
 use Rattle.loom_strand.specs.Machine.{position}
 use Rattle.loom_strand.specs.PositionRequest.{question_request, request_at}
-use Rattle.loom_strand.specs.Alone.{has_one_thread, NeedsNoOther}
-use Rattle.loom_strand.specs.Life.{asks_begin, has_none, has_ended, IsLastBlockedFor}
+use Rattle.loom_strand.specs.Life.{has_none, has_ended, IsLastBlockedFor}
 use Rattle.loom_strand.specs.Strand.{Strand, IsStarted, HasOwnPart, AsksNext, Requests, Wants}
 use Rattle.loom_strand.specs.PlainWalk.{IsPlainWalk}
-use Rattle.loom_strand.specs.StrandInvariant.{end_line, thread_with, IsIdle, AsksTick, AsksHere, AsksBegin, WaitingInvariant, RunningInvariant, AsksAgain, EndInvariant, StageInvariant, StrandInvariant}
+use Rattle.loom_strand.specs.StrandInvariant.{end_line, thread_with, AsksNothing, AsksTick, AsksHere, AsksBegin, WaitingInvariant, RunningInvariant, AsksAgain, EndInvariant, StageInvariant, StrandInvariant}
 use Rattle.loom_strand.proofs.GoesOn.{is_lowered, tree_trace, open_so_far, begin_open, none_open}
 use Rattle.loom_strand.proofs.Again.{free_last, blocked_last, blocked_lives, asks_behind, part_behind}
 use Rattle.loom_strand.proofs.Parts.{own_with, plain_part, whole_part, some_more, last_ends, asks_tick, asks_act, question_acts, trap_acts, end_acts, question_next}
-use Rattle.loom_strand.proofs.RequestKinds.{Asked, asks_numbers, asks_no_other}
+use Rattle.loom_strand.proofs.RequestKinds.{Asked, asks_numbers}
 
 -- What comes of the position
 
@@ -36,7 +35,6 @@ record IsAskedHere (p : Source) (t : ℕ) (b : Birth) (es : List Entry) (q : Req
   pub next : AsksNext p (own_with t b.func b.args es) q
   pub numbers : HasNumbers p q
   pub begins : asks_begin q ≡ false
-  pub alone : has_one_thread p ≡ true → NeedsNoOther q
 
 no_begin : (line : ℕ) (q : Question) → asks_begin (question_request line q) ≡ false
 no_begin line (read w) = refl
@@ -65,7 +63,6 @@ asked_here p l t n b es z q h none (asks line x behind) e is =
           (λ plans. asks_act p plans t b.func b.args h.steps es n (question_request line x) h.begun walk (question_acts p l b.func b.args (items h.steps) z line x behind e h.goes));
       numbers = subst (Asked (HasNumbers p)) e (asks_numbers (lowered p) z (is_lowered p l) h.sound);
       begins = no_begin line x;
-      alone = λ a. subst (Asked NeedsNoOther) e (asks_no_other p z a h.sound);
     })
 asked_here p l t n b es z q h none (traps line cause) e is =
     let walk : IsPlainWalk p t h.steps es [] n = subst (λ os. IsPlainWalk p t h.steps es os n) none h.walk in
@@ -73,7 +70,6 @@ asked_here p l t n b es z q h none (traps line cause) e is =
       next = λ plans. asks_act p plans t b.func b.args h.steps es n _ h.begun walk (trap_acts p l b.func b.args (items h.steps) z line cause e h.goes);
       numbers = subst (Asked (HasNumbers p)) e (asks_numbers (lowered p) z (is_lowered p l) h.sound);
       begins = refl;
-      alone = λ a. tt;
     })
 asked_here p l t n b es z q h none ends e is =
     let walk : IsPlainWalk p t h.steps es [] n = subst (λ os. IsPlainWalk p t h.steps es os n) none h.walk in
@@ -81,7 +77,6 @@ asked_here p l t n b es z q h none ends e is =
       next = λ plans. asks_act p plans t b.func b.args h.steps es n (r.End (end_line p b.func)) h.begun walk (end_acts p l b.func b.args (items h.steps) z e h.goes);
       numbers = tt;
       begins = refl;
-      alone = λ a. tt;
     })
 asked_here p l t n b es z q h none nothing e is = absurd (no_request q is)
 
@@ -95,13 +90,12 @@ tick_here p l t n line place b es z q h owed is =
           (tree_trace p l b.func b.args (items h.steps) Open (open_so_far (lowered p) (thread_with p b.func) b.func b.args (items h.steps) z h.goes));
       numbers = tt;
       begins = refl;
-      alone = λ a. tt;
     })
 
 running_here : (p : Source) → KeepsRules p → (t n : ℕ) (b : Birth) (es : List Entry) (z : Position) (q : Request) → RunningInvariant p t b es (Some q) n z → IsAskedHere p t b es q
 running_here p l t n b es z q h = by_owed h.asks
   where
-    by_owed : IsIdle (Some q) h.owed n ⊎ (AsksTick (Some q) h.owed ⊎ AsksHere (lowered p) (end_line p b.func) z (Some q) h.owed) → IsAskedHere p t b es q
+    by_owed : AsksNothing (Some q) h.owed n ⊎ (AsksTick (Some q) h.owed ⊎ AsksHere (lowered p) (end_line p b.func) z (Some q) h.owed) → IsAskedHere p t b es q
     by_owed (inl x) = absurd (no_request q (sym x.0))
     by_owed (inr (inl (line, place, is, owed))) = tick_here p l t n line place b es z q h owed (same_request (r.Tick line place) q (sym is))
     by_owed (inr (inr (x, is, at, owed))) = asked_here p l t n b es z q h owed (progress (lowered p) z) refl (at ∙ sym is)
@@ -109,7 +103,7 @@ running_here p l t n b es z q h = by_owed h.asks
 running_requests : (s : Strand) (b : Birth) (n : ℕ) (z : Position) (q : Request) → KeepsRules s.program → s.wanted ≡ Some q → RunningInvariant s.program s.thread b s.entries (Some q) n z → Requests s b q
 running_requests s b n z q l e h =
     let a : IsAskedHere s.program s.thread b s.entries q = running_here s.program l s.thread n b s.entries z q h in
-    record { wanted = e; next = a.next; numbers = a.numbers; begins = a.begins ∙ sym h.begun; lives = h.lives; blocked = free_last s.thread q s.entries h.free; alone = a.alone }
+    record { wanted = e; next = a.next; numbers = a.numbers; begins = a.begins ∙ sym h.begun; lives = h.lives; blocked = free_last s.thread q s.entries h.free }
 
 -- Where it was told that its request is disabled, it asks for the same again.
 again_requests : (s : Strand) (b : Birth) (n : ℕ) (z : Position) (q : Request) → KeepsRules s.program → s.wanted ≡ Some q → AsksAgain s.program s.thread b s.entries (Some q) n z → Requests s b q
@@ -123,7 +117,6 @@ again_requests s b n z q l e h =
       begins = a.begins ∙ (sym (some_more h.front h.last) ∙ sym (ap has_none h.entries));
       lives = ap has_ended h.entries ∙ (last_ends h.front h.last ∙ blocked_lives s.thread h.request h.last h.blocked);
       blocked = subst (IsLastBlockedFor s.thread h.request) (sym h.entries) (blocked_last s.thread h.request h.front h.last h.blocked);
-      alone = a.alone;
     })
 
 -- Before the begin
@@ -163,7 +156,6 @@ waiting_requests s b q l e h =
       begins = sym (ap has_none h.none);
       lives = ap has_ended h.none;
       blocked = free_last s.thread (r.Begin (end_line s.program b.func)) s.entries (ap ends_blocked h.none);
-      alone = λ a. tt;
     })
 
 -- Threads

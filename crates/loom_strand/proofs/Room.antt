@@ -5,7 +5,7 @@ use Rattle.loom_flow.specs.declared.code.Control.TheVariants.{Begin, Done, Edge,
 use Rattle.loom_flow.specs.declared.code.Step.{Step}
 use Rattle.loom_flow.specs.declared.code.Step.TheVariants as s
 use Rattle.loom_flow.specs.declared.code.Instr.{Instr}
-use Rattle.loom_flow.specs.Flow.{Flow, resume}
+use Rattle.loom_flow.specs.Flow.{Flow}
 use Rattle.loom_flow.specs.State.{Frame}
 use Rattle.loom_flow.specs.Code.{IsLowered}
 use Rattle.loom_flow.specs.Depth.{takes_off, puts_on, depth_before, most_values}
@@ -68,7 +68,7 @@ locals_at c at i l e =
 
 below_fits : (c : Flow) (m : Machine) (fs : List Frame) → m.most_values ≡ most_values c → length m.state.values ≡ 0 → AllGoOn c fs → HasRoomBelow m fs
 below_fits c m [] room empty h = tt
-below_fits c m (f ∷ fs) room empty h = omega (arith, room, empty, fits c (resume (slice_get c.sites f.site)) 1 h.0.inside h.0.values)
+below_fits c m (f ∷ fs) room empty h = omega (arith, room, empty, fits c h.0.call.at 1 h.0.inside h.0.values)
 
 -- There is room for the result of a frame, which leaves no other value.
 pub room_below : (c : Flow) (m : Machine) → HasRoom c m → IsLeaving c m.state → HasRoomBelow m m.state.below

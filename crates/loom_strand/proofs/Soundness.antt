@@ -22,7 +22,7 @@ use Rattle.loom_flow.specs.declared.code.Step.{Step}
 use Rattle.loom_flow.specs.declared.code.Step.TheVariants as s
 use Rattle.loom_flow.specs.declared.code.Instr.{Instr}
 use Rattle.loom_flow.specs.declared.code.Entrance.{Entrance}
-use Rattle.loom_flow.specs.Flow.{Flow, resume}
+use Rattle.loom_flow.specs.Flow.{Flow, resume, return_point}
 use Rattle.loom_flow.specs.State.{Frame, State, operand, values_without, without, values_given, given, jumped, arguments, without_arguments, at_start}
 use Rattle.loom_flow.specs.Position.{Position, before, leaves, over}
 use Rattle.loom_flow.specs.Progress.{Progress, goes, asks, traps, ends, nothing, on, of_compute, in_array, asks_value, asks_act, of_ask, calls, returns, of_control, of_step, of_instr, progress}
@@ -112,7 +112,7 @@ abbrev AreEntered : Flow → Type 0
 AreEntered c = (n : ℕ) (e : Entrance) → slice_get c.entrances n ≡ Some e → depth_before c e.start ≡ Some 0
 
 keeps_calls : (c : Flow) (z : State) (place f : ℕ) (vs ws : List ℤ) (e : Option Entrance) → IsBefore c z → AreEntered c → slice_get c.entrances f ≡ e → HasStart c f
-    → place < length c.sites → resume (slice_get c.sites place) ≡ suc z.at → suc z.at < length c.code → depth_before c (suc z.at) ≡ Some 1
+    → place < length c.sites → resume (slice_get c.sites place) ≡ Some (suc z.at) → suc z.at < length c.code → depth_before c (suc z.at) ≡ Some 1
     → suc (length z.below) ≤ frames_below → length ws ≡ 0 → Keeps c (calls c (record z { values = ws }) place f vs e)
 keeps_calls c z place f vs ws None h starts is start site resumes next one few empty = cc (start.1)
 keeps_calls c z place f vs ws (Some e) h starts is start site resumes next one few empty =
@@ -122,7 +122,7 @@ keeps_calls c z place f vs ws (Some e) h starts is start site resumes next one f
       frames = record {
         few = few;
         go_on = (
-          record { site = site; inside = subst (λ n. n < length c.code) (sym resumes) next; values = ap (depth_before c) resumes ∙ one },
+          record { call = record { within = site; at = suc z.at; resumes = resumes }; inside = next; values = one },
           h.frames.go_on,
         );
       };
@@ -178,11 +178,12 @@ instr_at c z h = (_, slice_get-get_or c.code z.at (instr 0 0 (s.Control Out)) h.
 
 keeps_returns : (c : Flow) (vs : List ℤ) (v : ℤ) (fs : List Frame) → length vs ≡ 0 → length fs ≤ frames_below → AllGoOn c fs → IsSoundPosition c (returns c vs v fs)
 keeps_returns c vs v [] e n h = tt
-keeps_returns c vs v (f ∷ fs) e n h = record {
-  inside = h.0.inside;
-  values = h.0.values ∙ ap {B = Option ℕ} Some (ap suc (sym e));
-  frames = record { few = omega (arith, n); go_on = h.1 };
-}
+keeps_returns c vs v (f ∷ fs) e n h =
+    let at : return_point c (resume (slice_get c.sites f.site)) ≡ h.0.call.at = ap (return_point c) h.0.call.resumes in record {
+      inside = subst (λ n. n < length c.code) (sym at) h.0.inside;
+      values = ap (depth_before c) at ∙ h.0.values ∙ ap {B = Option ℕ} Some (ap suc (sym e));
+      frames = record { few = omega (arith, n); go_on = h.1 };
+    }
 
 pub keeps : (c : Flow) (z : Position) → IsLowered c → IsSoundPosition c z → Keeps c (progress c z)
 keeps c (before z) l h =

@@ -85,17 +85,6 @@ second_at : (xs : List ℤ) → 2 ≤ length xs → top (drop 1 (reverse xs)) �
 second_at xs h =
     second_of (reverse xs) ∙ get_or-reverse xs 1 (pos 0) (omega (arith, h))
 
-first_of_all : (ys : List ℤ) → top ys ≡ get_or ys 0 (pos 0)
-first_of_all [] = refl
-first_of_all (y ∷ ys) = refl
-
-top_at : (xs : List ℤ) → 1 ≤ length xs → top (reverse xs) ≡ get_or xs (length xs - 1) (pos 0)
-top_at xs h = first_of_all (reverse xs) ∙ get_or-reverse xs 0 (pos 0) (omega (arith, h)) ∙ ap (λ i. get_or xs i (pos 0)) (omega arith)
-
-pub top_read : (xs : List ℤ) (n : ℕ) (v : ℤ) → n ≡ length xs → 1 ≤ n → v ≡ get_or xs (n - 1) v → v ≡ top (reverse xs)
-top_read xs n v e h is =
-    is ∙ get_or_default xs (n - 1) v (pos 0) (omega arith) ∙ ap (λ i. get_or xs i (pos 0)) (omega arith) ∙ sym (top_at xs (omega arith))
-
 pub second_read : (xs : List ℤ) (n : ℕ) (v : ℤ) → n ≡ length xs → 2 ≤ n → v ≡ get_or xs (n - 2) v → v ≡ top (drop 1 (reverse xs))
 second_read xs n v e h is =
     is ∙ get_or_default xs (n - 2) v (pos 0) (omega arith) ∙ ap (λ i. get_or xs i (pos 0)) (omega arith) ∙ sym (second_at xs (omega arith))

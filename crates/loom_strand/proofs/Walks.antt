@@ -113,11 +113,11 @@ one_tick p x n h = ap (λ b. if b then (line_of_place p x, tick (place_number p 
 
 -- Entries
 
-abbrev pub is_begin : Act → Bool
-is_begin begin = true
-is_begin _ = false
+abbrev pub is_begin_act : Act → Bool
+is_begin_act begin = true
+is_begin_act _ = false
 
-may_act : (p : Source) (z : Walk) (l : ℕ) (a : Act) (ahead : List Item) → is_begin a ≡ false → z.owed ≡ [] → MayStand p z (goes (made l a)) ahead
+may_act : (p : Source) (z : Walk) (l : ℕ) (a : Act) (ahead : List Item) → is_begin_act a ≡ false → z.owed ≡ [] → MayStand p z (goes (made l a)) ahead
 may_act p z l begin ahead other h = cc
 may_act p z l end ahead other h = h
 may_act p z l (trap c) ahead other h = h
@@ -134,7 +134,7 @@ may_act p z l (print v) ahead other h = h
 entered : (z : Walk) (n : ℕ) → IsPlain [] n z → IsPlain [] 0 (record z { passed = []; is_blocked = false; spot = Rattle.loom_law.specs.Walk.elsewhere })
 entered z n g = record { coming = g.coming; active = g.active; held = g.held; owed = g.owed; passed = refl }
 
-acted : (p : Source) (plans : Plans) (z : Walk) (n l : ℕ) (a : Act) → is_begin a ≡ false → IsPlain [] n z → IsPlain [] 0 (after p plans z (goes (made l a)))
+acted : (p : Source) (plans : Plans) (z : Walk) (n l : ℕ) (a : Act) → is_begin_act a ≡ false → IsPlain [] n z → IsPlain [] 0 (after p plans z (goes (made l a)))
 acted p plans z n l begin other g = cc
 acted p plans z n l end other g = entered z n g
 acted p plans z n l (trap c) other g = record { coming = g.coming; active = g.active; held = g.held; owed = ap (owed_trap plans z.held l) g.active; passed = refl }
@@ -148,7 +148,7 @@ acted p plans z n l (spawn c f vs) other g = entered z n g
 acted p plans z n l (join c) other g = entered z n g
 acted p plans z n l (print v) other g = entered z n g
 
-pub walk_act : (p : Source) (t : ℕ) (ss : List PartStep) (es : List Entry) (n l : ℕ) (a : Act) → is_begin a ≡ false → IsPlainWalk p t ss es [] n
+pub walk_act : (p : Source) (t : ℕ) (ss : List PartStep) (es : List Entry) (n l : ℕ) (a : Act) → is_begin_act a ≡ false → IsPlainWalk p t ss es [] n
     → IsPlainWalk p t (ss ++ goes (made l a) ∷ []) (es ++ entry_by t l a ∷ []) [] 0
 walk_act p t ss es n l a other h =
     walk_more p t ss es (entry_by t l a ∷ []) [] [] n 0 (goes (made l a)) h (λ z g ahead. may_act p z l a ahead other g.owed) (λ plans z g. acted p plans z n l a other g) refl
@@ -160,7 +160,7 @@ walk_tick p t ss es n l k h =
     (λ plans z g. record { coming = g.coming; active = g.active; held = g.held; owed = ap without_first g.owed; passed = refl }) refl
 
 -- an act behind the entry that tells that it is disabled
-pub walk_told : (p : Source) (t : ℕ) (ss : List PartStep) (es : List Entry) (n l : ℕ) (what : What) (a : Act) → is_begin a ≡ false → ends_blocked es ≡ false
+pub walk_told : (p : Source) (t : ℕ) (ss : List PartStep) (es : List Entry) (n l : ℕ) (what : What) (a : Act) → is_begin_act a ≡ false → ends_blocked es ≡ false
     → ((z : Walk) (ahead : List Item) → z.owed ≡ [] → AsksFor z (made l a ∷ ahead) l what) → IsPlainWalk p t ss es [] n
     → IsPlainWalk p t ((ss ++ makes l (blocked what) ∷ []) ++ goes (made l a) ∷ []) ((es ++ e.Blocked t l what ∷ []) ++ entry_by t l a ∷ []) [] 0
 walk_told p t ss es n l what a other free asks h =

@@ -6,7 +6,6 @@ pub mod Operator
 pub mod Reply
 pub mod PlainWalk
 pub mod Life
-pub mod Alone
 pub mod Strand
 pub mod StrandInvariant
 pub mod PrivateRun

@@ -3,15 +3,10 @@ use Rattle.std.specs.Prelude.{ℕ, ◌≡◌, Bool, true, false, List, [], ◌�
 use Rattle.loom_trace.specs.declared.entry.Entry.{Entry}
 use Rattle.loom_trace.specs.declared.entry.Entry.TheVariants as e
 use Rattle.loom_trace.specs.declared.request.Request.{Request}
-use Rattle.loom_trace.specs.declared.request.Request.TheVariants as r
 use Rattle.loom_event.specs.Answer.{IsBlockedFor}
 use Rattle.loom_law.specs.Walk.{Version}
 use Rattle.loom_law.specs.TurnLaws.{is_blocked_entry}
 use Rattle.loom_strand.specs.PlainWalk.{first_version}
-
-abbrev pub asks_begin : Request → Bool
-asks_begin (r.Begin l) = true
-asks_begin _ = false
 
 abbrev pub has_none : List Entry → Bool
 has_none [] = true

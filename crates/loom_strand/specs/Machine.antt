@@ -10,7 +10,7 @@ use Rattle.loom_flow.specs.declared.code.Step.{Step}
 use Rattle.loom_flow.specs.declared.code.Step.TheVariants as s
 use Rattle.loom_flow.specs.declared.code.Instr.{Instr}
 use Rattle.loom_flow.specs.declared.code.Site.{Site}
-use Rattle.loom_flow.specs.Flow.{Flow}
+use Rattle.loom_flow.specs.Flow.{Flow, resume}
 use Rattle.loom_flow.specs.Depth.{takes_off, puts_on}
 use Rattle.loom_flow.specs.Laws.{HasLocals}
 use Rattle.loom_flow.specs.State.{Frame, State, frame_room}
@@ -88,10 +88,16 @@ abbrev pub TakesAnswer : Machine → Machine → ℤ → Progress → Type 0
 TakesAnswer old new v (asks line q behind) = new ≡ with_position old (behind v)
 TakesAnswer old new v _ = Unit {0}
 
--- The frame below, where there is one, waits at one of these places.
-abbrev pub HasFirstSite : List Site → List Frame → Type 0
-HasFirstSite sites [] = Unit {0}
-HasFirstSite sites (f ∷ fs) = f.site < length sites
+-- The statement at this place has a call, and goes on behind it at this instruction.
+pub record HasCall (sites : List Site) (place : ℕ) : Type 0 where
+  pub within : place < length sites
+  pub at : ℕ
+  pub resumes : resume (slice_get sites place) ≡ Some at
+
+-- The frame below, where there is one, waits for a call at one of these places.
+abbrev pub HasFirstCall : List Site → List Frame → Type 0
+HasFirstCall sites [] = Unit {0}
+HasFirstCall sites (f ∷ fs) = HasCall sites f.site
 
 -- The function that is called has an entrance, and few arguments.
 abbrev pub CallsFunction : Flow → Control → Type 0

@@ -7,7 +7,7 @@ use Rattle.loom_flow.specs.Depth.{most_values}
 use Rattle.loom_trace.specs.declared.entry.Entry.{Entry}
 use Rattle.loom_trace.specs.declared.request.Request.{Request}
 use Rattle.loom_trace.specs.declared.request.Request.TheVariants as r
-use Rattle.loom_event.specs.Answer.{IsGrantOf, IsAnswerTo, IsBlockedFor, HasNumbers}
+use Rattle.loom_event.specs.Answer.{asks_begin, IsGrantOf, IsAnswerTo, IsBlockedFor, HasNumbers}
 use Rattle.loom_law.specs.Walk.{Plans, tick, PartStep, items, told, unborn, AreWoven}
 use Rattle.loom_law.specs.ThreadPart.{Own, walk_of, IsPart, AsksToMake, AsksToAct}
 use Rattle.loom_law.specs.TurnLaws.{ends_blocked}
@@ -16,8 +16,7 @@ use Rattle.loom_strand.specs.declared.stage.Stage.{Stage}
 use Rattle.loom_strand.specs.declared.stage.Want.{Want}
 use Rattle.loom_strand.specs.declared.stage.Want.TheVariants as w
 use Rattle.loom_strand.specs.Machine.{Machine, frames_below}
-use Rattle.loom_strand.specs.Alone.{has_one_thread, NeedsNoOther}
-use Rattle.loom_strand.specs.Life.{asks_begin, has_none, has_ended, IsLastBlockedFor, versions_with}
+use Rattle.loom_strand.specs.Life.{has_none, has_ended, IsLastBlockedFor, versions_with}
 
 -- What a thread keeps of its run: how far it is, how many entry and back-edge places it passed since its last entry, and its machine.
 pub record Execution : Type 0 where
@@ -84,8 +83,6 @@ pub record Requests (s : Strand) (b : Birth) (q : Request) : Type 0 where
   pub lives : has_ended s.entries ≡ false
   -- where it was told that a request is disabled, it is this one
   pub blocked : IsLastBlockedFor s.thread q s.entries
-  -- no other thread, where the program makes none
-  pub alone : has_one_thread s.program ≡ true → NeedsNoOther q
 
 -- The entry answers the request, or tells that it is disabled. Where the thread was told so already, the entry grants the request.
 abbrev pub IsReplyTo : Bool → ℕ → Option Request → Entry → Type 0

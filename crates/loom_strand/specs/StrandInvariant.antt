@@ -4,7 +4,7 @@ use Rattle.loom_tree.specs.Tree.{Source}
 use Rattle.loom_lang.specs.Rules.{KeepsRules}
 use Rattle.loom_lang.specs.Places.{line_of_function}
 use Rattle.loom_lang.specs.Trace.{Item, Outcome, Finished, Thread, IsTrace, ended}
-use Rattle.loom_flow.specs.Flow.{Flow, resume}
+use Rattle.loom_flow.specs.Flow.{Flow}
 use Rattle.loom_flow.specs.State.{Frame, State}
 use Rattle.loom_flow.specs.Position.{Position, before, leaves, over}
 use Rattle.loom_flow.specs.Progress.{progress}
@@ -21,7 +21,7 @@ use Rattle.loom_strand.specs.declared.stage.Birth.{Birth}
 use Rattle.loom_strand.specs.declared.stage.Stage.{Stage}
 use Rattle.loom_strand.specs.declared.stage.Stage.TheVariants as stage
 use Rattle.loom_strand.specs.declared.machine.Phase.TheVariants as phase
-use Rattle.loom_strand.specs.Machine.{Machine, position, blank, frames_below}
+use Rattle.loom_strand.specs.Machine.{Machine, HasCall, position, blank, frames_below}
 use Rattle.loom_strand.specs.PositionRequest.{request_at}
 use Rattle.loom_strand.specs.PlainWalk.{IsPlainWalk}
 use Rattle.loom_strand.specs.Life.{has_none, has_ended}
@@ -31,9 +31,9 @@ use Rattle.loom_strand.specs.Strand.{Strand}
 
 -- A frame that waits goes on inside the code, with the one value that it waits for.
 pub record GoesOnIn (c : Flow) (f : Frame) : Type 0 where
-  pub site : f.site < length c.sites
-  pub inside : resume (slice_get c.sites f.site) < length c.code
-  pub values : depth_before c (resume (slice_get c.sites f.site)) ≡ Some 1
+  pub call : HasCall c.sites f.site
+  pub inside : call.at < length c.code
+  pub values : depth_before c call.at ≡ Some 1
 
 abbrev pub AllGoOn : Flow → List Frame → Type 0
 AllGoOn c [] = Unit {0}
@@ -79,8 +79,8 @@ thread_with p f = record { program = p; stopped = ended (end_line p f) }
 -- What is asked for
 
 -- nothing yet: nothing is owed, and no place more was passed than goes without a tick
-abbrev pub IsIdle : Option Request → Queue → ℕ → Type 0
-IsIdle wanted os n = (wanted ≡ None) × (os ≡ []) × (n < tick_after)
+abbrev pub AsksNothing : Option Request → Queue → ℕ → Type 0
+AsksNothing wanted os n = (wanted ≡ None) × (os ≡ []) × (n < tick_after)
 
 -- the tick that is owed
 abbrev pub AsksTick : Option Request → Queue → Type 0
@@ -108,7 +108,7 @@ pub record RunningInvariant (p : Source) (t : ℕ) (b : Birth) (es : List Entry)
   pub walk : IsPlainWalk p t steps es owed n
   pub goes : GoesOnFrom (lowered p) (thread_with p b.func) b.func b.args (items steps) z
   pub sound : IsSoundPosition (lowered p) z
-  pub asks : IsIdle wanted owed n ⊎ (AsksTick wanted owed ⊎ AsksHere (lowered p) (end_line p b.func) z wanted owed)
+  pub asks : AsksNothing wanted owed n ⊎ (AsksTick wanted owed ⊎ AsksHere (lowered p) (end_line p b.func) z wanted owed)
   pub begun : has_none es ≡ false
   pub lives : has_ended es ≡ false
   pub free : ends_blocked es ≡ false

@@ -9,10 +9,10 @@ ghost use Rattle.loom_lang.specs.Limits.{param_limit};
 ghost use Rattle.loom_flow.specs.Depth.{pops, pushes};
 ghost use Rattle.loom_flow.specs.Laws.{HasLocal, HasLocalFor};
 ghost use Rattle.loom_strand.specs.declared.machine.Phase.TheVariants as phase;
-ghost use Rattle.loom_strand.specs.Machine.{HasNext, HasRoomBelow, HasFirstSite, with_state, with_position, blank, frames_below, new_machine, branch_state};
+ghost use Rattle.loom_strand.specs.Machine.{HasNext, HasRoomBelow, HasCall, HasFirstCall, with_state, with_position, blank, frames_below, new_machine, branch_state};
 
-use crate::frame::{Frame, Frames};
-use crate::values::Values;
+use crate::frame::Frame;
+use crate::stack::Stack;
 use loom_flow::code::{Entrance, Operand, Site, Target};
 use loom_lang::limits::LOCAL_LIMIT;
 use loom_trace::row::Args;
@@ -39,10 +39,10 @@ pub(crate) enum Phase {
 pub(crate) struct Machine {
     phase: Phase,
     at: usize,
-    values: Values,
+    values: Stack<i64>,
     func: u8,
     locals: [i64; LOCAL_LIMIT],
-    below: Frames,
+    below: Stack<Frame>,
 }
 
 impl Model for Machine {
@@ -63,8 +63,8 @@ impl Machine {
     pub fn make(alloc: Global, values: usize) -> Result<Machine, NoMemory>
         ensures { IfOk result (λ m. m ≡ new_machine values) }
     {
-        let values = Values::make(alloc, values)?;
-        let below = Frames::make(alloc, FRAMES_BELOW)?;
+        let values = Stack::make(alloc, values)?;
+        let below = Stack::make(alloc, FRAMES_BELOW)?;
         Ok(Machine {
             phase: Phase::Before,
             at: 0,
@@ -147,7 +147,7 @@ impl Machine {
         ensures { self.new ≡ with_state self.old (without self.old.state a) }
     {
         match a {
-            Operand::Top => self.values.drop_top(),
+            Operand::Top => self.values.drop_last(1),
             Operand::Local(_) => {}
             Operand::Number(_) => {}
         }
@@ -322,13 +322,13 @@ impl Machine {
     /// The frame has ended with this result: back into the one below, if there is one.
     pub fn back(&mut self, sites: &[Site], v: i64)
         requires room { HasRoomBelow self.old self.old.state.below }
-        requires site { HasFirstSite sites.now self.old.state.below }
+        requires call { HasFirstCall sites.now self.old.state.below }
         ensures { (c : Flow) → c.sites ≡ sites.now → self.new ≡ with_position self.old (returns c self.old.state.values v self.old.state.below) }
     {
         match self.below.pop() {
             Some(frame) => {
                 self.values.push(v);
-                self.at = sites[frame.site as usize].resume as usize;
+                self.at = return_point(sites, frame.site);
                 self.func = frame.func;
                 let locals = frame.locals;
                 self.locals = locals;
@@ -336,6 +336,17 @@ impl Machine {
             }
             None => self.phase = Phase::Over,
         }
+    }
+}
+
+// The number of the instruction at which a frame goes on that waits at this place.
+fn return_point(sites: &[Site], place: u16) -> usize
+    requires { HasCall sites.now place }
+    ensures { resume (slice_get sites.now place) ≡ Some result }
+{
+    match sites[place as usize].resume {
+        Some(at) => at as usize,
+        None => unreachable!(),
     }
 }
 

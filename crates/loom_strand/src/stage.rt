@@ -6,7 +6,9 @@ use loom_trace::row::Args;
 /// The function of a thread, by its number, and its arguments.
 #[derive(Clone, Copy, Debug, Drop)]
 pub struct Birth {
+    /// The number of the function, from 0.
     pub func: u8,
+    /// The arguments: 4 at most.
     pub args: Args,
 }
 

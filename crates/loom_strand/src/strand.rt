@@ -8,12 +8,12 @@ ghost use Rattle.loom_law.specs.TurnLaws.{is_blocked_entry};
 ghost use Rattle.loom_strand.specs.declared.stage.Stage.TheVariants as stage;
 ghost use Rattle.loom_strand.specs.Strand.{IsNew, IsSame, IsStarted, HasOwnPart, Wants, IsReply};
 
+use crate::args::args_of;
 use crate::machine::Machine;
 use crate::reply::{follow, reply_of, still_wanted};
 use crate::run::run;
 use crate::stage::{Birth, Stage, Want};
 use crate::step_result::Stop;
-use crate::values::args_of;
 use loom_flow::flow::Flow;
 use loom_lang::program::Program;
 use loom_trace::entry::Entry;

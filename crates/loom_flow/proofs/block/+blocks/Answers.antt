@@ -1,4 +1,4 @@
-use Rattle.std.proofs.Common.{suc, ◌≡◌, ◌∷◌, ◌++◌, [], length, rules, ap, ◌∙◌, arith}
+use Rattle.std.proofs.Common.{suc, ◌≡◌, ◌∷◌, ◌++◌, [], length, rules, ap, ◌∙◌, arith, None}
 use Rattle.loom_tree.specs.declared.statement.Stmts.{the_lemmas}
 use Rattle.loom_tree.specs.Tree.{end, body_of, behind, expression_of}
 use Rattle.loom_flow.specs.declared.expression.Spot.{Spot}
@@ -12,7 +12,7 @@ use Rattle.loom_flow.proofs.block.+blocks.Goals as goal
 pub choice-body-requires : goal.choice-body-requires
 choice-body-requires t c =
     let many = if_count c.args.spot.line (expression_of c.args.e.now) (body_of c.args.a.now) (body_of c.args.b.now) end in
-    let sites = pushed c.args.sites.now.items c.put_site.new.sites.items (site c.args.spot.line 0) c.in_ok-put_site.ensures in
+    let sites = pushed c.args.sites.now.items c.put_site.new.sites.items (site c.args.spot.line None) c.in_ok-put_site.ensures in
     let room = c.requires.room in
     (omega arith, (known_then c.args.scope.now.program c.args.scope.now.locals c.args.spot.line (expression_of c.args.e.now) (body_of c.args.a.now) (body_of c.args.b.now) c.requires.known, (counted_then c.args.scope.now.program c.args.scope.now.locals c.args.spot.line (expression_of c.args.e.now) (body_of c.args.a.now) (body_of c.args.b.now) c.requires.counted, omega arith)))
 
@@ -23,7 +23,7 @@ choice-patch-requires t c =
 pub choice-body-requires-2 : goal.choice-body-requires-2
 choice-body-requires-2 t c =
     let many = if_count c.args.spot.line (expression_of c.args.e.now) (body_of c.args.a.now) (body_of c.args.b.now) end in
-    let sites = pushed c.args.sites.now.items c.put_site.new.sites.items (site c.args.spot.line 0) c.in_ok-put_site.ensures in
+    let sites = pushed c.args.sites.now.items c.put_site.new.sites.items (site c.args.spot.line None) c.in_ok-put_site.ensures in
     let more = sites_more c.args.scope.now.program c.args.scope.now.locals (body_of c.args.a.now) _ _ _ c.in_ok-body.ensures.sites in
     let room = c.requires.room in
     (omega arith, (known_else c.args.scope.now.program c.args.scope.now.locals c.args.spot.line (expression_of c.args.e.now) (body_of c.args.a.now) (body_of c.args.b.now) c.requires.known, (counted_else c.args.scope.now.program c.args.scope.now.locals c.args.spot.line (expression_of c.args.e.now) (body_of c.args.a.now) (body_of c.args.b.now) c.requires.counted, omega arith)))
@@ -31,7 +31,7 @@ choice-body-requires-2 t c =
 pub choice-returns-clause-code : goal.choice-returns-clause-code
 choice-returns-clause-code t c =
     let skip : c.len-skip.result ≡ length c.body.new.code.items = search rules in
-    let first = pushed c.args.sites.now.items c.put_site.new.sites.items (site c.args.spot.line 0) c.in_ok-put_site.ensures in
+    let first = pushed c.args.sites.now.items c.put_site.new.sites.items (site c.args.spot.line None) c.in_ok-put_site.ensures in
     let more = sites_more c.args.scope.now.program c.args.scope.now.locals (body_of c.args.a.now) _ _ _ c.in_ok-body.ensures.sites in
     let place = c.requires.place in
     if_code c.args.scope.now.program c.args.scope.now.locals c.args.spot.line c.args.spot.place (expression_of c.args.e.now) (body_of c.args.a.now) (body_of c.args.b.now) _ _ _ _ _ _ _ _ _ _ _ _ _ _ _ _
@@ -48,8 +48,8 @@ choice-returns-clause-sites t c =
 pub repeat-body-requires : goal.repeat-body-requires
 repeat-body-requires t c =
     let many = while_count c.args.spot.line (expression_of c.args.e.now) (body_of c.args.a.now) end in
-    let first = pushed c.args.sites.now.items c.put_site.new.sites.items (site c.args.spot.line 0) c.in_ok-put_site.ensures in
-    let second = pushed c.put_site.new.sites.items c.put_site-2.new.sites.items (site c.args.spot.line 0) c.in_ok-put_site-2.ensures in
+    let first = pushed c.args.sites.now.items c.put_site.new.sites.items (site c.args.spot.line None) c.in_ok-put_site.ensures in
+    let second = pushed c.put_site.new.sites.items c.put_site-2.new.sites.items (site c.args.spot.line None) c.in_ok-put_site-2.ensures in
     let room = c.requires.room in
     (omega arith, (known_again c.args.scope.now.program c.args.scope.now.locals c.args.spot.line (expression_of c.args.e.now) (body_of c.args.a.now) c.requires.known, (counted_again c.args.scope.now.program c.args.scope.now.locals c.args.spot.line (expression_of c.args.e.now) (body_of c.args.a.now) c.requires.counted, omega arith)))
 
@@ -59,8 +59,8 @@ repeat-patch-requires t c =
 
 pub repeat-returns-clause-code : goal.repeat-returns-clause-code
 repeat-returns-clause-code t c =
-    let first = pushed c.args.sites.now.items c.put_site.new.sites.items (site c.args.spot.line 0) c.in_ok-put_site.ensures in
-    let second = pushed c.put_site.new.sites.items c.put_site-2.new.sites.items (site c.args.spot.line 0) c.in_ok-put_site-2.ensures in
+    let first = pushed c.args.sites.now.items c.put_site.new.sites.items (site c.args.spot.line None) c.in_ok-put_site.ensures in
+    let second = pushed c.put_site.new.sites.items c.put_site-2.new.sites.items (site c.args.spot.line None) c.in_ok-put_site-2.ensures in
     let place = c.requires.place in
     let behind : length c.deref.result.now ≡ suc c.args.spot.place = ap length c.deref.ensures.value ∙ omega arith in
     let back : c.spot_of-back.result ≡ record { line = c.args.spot.line; place = suc c.args.spot.place } = c.spot_of-back.ensures ∙ ap (λ n. record { line = c.args.spot.line; place = n }) behind in

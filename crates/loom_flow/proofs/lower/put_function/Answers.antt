@@ -1,4 +1,4 @@
-use Rattle.std.proofs.Common.{suc, ◌+◌, ◌≡◌, ◌∷◌, ◌++◌, [], length, ap, ◌∙◌, arith}
+use Rattle.std.proofs.Common.{suc, ◌+◌, ◌≡◌, ◌∷◌, ◌++◌, [], length, ap, ◌∙◌, arith, None}
 use Rattle.loom_tree.specs.Tree.{body_of, function_of}
 use Rattle.loom_flow.specs.declared.expression.Spot.{Spot}
 use Rattle.loom_flow.specs.declared.code.Step.TheVariants as s
@@ -12,7 +12,7 @@ use Rattle.loom_flow.proofs.lower.put_function.Goals as goal
 
 pub spot_of-out-requires : goal.spot_of-out-requires
 spot_of-out-requires c =
-    let first = pushed c.args.sites.now.items c.put_site.new.sites.items (site c.args.f.now.line 0) c.in_ok-put_site.ensures in
+    let first = pushed c.args.sites.now.items c.put_site.new.sites.items (site c.args.f.now.line None) c.in_ok-put_site.ensures in
     let more = sites_more c.args.scope.now.program c.args.scope.now.locals (body_of c.args.f.now.body) _ _ _ c.in_ok-body.ensures.sites in
     let is = ap length c.deref.ensures.value in
     let room = c.requires.room in
@@ -20,7 +20,7 @@ spot_of-out-requires c =
 
 pub returns-clause-code : goal.returns-clause-code
 returns-clause-code c =
-    let first = pushed c.args.sites.now.items c.put_site.new.sites.items (site c.args.f.now.line 0) c.in_ok-put_site.ensures in
+    let first = pushed c.args.sites.now.items c.put_site.new.sites.items (site c.args.f.now.line None) c.in_ok-put_site.ensures in
     let more = sites_more c.args.scope.now.program c.args.scope.now.locals (body_of c.args.f.now.body) _ _ _ c.in_ok-body.ensures.sites in
     let last : length c.deref.result.now ≡ suc (length c.args.sites.now.items) + place_count (body_of c.args.f.now.body) = ap length c.deref.ensures.value ∙ omega arith in
     function_code c.args.scope.now.program _ _ c.args.f.now.line _ (length c.args.sites.now.items) _ _ (body_of c.args.f.now.body) _ _ _ c.requires.locals c.in_ok-body.ensures.code (omega arith)

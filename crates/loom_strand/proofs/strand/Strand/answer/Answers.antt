@@ -1,7 +1,6 @@
 use Rattle.std.proofs.Common.{◌≡◌, ◌∙◌, Option, Some, None, refl, sym, ap, subst}
 use Rattle.std.specs.Vec.{vec_capacity}
 use Rattle.loom_flow.specs.FlatCode.{lowered}
-use Rattle.loom_trace.specs.declared.request.Request.{Request}
 use Rattle.loom_strand.specs.Strand.{Strand, IsReply}
 use Rattle.loom_strand.specs.StrandInvariant.{StrandInvariant}
 use Rattle.loom_strand.specs.Reply.{reply_of, still_wanted, CanFollow, Follows}

@@ -6,7 +6,7 @@ use Rattle.loom_trace.specs.declared.entry.Entry.{Entry}
 use Rattle.loom_trace.specs.declared.entry.Entry.TheVariants as e
 use Rattle.loom_lang.specs.Trace.{Act, begin, end, trap, read, write, lock, unlock, down, up, spawn, join, print, Item}
 use Rattle.loom_event.specs.Event.{Event, entry_by, entry_of, deeds}
-use Rattle.loom_event.specs.Replay.{ThreadState, Store, start, thread_at, replay, IsUnborn, IsRunning, AreAllowed}
+use Rattle.loom_event.specs.Replay.{ThreadState, Store, start, thread_at, replay, AwaitsBegin, IsRunning, AreAllowed}
 use Rattle.loom_event.specs.Run.{IsTraced, IsThreadTraced}
 
 -- Traces
@@ -51,10 +51,10 @@ one_traced p xs (x ∷ ss) b (suc j) t is h below =
     one_traced p xs ss (suc b) j t (omega arith) h.1 (subst P more below)
 
 -- so did all, where no other made an event
-pub threads_traced : (p : Source) (xs : List Event) → AreTraced p xs 1 (replay (start p) xs).spawned → deeds 0 xs ≡ []
-    → are_below (1 + length (replay (start p) xs).spawned) xs ≡ true → (t : ℕ) → IsThreadTraced p xs t (thread_at (replay (start p) xs) t)
-threads_traced p xs h none below zero = none
-threads_traced p xs h none below (suc t) = one_traced p xs (replay (start p) xs).spawned 1 t (suc t) (omega arith) h below
+pub threads_traced : (p : Source) (most : ℕ) (xs : List Event) → AreTraced p xs 1 (replay (start p most) xs).spawned → deeds 0 xs ≡ []
+    → are_below (1 + length (replay (start p most) xs).spawned) xs ≡ true → (t : ℕ) → IsThreadTraced p xs t (thread_at (replay (start p most) xs) t)
+threads_traced p most xs h none below zero = none
+threads_traced p most xs h none below (suc t) = one_traced p xs (replay (start p most) xs).spawned 1 t (suc t) (omega arith) h below
 
 -- Events that are allowed
 
@@ -73,7 +73,7 @@ does {s = s} {t = t} b m h = ((running (thread_at s t) refl b, m), h)
         record { state = x; is = is; begun = parts.0; not_ended = not-true x.ended parts.1 }
 
 -- the first of a thread, and those behind it
-pub begins : {s : Store} {t : ℕ} {x : ThreadState} {rest : Type 0} → thread_at s t ≡ Some x → x.begun ≡ false → rest → IsUnborn s t × rest
+pub begins : {s : Store} {t : ℕ} {x : ThreadState} {rest : Type 0} → thread_at s t ≡ Some x → x.begun ≡ false → rest → AwaitsBegin s t × rest
 begins {x = x} is b h = (record { state = x; is = is; not_begun = b }, h)
 
 -- what stands behind a front is allowed behind its replay

@@ -102,12 +102,12 @@ adding_traced = record {
   same = refl;
 }
 
-pub adds_run : IsRun adds adds_entries
+pub adds_run : IsRun adds 8 adds_entries
 adds_run = record {
   events = adds_events;
   told = refl;
   run = record {
-    traced = threads_traced adds adds_events (adding_traced, (add_traced, tt)) refl refl;
+    traced = threads_traced adds 8 adds_events (adding_traced, (add_traced, tt)) refl refl;
     allowed =
         begins refl refl (does refl (refl, omega arith) (begins refl refl (does refl refl (does refl refl (does refl tt (does refl tt (does refl tt
         (does refl (record { state = _; is = refl; ended = refl }) (does refl refl (does refl tt (does refl tt tt)))))))))));
@@ -125,10 +125,10 @@ lost_entries =
     e.Begin 1 5 ∷ e.Spawn 1 6 2 0 [] ∷ e.Begin 2 2 ∷ e.Read 1 7 0 (pos 0) ∷ e.Read 2 3 0 (pos 0) ∷ e.Write 1 7 0 (pos 1) ∷ e.End 2 2 ∷ e.Join 1 8 2
     ∷ e.Read 1 9 0 (pos 1) ∷ e.Print 1 9 (pos 1) ∷ e.End 1 5 ∷ []
 
-pub lost_is_no_run : IsRun adds lost_entries → ⊥
+pub lost_is_no_run : IsRun adds 8 lost_entries → ⊥
 lost_is_no_run h =
     let same : h.events ≡ lost_events = events_told h.events lost_events (ap (map event_of) h.told) in
-    let P : List Event → Type 0 = λ xs. IsThreadTraced adds xs 2 (thread_at (replay (start adds) xs) 2) in
+    let P : List Event → Type 0 = λ xs. IsThreadTraced adds xs 2 (thread_at (replay (start adds 8) xs) 2) in
     let lost : IsTraced adds 0 [] (deed 2 begin ∷ deed 3 (read 0 (pos 0)) ∷ deed 2 end ∷ []) = subst P same (h.run.traced 2) in
     let good = add_traced in
     let front : List Deed = deed 2 begin ∷ deed 3 (read 0 (pos 0)) ∷ [] in
@@ -151,11 +151,11 @@ changed_entries =
     e.Begin 1 5 ∷ e.Spawn 1 6 2 0 [] ∷ e.Begin 2 2 ∷ e.Read 1 7 0 (pos 0) ∷ e.Read 2 3 0 (pos 0) ∷ e.Write 1 7 0 (pos 1) ∷ e.Write 2 3 0 (pos 1)
     ∷ e.End 2 2 ∷ e.Join 1 8 2 ∷ e.Read 1 9 0 (pos 7) ∷ e.Print 1 9 (pos 7) ∷ e.End 1 5 ∷ []
 
-pub changed_is_no_run : IsRun adds changed_entries → ⊥
+pub changed_is_no_run : IsRun adds 8 changed_entries → ⊥
 changed_is_no_run h =
     let same : h.events ≡ changed_front ++ changed_rest = events_told h.events (changed_front ++ changed_rest) (ap (map event_of) h.told) in
-    let allowed : AreAllowed (start adds) (changed_front ++ changed_rest) = subst (AreAllowed (start adds)) same h.run.allowed in
-    let behind : AreAllowed (replay (start adds) changed_front) changed_rest = allowed_behind (start adds) changed_front changed_rest allowed in
+    let allowed : AreAllowed (start adds 8) (changed_front ++ changed_rest) = subst (AreAllowed (start adds 8)) same h.run.allowed in
+    let behind : AreAllowed (replay (start adds 8) changed_front) changed_rest = allowed_behind (start adds 8) changed_front changed_rest allowed in
     let word : Some (pos 1) ≡ Some (pos 7) = behind.0.1 in
     cc
 
@@ -203,12 +203,12 @@ calling_traced = record {
   same = refl;
 }
 
-pub calls_run : IsRun calls calls_entries
+pub calls_run : IsRun calls 8 calls_entries
 calls_run = record {
   events = calls_events;
   told = refl;
   run = record {
-    traced = threads_traced calls calls_events (calling_traced, tt) refl refl;
+    traced = threads_traced calls 8 calls_events (calling_traced, tt) refl refl;
     allowed =
         begins refl refl (does refl refl (does refl tt (does refl refl (does refl tt (does refl refl (does refl tt (does refl refl (does refl tt
         (does refl refl (does refl tt (does refl refl (does refl tt (does refl refl (does refl tt (does refl tt tt)))))))))))))));
@@ -295,12 +295,12 @@ spawning_traced = record {
   same = refl;
 }
 
-pub spawns_run : IsRun spawns spawns_entries
+pub spawns_run : IsRun spawns 8 spawns_entries
 spawns_run = record {
   events = spawns_events;
   told = refl;
   run = record {
-    traced = threads_traced spawns spawns_events (spawning_traced, (w_traced, (w_traced, (w_traced, (w_traced, (w_traced, (w_traced, (w_traced, tt)))))))) refl refl;
+    traced = threads_traced spawns 8 spawns_events (spawning_traced, (w_traced, (w_traced, (w_traced, (w_traced, (w_traced, (w_traced, (w_traced, tt)))))))) refl refl;
     allowed =
         begins refl refl (does refl (refl, omega arith) (begins refl refl (does refl (refl, omega arith) (does refl tt (begins refl refl
         (does refl (refl, omega arith) (does refl tt (begins refl refl (does refl (refl, omega arith) (does refl tt (begins refl refl
@@ -347,12 +347,12 @@ raising_traced = record {
   same = refl;
 }
 
-pub full_run : IsRun full full_entries
+pub full_run : IsRun full 8 full_entries
 full_run = record {
   events = full_events;
   told = refl;
   run = record {
-    traced = threads_traced full full_events (raising_traced, tt) refl refl;
+    traced = threads_traced full 8 full_events (raising_traced, tt) refl refl;
     allowed =
         begins refl refl (does refl refl (does refl tt tt));
   };
@@ -398,12 +398,12 @@ locking_traced = record {
   same = refl;
 }
 
-pub locks_run : IsRun locks locks_entries
+pub locks_run : IsRun locks 8 locks_entries
 locks_run = record {
   events = locks_events;
   told = refl;
   run = record {
-    traced = threads_traced locks locks_events (locking_traced, tt) refl refl;
+    traced = threads_traced locks 8 locks_events (locking_traced, tt) refl refl;
     allowed =
         begins refl refl (does refl refl tt);
   };

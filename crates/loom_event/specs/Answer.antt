@@ -1,5 +1,5 @@
 -- What answers a thread's request, and the numbers that a request may have.
-use Rattle.std.specs.Prelude.{ℕ, ◌==◌, ◌≡◌, ◌<◌, ◌⊎◌, length, List, ℤ, pos, negsuc, Option, Some, None, slice_get, if◌then◌else◌}
+use Rattle.std.specs.Prelude.{ℕ, ◌==◌, ◌≡◌, ◌<◌, ◌⊎◌, Bool, true, false, length, List, ℤ, pos, negsuc, Option, Some, None, slice_get, if◌then◌else◌}
 use Rattle.loom_tree.specs.Tree.{Function, Source}
 use Rattle.loom_lang.specs.Rules.{cell_count}
 use Rattle.loom_lang.specs.Trace.{Cause, division, index, not_held, not_spawned, threads, frames, overflow, Act, begin, end, trap, read, write, lock, unlock, down, up, spawn, join, print}
@@ -11,6 +11,10 @@ use Rattle.loom_trace.specs.declared.entry.What.TheVariants as what
 use Rattle.loom_trace.specs.declared.request.Request.{Request}
 use Rattle.loom_trace.specs.declared.request.Request.TheVariants as r
 use Rattle.loom_event.specs.Event.{entry_by}
+
+abbrev pub asks_begin : Request → Bool
+asks_begin (r.Begin l) = true
+asks_begin _ = false
 
 abbrev pub deed : ℕ → Act → Option Deed
 deed line a = Some (record { line = line; act = a })

@@ -5,7 +5,6 @@ use Rattle.loom_tree.specs.declared.item.Sema.{Sema}
 use Rattle.loom_tree.specs.Tree.{Source}
 use Rattle.loom_trace.specs.declared.entry.What.{What}
 use Rattle.loom_trace.specs.declared.entry.What.TheVariants as w
-use Rattle.loom_trace.specs.Limits.{thread_limit}
 use Rattle.loom_syntax.specs.File.{sema_limit}
 use Rattle.loom_lang.specs.Numbers.{function_number}
 use Rattle.loom_lang.specs.Trace.{Cause, division, index, not_held, not_spawned, threads, frames, overflow, Act, begin, end, trap, read, write, lock, unlock, down, up, spawn, join, print}
@@ -25,6 +24,8 @@ pub record Store : Type 0 where
   pub semas : List ℕ
   -- those that were spawned: thread t is the t-th
   pub spawned : List ThreadState
+  -- how many threads there may be
+  pub most : ℕ
 
 -- the values of a word's cells before the run
 abbrev pub first_values : Option ℕ → ℤ → List ℤ
@@ -34,20 +35,23 @@ first_values (Some n) v = replicate n v
 abbrev pub new_thread : ℕ → List ℤ → ThreadState
 new_thread f vs = record { func = f; args = vs; begun = false; ended = false }
 
-abbrev pub main_thread : Option ℕ → List ThreadState
-main_thread None = []
-main_thread (Some f) = new_thread f [] ∷ []
+-- thread 1, which runs this function, where there may be a thread
+abbrev pub main_thread : ℕ → Option ℕ → List ThreadState
+main_thread most None = []
+main_thread zero (Some f) = []
+main_thread (suc n) (Some f) = new_thread f [] ∷ []
 
 abbrev pub nobody : List ℕ → Option ℕ
 nobody m = None
 
--- before the run thread 1 is spawned, with `main`
-abbrev pub start : Source → Store
-start p = record {
+-- Before the run thread 1 is spawned, with `main`. There may be `most` threads, this one among them.
+abbrev pub start : Source → ℕ → Store
+start p most = record {
   words = flat_map (λ (x : Word). first_values x.cells x.first) p.words;
   holders = map nobody p.mutexes;
   semas = map (λ (x : Sema). x.first) p.semas;
-  spawned = main_thread (function_number p (codes "main"));
+  spawned = main_thread most (function_number p (codes "main"));
+  most = most;
 }
 
 -- the thread of a number, from 1
@@ -61,7 +65,7 @@ pub record IsRunning (s : Store) (t : ℕ) : Type 0 where
   pub begun : state.begun ≡ true
   pub not_ended : state.ended ≡ false
 
-pub record IsUnborn (s : Store) (t : ℕ) : Type 0 where
+pub record AwaitsBegin (s : Store) (t : ℕ) : Type 0 where
   pub state : ThreadState
   pub is : thread_at s t ≡ Some state
   pub not_begun : state.begun ≡ false
@@ -78,7 +82,7 @@ IsCaused s t index = Unit {0}
 IsCaused s t frames = Unit {0}
 IsCaused s t (not_held m) = slice_get s.holders m ≢ Some (Some t)
 IsCaused s t (not_spawned v) = (c : ℕ) → v ≡ pos c → thread_at s c ≡ None
-IsCaused s t threads = thread_limit ≤ length s.spawned
+IsCaused s t threads = s.most ≤ length s.spawned
 IsCaused s t (overflow k) = slice_get s.semas k ≡ Some sema_limit
 
 -- what a thread that runs may do
@@ -92,13 +96,13 @@ MayDo s t (lock m) = slice_get s.holders m ≡ Some None
 MayDo s t (unlock m) = slice_get s.holders m ≡ Some (Some t)
 MayDo s t (down k) = (n : ℕ) × (slice_get s.semas k ≡ Some (suc n))
 MayDo s t (up k) = (n : ℕ) × (slice_get s.semas k ≡ Some n) × (n < sema_limit)
-MayDo s t (spawn c f vs) = (c ≡ length s.spawned + 1) × (c ≤ thread_limit)
+MayDo s t (spawn c f vs) = (c ≡ length s.spawned + 1) × (c ≤ s.most)
 MayDo s t (join c) = HasEnded s c
 MayDo s t (print v) = Unit {0}
 
 -- an event is allowed: a thread begins once, and does the rest between its begin and its end
 abbrev pub IsAllowedAct : Store → ℕ → Act → Type 0
-IsAllowedAct s t begin = IsUnborn s t
+IsAllowedAct s t begin = AwaitsBegin s t
 IsAllowedAct s t a = IsRunning s t × MayDo s t a
 
 abbrev pub IsAllowed : Store → Event → Type 0

@@ -19,13 +19,13 @@ abbrev pub IsThreadTraced : Source → List Event → ℕ → Option ThreadState
 IsThreadTraced p xs t None = deeds t xs ≡ []
 IsThreadTraced p xs t (Some x) = IsTraced p x.func x.args (deeds t xs)
 
--- Each thread does what a trace of its function has, and each event is allowed by those before it.
-pub record AreRun (p : Source) (xs : List Event) : Type 0 where
-  pub traced : (t : ℕ) → IsThreadTraced p xs t (thread_at (replay (start p) xs) t)
-  pub allowed : AreAllowed (start p) xs
+-- Each thread does what a trace of its function has, and each event is allowed by those before it. There may be `most` threads.
+pub record AreRun (p : Source) (most : ℕ) (xs : List Event) : Type 0 where
+  pub traced : (t : ℕ) → IsThreadTraced p xs t (thread_at (replay (start p most) xs) t)
+  pub allowed : AreAllowed (start p most) xs
 
--- the entries are a run of the program
-pub record IsRun (p : Source) (es : List Entry) : Type 0 where
+-- the entries are a run of the program with so many threads at most
+pub record IsRun (p : Source) (most : ℕ) (es : List Entry) : Type 0 where
   pub events : List Event
   pub told : map entry_of events ≡ es
-  pub run : AreRun p events
+  pub run : AreRun p most events

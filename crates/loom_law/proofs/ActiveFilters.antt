@@ -1,6 +1,5 @@
 -- What a thread owes is of filters of its version; where it owes no `Cross` these are installed.
 use Rattle.loom_event.specs.Replay.{ThreadState}
-use Rattle.loom_trace.specs.Limits.{thread_limit}
 use Rattle.loom_trace.specs.declared.entry.Entry.{Entry}
 use Rattle.loom_law.proofs.Strict.{IsStrict}
 use Rattle.std.proofs.Common.{ℕ, suc, ◌≡◌, ◌==◌, true, not, ◌&&◌, List, [], ◌∷◌, ◌++◌, length, Option, Some, refl, sym, ap, subst, ◌∙◌, if◌then◌else◌, arith, ◌<◌}
@@ -204,7 +203,7 @@ pub owed_active : HasOwedActive
 owed_active p plans x h l o k owes f =
     owes_in _ _ l o k (walk_named p plans (unborn x.versions) h.steps h.ahead h.woven tt) owes f
 
-pub owed_installed : (s : Setting) (front rest : List Entry) → IsStrict s (front ++ rest) → (i : ℕ) → i < thread_limit → (x : ThreadState)
+pub owed_installed : (s : Setting) (front rest : List Entry) → IsStrict s (front ++ rest) → (i : ℕ) → i < s.threads → (x : ThreadState)
     (h : IsPart s.program (plans s) (own s front (suc i) x)) (y : Entry) (ys : List Entry) → entries_of (suc i) front ≡ y ∷ ys → listed_places (suc i) front ≡ []
     → (l : ℕ) (o : Operation) (k : ℕ) → Owes (walk_of s.program (plans s) (own s front (suc i) x) h.steps).owed l o → filter_of o ≡ Some k
     → is_installed (control s.commands front) k ≡ true

@@ -424,27 +424,27 @@ entry_in t (y ∷ es) us x vs h =
 
 -- what stood spawned is spawned
 still_there : (s : Setting) (es : List Entry) (h : IsLawful s es) (front : List Entry) (c : ℕ) (y : ThreadState)
-    → thread_at (replay (start s.program) (take (length (targets front)) h.events)) c ≡ Some y → thread_at (replay (start s.program) h.events) c ≡ None → ⊥
+    → thread_at (replay (start s.program s.threads) (take (length (targets front)) h.events)) c ≡ Some y → thread_at (replay (start s.program s.threads) h.events) c ≡ None → ⊥
 still_there s es h front c y there none =
     let p : Source = s.program in
     let n : ℕ = length (targets front) in
-    let o : Option ThreadState = thread_at (replay (start p) h.events) c in
-    let kept : IsOf (thread_at (replay (start p) (take n h.events)) c) (thread_at (replay (start p) (take n h.events ++ drop n h.events)) c) =
-    stays p (take n h.events) (drop n h.events) c in
-    let whole : IsOf (thread_at (replay (start p) (take n h.events)) c) o =
-    subst (λ xs. IsOf (thread_at (replay (start p) (take n h.events)) c) (thread_at (replay (start p) xs) c)) (take-append-drop n h.events) kept in
+    let o : Option ThreadState = thread_at (replay (start p s.threads) h.events) c in
+    let kept : IsOf (thread_at (replay (start p s.threads) (take n h.events)) c) (thread_at (replay (start p s.threads) (take n h.events ++ drop n h.events)) c) =
+    stays p s.threads (take n h.events) (drop n h.events) c in
+    let whole : IsOf (thread_at (replay (start p s.threads) (take n h.events)) c) o =
+    subst (λ xs. IsOf (thread_at (replay (start p s.threads) (take n h.events)) c) (thread_at (replay (start p s.threads) xs) c)) (take-append-drop n h.events) kept in
     subst (IsOf (Some y)) none (subst (λ u. IsOf u o) there whole)
 
 free_steps : (s : Setting) (es : List Entry) (h : IsLawful s es) (t : ℕ) (d : Deed) (steps : List PartStep) → told t steps ≡ entries_of t es
-    → IsAllowed (replay (start s.program) h.events) (event_of_deed t d) → IsFree steps d.act
+    → IsAllowed (replay (start s.program s.threads) h.events) (event_of_deed t d) → IsFree steps d.act
 free_steps s es h t d steps tells ok before l c behind is trapped =
     let x : Entry = e.Blocked t l (w.Join c) in
     let whole : entries_of t es ≡ told t before ++ x ∷ told t behind =
     sym tells ∙ (ap (told t) is ∙ told_append t before (makes l (blocked (w.Join c)) ∷ behind)) in
     let found = entry_in t es (told t before) x (told t behind) whole in
     let stood : MayFollow s (front_of s found.0 (take (length (targets found.0)) h.events)) x found.1.0 = h.follows found.0 x found.1.0 found.1.1 in
-    let caused : IsAllowed (replay (start s.program) h.events) (event_of_deed t (record { line = d.line; act = trap (not_spawned (pos c)) })) =
-    subst (λ a. IsAllowed (replay (start s.program) h.events) (event_of_deed t (record { line = d.line; act = a }))) trapped ok in
+    let caused : IsAllowed (replay (start s.program s.threads) h.events) (event_of_deed t (record { line = d.line; act = trap (not_spawned (pos c)) })) =
+    subst (λ a. IsAllowed (replay (start s.program s.threads) h.events) (event_of_deed t (record { line = d.line; act = a }))) trapped ok in
     still_there s es h found.0 c stood.1.0 stood.1.1 (caused.1 c refl)
 
 -- The turn

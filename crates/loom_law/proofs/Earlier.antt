@@ -12,7 +12,7 @@ use Rattle.loom_lang.specs.Acts.{Deed, acts}
 use Rattle.loom_lang.proofs.Broken.{broken_trace, trace_begins}
 use Rattle.loom_event.specs.Event.{Event, entry_by, entry_of, is_target, targets, deeds}
 use Rattle.loom_event.specs.Entries.{thread_of, is_thread}
-use Rattle.loom_event.specs.Replay.{ThreadState, Store, start, thread_at, IsUnborn, IsRunning, IsAllowedAct, with_thread, after_act, replay, AreAllowed}
+use Rattle.loom_event.specs.Replay.{ThreadState, Store, start, thread_at, AwaitsBegin, IsRunning, IsAllowedAct, with_thread, after_act, replay, AreAllowed}
 use Rattle.loom_event.specs.Replay as law
 use Rattle.loom_event.specs.Run.{IsTraced, IsThreadTraced, AreRun}
 use Rattle.loom_law.specs.Walk.{Version, Plans, Operation, wait, enters, at, past, post, leave, back, tick, cross, blocked, PartStep, goes, makes, items, told, entry_of_operation, Queue, Walk, unborn, behind_entry, crossing, after, walk_from, place_of_item, place_of_next, Acts, AsksFor, MayCross, MayBlock, MayStand, AreWoven}
@@ -143,7 +143,7 @@ replay_append s (x ∷ xs) ys = replay_append (law.after_event s x) xs ys
 running_there : (s : Store) (t : ℕ) → IsRunning s t → (y : ThreadState) × (thread_at s t ≡ Some y)
 running_there s t r = (r.state, r.is)
 
-unborn_there : (s : Store) (t : ℕ) → IsUnborn s t → (y : ThreadState) × (thread_at s t ≡ Some y)
+unborn_there : (s : Store) (t : ℕ) → AwaitsBegin s t → (y : ThreadState) × (thread_at s t ≡ Some y)
 unborn_there s t r = (r.state, r.is)
 
 pub allowed_there : (s : Store) (t : ℕ) (a : Act) → IsAllowedAct s t a → (y : ThreadState) × (thread_at s t ≡ Some y)
@@ -236,15 +236,15 @@ thread_front p xs ys t (Some x) (Some y) is none h =
     let front : IsTraced p y.func y.args (deeds t xs) = traced_front p y.func y.args (deeds t xs) (deeds t ys) all in
     subst (λ f. IsTraced p f x.args (deeds t xs)) (sym is.0) (subst (λ vs. IsTraced p y.func vs (deeds t xs)) (sym is.1) front)
 
-pub stays : (p : Source) (xs ys : List Event) (t : ℕ) → IsOf (thread_at (replay (start p) xs) t) (thread_at (replay (start p) (xs ++ ys)) t)
-stays p xs ys t = subst (λ s. IsOf (thread_at (replay (start p) xs) t) (thread_at s t)) (sym (replay_append (start p) xs ys)) (replay_keeps (replay (start p) xs) ys t)
+pub stays : (p : Source) (most : ℕ) (xs ys : List Event) (t : ℕ) → IsOf (thread_at (replay (start p most) xs) t) (thread_at (replay (start p most) (xs ++ ys)) t)
+stays p most xs ys t = subst (λ s. IsOf (thread_at (replay (start p most) xs) t) (thread_at s t)) (sym (replay_append (start p most) xs ys)) (replay_keeps (replay (start p most) xs) ys t)
 
-pub run_front : (p : Source) (xs ys : List Event) → AreRun p (xs ++ ys) → AreRun p xs
-run_front p xs ys h =
-    let ok : AreAllowed (start p) xs = allowed_front (start p) xs ys h.allowed in
+pub run_front : (p : Source) (most : ℕ) (xs ys : List Event) → AreRun p most (xs ++ ys) → AreRun p most xs
+run_front p most xs ys h =
+    let ok : AreAllowed (start p most) xs = allowed_front (start p most) xs ys h.allowed in
     record {
-      traced = λ t. thread_front p xs ys t (thread_at (replay (start p) xs) t) (thread_at (replay (start p) (xs ++ ys)) t) (stays p xs ys t)
-          (λ none. nothing_done (start p) t xs ok none) (h.traced t);
+      traced = λ t. thread_front p xs ys t (thread_at (replay (start p most) xs) t) (thread_at (replay (start p most) (xs ++ ys)) t) (stays p most xs ys t)
+          (λ none. nothing_done (start p most) t xs ok none) (h.traced t);
       allowed = ok;
     }
 
@@ -605,16 +605,16 @@ fronts s front rest h =
     let ys : List Event = drop n h.events in
     let whole : xs ++ ys ≡ h.events = take-append-drop n h.events in
     let tells : map entry_of xs ≡ targets front = map_front entry_of h.events (targets front) (targets rest) (h.tells ∙ targets_append front rest) in
-    let run : AreRun s.program (xs ++ ys) = subst (AreRun s.program) (sym whole) h.run in
+    let run : AreRun s.program s.threads (xs ++ ys) = subst (AreRun s.program s.threads) (sym whole) h.run in
     record {
       events = xs;
       tells = tells;
-      run = run_front s.program xs ys run;
+      run = run_front s.program s.threads xs ys run;
       parts = λ t.
-          has_part_front s front rest t (thread_at (replay (start s.program) xs) t) (thread_at (replay (start s.program) (xs ++ ys)) t) (stays s.program xs ys t)
+          has_part_front s front rest t (thread_at (replay (start s.program s.threads) xs) t) (thread_at (replay (start s.program s.threads) (xs ++ ys)) t) (stays s.program s.threads xs ys t)
           (λ none. subst (λ es. entries_of t es ≡ []) tells
-          (idle_entries t xs (nothing_done (start s.program) t xs (allowed_front (start s.program) xs ys run.allowed) none)))
-          (subst (λ zs. HasPart s (front ++ rest) t (thread_at (replay (start s.program) zs) t)) (sym whole) (h.parts t));
+          (idle_entries t xs (nothing_done (start s.program s.threads) t xs (allowed_front (start s.program s.threads) xs ys run.allowed) none)))
+          (subst (λ zs. HasPart s (front ++ rest) t (thread_at (replay (start s.program s.threads) zs) t)) (sym whole) (h.parts t));
       stands = λ earlier x more is.
           let m : ℕ = length (targets earlier) in
           let longer : targets front ≡ targets earlier ++ targets (x ∷ more) = ap targets is ∙ targets_append earlier (x ∷ more) in

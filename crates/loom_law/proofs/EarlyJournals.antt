@@ -47,7 +47,7 @@ abbrev order_commands : List Command
 order_commands = (record { trigger = script.at 0; name = (codes "ord"); action = install (means (plan_of order_program ((Clause.order (record { event = record { file = (codes "use.lm"); line = 8; test = None }; count = 1 } ∷ record { event = record { file = (codes "use.lm"); line = 3; test = None }; count = 1 } ∷ [])) ∷ []))) } ∷ [])
 
 abbrev pub order_setting : Setting
-order_setting = record { program = order_program; commands = order_commands; limit = 100000; stop = stops.never }
+order_setting = record { program = order_program; commands = order_commands; limit = 100000; threads = 8; stop = stops.never }
 
 abbrev pub order_journal : List Entry
 order_journal =
@@ -61,7 +61,7 @@ order_events =
     event 1 5 begin ∷ event 1 6 (spawn 2 0 []) ∷ event 2 2 begin ∷ event 1 7 (print (pos 1)) ∷ event 1 8 (write 0 (pos 5)) ∷ event 2 3 (read 0 (pos 5))
     ∷ event 2 3 (print (pos 2)) ∷ event 2 2 end ∷ event 1 9 (join 2) ∷ event 1 5 end ∷ []
 
-order_ended : (t : ℕ) (x : ThreadState) → thread_at (replay (start order_program) order_events) t ≡ Some x → x.ended ≡ true
+order_ended : (t : ℕ) (x : ThreadState) → thread_at (replay (start order_program 8) order_events) t ≡ Some x → x.ended ≡ true
 order_ended zero x h = cc
 order_ended (suc zero) x h = cc
 order_ended (suc (suc zero)) x h = cc
@@ -72,7 +72,7 @@ order_nowhere zero = refl
 order_nowhere (suc zero) = refl
 order_nowhere (suc (suc t)) = refl
 
-order_outside : (t : ℕ) → IsOutside order_setting (e.Asked 1 ∷ []) t (running_thread (thread_at (start order_program) t)) (plan_of order_program ((Clause.order (record { event = record { file = (codes "use.lm"); line = 8; test = None }; count = 1 } ∷ record { event = record { file = (codes "use.lm"); line = 3; test = None }; count = 1 } ∷ [])) ∷ [])) nowhere
+order_outside : (t : ℕ) → IsOutside order_setting (e.Asked 1 ∷ []) t (running_thread (thread_at (start order_program 8) t)) (plan_of order_program ((Clause.order (record { event = record { file = (codes "use.lm"); line = 8; test = None }; count = 1 } ∷ record { event = record { file = (codes "use.lm"); line = 3; test = None }; count = 1 } ∷ [])) ∷ [])) nowhere
 order_outside zero = tt
 order_outside (suc zero) = tt
 order_outside (suc (suc t)) = tt
@@ -101,7 +101,7 @@ order_steps_1 =
 order_trace_1 : IsTrace order_program 1 [] (items order_steps_1) Finished
 order_trace_1 = record { most_turns = 3; gives = next (next (next (inr (given 2 (next (next (next (next (next (next (next (next (next (inr (next (next (next (next ((refl, inl refl)))))))))))))))))))) }
 
-pub order_part_1 : HasPart order_setting order_journal 1 (thread_at (replay (start order_program) order_events) 1)
+pub order_part_1 : HasPart order_setting order_journal 1 (thread_at (replay (start order_program 8) order_events) 1)
 order_part_1 = record {
   steps = order_steps_1;
   ahead = [];
@@ -120,7 +120,7 @@ order_steps_2 =
 order_trace_2 : IsTrace order_program 0 [] (items order_steps_2) Finished
 order_trace_2 = record { most_turns = 3; gives = next (next (next (given (pos 5) (next (next (next (next (next ((refl, inl refl)))))))))) }
 
-pub order_part_2 : HasPart order_setting order_journal 2 (thread_at (replay (start order_program) order_events) 2)
+pub order_part_2 : HasPart order_setting order_journal 2 (thread_at (replay (start order_program 8) order_events) 2)
 order_part_2 = record {
   steps = order_steps_2;
   ahead = [];
@@ -131,15 +131,15 @@ order_part_2 = record {
   taken = refl;
 }
 
-pub order_parts : (t : ℕ) → HasPart order_setting order_journal t (thread_at (replay (start order_program) order_events) t)
+pub order_parts : (t : ℕ) → HasPart order_setting order_journal t (thread_at (replay (start order_program 8) order_events) t)
 order_parts zero = refl
 order_parts (suc zero) = order_part_1
 order_parts (suc (suc zero)) = order_part_2
 order_parts (suc (suc (suc t))) = nothing_made 3 (suc (suc (suc t))) order_journal (omega arith) refl
 
-order_run : AreRun order_program order_events
+order_run : AreRun order_program 8 order_events
 order_run = record {
-  traced = threads_traced order_program order_events (record { items = items order_steps_1; outcome = Finished; trace = order_trace_1; same = refl }, (record { items = items order_steps_2; outcome = Finished; trace = order_trace_2; same = refl }, tt)) refl refl;
+  traced = threads_traced order_program 8 order_events (record { items = items order_steps_1; outcome = Finished; trace = order_trace_1; same = refl }, (record { items = items order_steps_2; outcome = Finished; trace = order_trace_2; same = refl }, tt)) refl refl;
   allowed =
       runs.begins refl refl (does refl (refl, omega arith) (runs.begins refl refl (does refl tt (does refl tt (does refl refl (does refl tt (does refl tt (does refl (record { state = _; is = refl; ended = refl }) (does refl tt (tt))))))))));
 }
@@ -200,7 +200,7 @@ abbrev nested_commands : List Command
 nested_commands = record { trigger = script.at 0; name = codes "r"; action = install (refused 7 1) } ∷ []
 
 abbrev pub nested_setting : Setting
-nested_setting = record { program = nested_program; commands = nested_commands; limit = 100000; stop = stops.never }
+nested_setting = record { program = nested_program; commands = nested_commands; limit = 100000; threads = 8; stop = stops.never }
 
 abbrev pub nested_journal : List Entry
 nested_journal =
@@ -210,7 +210,7 @@ abbrev nested_events : List Event
 nested_events =
     event 1 6 begin ∷ event 1 8 (print (pos 0)) ∷ event 1 6 end ∷ []
 
-nested_ended : (t : ℕ) (x : ThreadState) → thread_at (replay (start nested_program) nested_events) t ≡ Some x → x.ended ≡ true
+nested_ended : (t : ℕ) (x : ThreadState) → thread_at (replay (start nested_program 8) nested_events) t ≡ Some x → x.ended ≡ true
 nested_ended zero x h = cc
 nested_ended (suc zero) x h = cc
 nested_ended (suc (suc t)) x h = cc
@@ -226,7 +226,7 @@ nested_steps_1 =
 nested_trace_1 : IsTrace nested_program 1 [] (items nested_steps_1) Finished
 nested_trace_1 = record { most_turns = 0; gives = next (next (next (next (next (next (next (next (next (next (next (next (next (next (next (next (next (next (next (next (next (next (next (next (next ((refl, inl refl)))))))))))))))))))))))))) }
 
-pub nested_part_1 : HasPart nested_setting nested_journal 1 (thread_at (replay (start nested_program) nested_events) 1)
+pub nested_part_1 : HasPart nested_setting nested_journal 1 (thread_at (replay (start nested_program 8) nested_events) 1)
 nested_part_1 = record {
   steps = nested_steps_1;
   ahead = [];
@@ -237,14 +237,14 @@ nested_part_1 = record {
   taken = refl;
 }
 
-pub nested_parts : (t : ℕ) → HasPart nested_setting nested_journal t (thread_at (replay (start nested_program) nested_events) t)
+pub nested_parts : (t : ℕ) → HasPart nested_setting nested_journal t (thread_at (replay (start nested_program 8) nested_events) t)
 nested_parts zero = refl
 nested_parts (suc zero) = nested_part_1
 nested_parts (suc (suc t)) = nothing_made 2 (suc (suc t)) nested_journal (omega arith) refl
 
-nested_run : AreRun nested_program nested_events
+nested_run : AreRun nested_program 8 nested_events
 nested_run = record {
-  traced = threads_traced nested_program nested_events (record { items = items nested_steps_1; outcome = Finished; trace = nested_trace_1; same = refl }, tt) refl refl;
+  traced = threads_traced nested_program 8 nested_events (record { items = items nested_steps_1; outcome = Finished; trace = nested_trace_1; same = refl }, tt) refl refl;
   allowed =
       runs.begins refl refl (does refl tt (does refl tt (tt)));
 }
@@ -287,7 +287,7 @@ unreached_steps_1 =
 unreached_trace_1 : IsTrace evacuated 1 [] (items unreached_steps_1) Open
 unreached_trace_1 = record { most_turns = 1; gives = next (next (next (next (next (next (next (next (given (pos 0) (next (inl (refl, refl))))))))))) }
 
-pub unreached_part_1 : HasPart unreached_setting unreached_journal 1 (thread_at (replay (start evacuated) unreached_events) 1)
+pub unreached_part_1 : HasPart unreached_setting unreached_journal 1 (thread_at (replay (start evacuated 8) unreached_events) 1)
 unreached_part_1 = record {
   steps = unreached_steps_1;
   ahead = [];
@@ -298,14 +298,14 @@ unreached_part_1 = record {
   taken = refl;
 }
 
-pub unreached_parts : (t : ℕ) → HasPart unreached_setting unreached_journal t (thread_at (replay (start evacuated) unreached_events) t)
+pub unreached_parts : (t : ℕ) → HasPart unreached_setting unreached_journal t (thread_at (replay (start evacuated 8) unreached_events) t)
 unreached_parts zero = refl
 unreached_parts (suc zero) = unreached_part_1
 unreached_parts (suc (suc t)) = nothing_made 2 (suc (suc t)) unreached_journal (omega arith) refl
 
-unreached_run : AreRun evacuated unreached_events
+unreached_run : AreRun evacuated 8 unreached_events
 unreached_run = record {
-  traced = threads_traced evacuated unreached_events (record { items = items unreached_steps_1; outcome = Open; trace = unreached_trace_1; same = refl }, tt) refl refl;
+  traced = threads_traced evacuated 8 unreached_events (record { items = items unreached_steps_1; outcome = Open; trace = unreached_trace_1; same = refl }, tt) refl refl;
   allowed =
       runs.begins refl refl (does refl refl (tt));
 }
@@ -344,7 +344,7 @@ cut_steps_1 =
 cut_trace_1 : IsTrace evacuated 1 [] (items cut_steps_1) Open
 cut_trace_1 = record { most_turns = 1; gives = next (next (next (next (next (next (next (next (given (pos 0) (next (next (inl (refl, refl)))))))))))) }
 
-pub cut_part_1 : HasPart cut_setting cut_journal 1 (thread_at (replay (start evacuated) cut_events) 1)
+pub cut_part_1 : HasPart cut_setting cut_journal 1 (thread_at (replay (start evacuated 8) cut_events) 1)
 cut_part_1 = record {
   steps = cut_steps_1;
   ahead = [];
@@ -355,14 +355,14 @@ cut_part_1 = record {
   taken = refl;
 }
 
-pub cut_parts : (t : ℕ) → HasPart cut_setting cut_journal t (thread_at (replay (start evacuated) cut_events) t)
+pub cut_parts : (t : ℕ) → HasPart cut_setting cut_journal t (thread_at (replay (start evacuated 8) cut_events) t)
 cut_parts zero = refl
 cut_parts (suc zero) = cut_part_1
 cut_parts (suc (suc t)) = nothing_made 2 (suc (suc t)) cut_journal (omega arith) refl
 
-cut_run : AreRun evacuated cut_events
+cut_run : AreRun evacuated 8 cut_events
 cut_run = record {
-  traced = threads_traced evacuated cut_events (record { items = items cut_steps_1; outcome = Open; trace = cut_trace_1; same = refl }, tt) refl refl;
+  traced = threads_traced evacuated 8 cut_events (record { items = items cut_steps_1; outcome = Open; trace = cut_trace_1; same = refl }, tt) refl refl;
   allowed =
       runs.begins refl refl (does refl refl (does refl tt (tt)));
 }
@@ -395,7 +395,7 @@ abbrev on_stall_commands : List Command
 on_stall_commands = record { trigger = script.stall; name = codes "a"; action = remove } ∷ []
 
 abbrev pub on_stall_setting : Setting
-on_stall_setting = record { program = locks; commands = on_stall_commands; limit = 100000; stop = stops.never }
+on_stall_setting = record { program = locks; commands = on_stall_commands; limit = 100000; threads = 8; stop = stops.never }
 
 abbrev pub before_stall : List Entry
 before_stall = e.Begin 1 2 ∷ e.Lock 1 3 0 ∷ e.Blocked 1 4 (w.Lock 0) ∷ []
@@ -413,7 +413,7 @@ stalled_front es = front_of on_stall_setting es on_stall_events
 stalled_behind : (es : List Entry) → IsBlocked on_stall_setting (stalled_front es) 1 → IsStalled on_stall_setting (stalled_front es)
 stalled_behind es waiting = record { live = 1; lives = record { state = _; is = refl; not_ended = refl }; stuck = waits }
   where
-    waits : (t : ℕ) → Lives (replay (start locks) on_stall_events) t → IsBlocked on_stall_setting (stalled_front es) t ⊎ IsHeldOff on_stall_setting (stalled_front es) t
+    waits : (t : ℕ) → Lives (replay (start locks 8) on_stall_events) t → IsBlocked on_stall_setting (stalled_front es) t ⊎ IsHeldOff on_stall_setting (stalled_front es) t
     waits zero g = let no : None ≡ Some g.state = g.is in cc
     waits (suc zero) g = inl waiting
     waits (suc (suc t)) g = let no : None ≡ Some g.state = g.is in cc
@@ -467,7 +467,7 @@ on_stall_steps_1 =
 on_stall_trace_1 : IsTrace locks 0 [] (items on_stall_steps_1) Open
 on_stall_trace_1 = record { most_turns = 0; gives = next (next (next (next (next (next (inl (refl, refl))))))) }
 
-pub on_stall_part_1 : HasPart on_stall_setting on_stall_journal 1 (thread_at (replay (start locks) on_stall_events) 1)
+pub on_stall_part_1 : HasPart on_stall_setting on_stall_journal 1 (thread_at (replay (start locks 8) on_stall_events) 1)
 on_stall_part_1 = record {
   steps = on_stall_steps_1;
   ahead = made 4 (lock 0) ∷ [];
@@ -478,14 +478,14 @@ on_stall_part_1 = record {
   taken = refl;
 }
 
-pub on_stall_parts : (t : ℕ) → HasPart on_stall_setting on_stall_journal t (thread_at (replay (start locks) on_stall_events) t)
+pub on_stall_parts : (t : ℕ) → HasPart on_stall_setting on_stall_journal t (thread_at (replay (start locks 8) on_stall_events) t)
 on_stall_parts zero = refl
 on_stall_parts (suc zero) = on_stall_part_1
 on_stall_parts (suc (suc t)) = nothing_made 2 (suc (suc t)) on_stall_journal (omega arith) refl
 
-on_stall_run : AreRun locks on_stall_events
+on_stall_run : AreRun locks 8 on_stall_events
 on_stall_run = record {
-  traced = threads_traced locks on_stall_events (record { items = items on_stall_steps_1; outcome = Open; trace = on_stall_trace_1; same = refl }, tt) refl refl;
+  traced = threads_traced locks 8 on_stall_events (record { items = items on_stall_steps_1; outcome = Open; trace = on_stall_trace_1; same = refl }, tt) refl refl;
   allowed = runs.begins refl refl (does refl refl tt);
 }
 

@@ -98,7 +98,7 @@ cut_part s es x t z part before step behind is tells =
     )
 
 stands_by : (s : Setting) (es : List Entry) (h : IsStrict s es) (x : Entry) (t : ℕ) (z : ThreadState) → is_thread t (thread_of x) ≡ true
-    → (is_target x ≡ false → thread_at (replay (start s.program) h.events) t ≡ Some z)
+    → (is_target x ≡ false → thread_at (replay (start s.program s.threads) h.events) t ≡ Some z)
     → (part : IsPart s.program (plans s) (own s (es ++ x ∷ []) t z)) (before : List PartStep) (step : PartStep) (behind : List PartStep) → part.steps ≡ before ++ step ∷ behind
     → told t before ≡ entries_of t es → Tells t x step → MayMove s (front_of s es h.events) t x → Permits s (front_of s es h.events) x
     → Stands s (front_of s es h.events) x []
@@ -135,7 +135,7 @@ stands_by s es h x t z self there part before (goes (enter f env)) behind is sam
 stands_by s es h x t z self there part before (goes (out f)) behind is same e m n = absurd e
 
 stands_if : (s : Setting) (es : List Entry) (h : IsStrict s es) (x : Entry) (t : ℕ) (o : Option ThreadState) → is_thread t (thread_of x) ≡ true
-    → (is_target x ≡ false → thread_at (replay (start s.program) h.events) t ≡ o) → HasPart s (es ++ x ∷ []) t o
+    → (is_target x ≡ false → thread_at (replay (start s.program s.threads) h.events) t ≡ o) → HasPart s (es ++ x ∷ []) t o
     → MayMove s (front_of s es h.events) t x → Permits s (front_of s es h.events) x → Stands s (front_of s es h.events) x []
 stands_if s es h x t None self there part m n = absurd (none_there t x es self part)
 stands_if s es h x t (Some z) self there part m n =
@@ -152,13 +152,13 @@ map_empty f [] h = refl
 map_empty f (x ∷ xs) h = cc
 
 stood : (s : Setting) (es : List Entry) (h : IsStrict s es) (x : Entry) (rest : List Entry) (xs : List Event) → (is_target x ≡ false → h.events ≡ xs)
-    → ((t : ℕ) → HasPart s (es ++ x ∷ []) t (thread_at (replay (start s.program) xs) t)) → (o : Option ℕ) → thread_of x ≡ o
+    → ((t : ℕ) → HasPart s (es ++ x ∷ []) t (thread_at (replay (start s.program s.threads) xs) t)) → (o : Option ℕ) → thread_of x ≡ o
     → MayFollowBy s (front_of s es h.events) x rest o → Stands s (front_of s es h.events) x []
 stood s es h x rest xs same parts None of n =
     less_behind s (front_of s es h.events) x [] rest (subst (StandsBy s (front_of s es h.events) x rest) (sym of) n)
 stood s es h x rest xs same parts (Some t) of n =
-    stands_if s es h x t (thread_at (replay (start s.program) xs) t) (ap (is_thread t) of ∙ eq_same t)
-    (λ no. ap (λ zs. thread_at (replay (start s.program) zs) t) (same no)) (parts t) n.0 n.1
+    stands_if s es h x t (thread_at (replay (start s.program s.threads) xs) t) (ap (is_thread t) of ∙ eq_same t)
+    (λ no. ap (λ zs. thread_at (replay (start s.program s.threads) zs) t) (same no)) (parts t) n.0 n.1
 
 grown : (s : Setting) (es : List Entry) (n : IsLawful s es) (before : List Entry) (x : Entry) (rest : List Entry) → es ≡ before ++ x ∷ rest → (h : IsStrict s before)
     → h.events ≡ take (length (targets before)) n.events → (h' : IsStrict s (before ++ x ∷ [])) × (h'.events ≡ take (length (targets (before ++ x ∷ []))) n.events)
@@ -177,12 +177,12 @@ grown s es n before x rest is h ev =
     let ys : List Event = drop m xs in
     let split : xs ≡ h.events ++ ys = sym (take-append-drop m xs) ∙ ap (λ zs. zs ++ ys) (take_again m k n.events few ∙ sym ev) in
     let last : map entry_of ys ≡ targets (x ∷ []) = map_behind entry_of xs (targets before) (targets (x ∷ [])) (tells ∙ longer_by) in
-    let run : AreRun p (xs ++ more) = subst (AreRun p) (sym whole) n.run in
-    let parts : (t : ℕ) → HasPart s front t (thread_at (replay (start p) xs) t) = λ t.
-    has_part_front s front rest t (thread_at (replay (start p) xs) t) (thread_at (replay (start p) (xs ++ more)) t) (stays p xs more t)
-    (λ none. subst (λ us. entries_of t us ≡ []) tells (idle_entries t xs (nothing_done (start p) t xs (allowed_front (start p) xs more run.allowed) none)))
-    (subst (λ us. HasPart s us t (thread_at (replay (start p) (xs ++ more)) t)) there
-    (subst (λ zs. HasPart s es t (thread_at (replay (start p) zs) t)) (sym whole) (n.parts t))) in
+    let run : AreRun p s.threads (xs ++ more) = subst (AreRun p s.threads) (sym whole) n.run in
+    let parts : (t : ℕ) → HasPart s front t (thread_at (replay (start p s.threads) xs) t) = λ t.
+    has_part_front s front rest t (thread_at (replay (start p s.threads) xs) t) (thread_at (replay (start p s.threads) (xs ++ more)) t) (stays p s.threads xs more t)
+    (λ none. subst (λ us. entries_of t us ≡ []) tells (idle_entries t xs (nothing_done (start p s.threads) t xs (allowed_front (start p s.threads) xs more run.allowed) none)))
+    (subst (λ us. HasPart s us t (thread_at (replay (start p s.threads) (xs ++ more)) t)) there
+    (subst (λ zs. HasPart s es t (thread_at (replay (start p s.threads) zs) t)) (sym whole) (n.parts t))) in
     let unfinished : IsUnfinished before = λ kind f.
     let bad : x ∷ rest ≡ [] = (n.follows f.front (e.Finish kind) (x ∷ rest)
     (is ∙ (ap (λ us. us ++ x ∷ rest) f.is ∙ append_assoc f.front (e.Finish kind ∷ []) (x ∷ rest)))).0 in
@@ -190,7 +190,7 @@ grown s es n before x rest is h ev =
     let here : MayFollow s (front_of s before h.events) x rest = subst (λ zs. MayFollow s (front_of s before zs) x rest) (sym ev) (n.follows before x rest is) in
     let same : is_target x ≡ false → h.events ≡ xs = λ no.
     sym (split ∙ (ap (λ zs. h.events ++ zs) (map_empty entry_of ys (last ∙ if_false (is_target x) (x ∷ []) [] no)) ∙ append_none h.events)) in
-    longer s before h x xs ys split unfinished last (run_front p xs more run) parts (stood s before h x rest xs same parts (thread_of x) refl here)
+    longer s before h x xs ys split unfinished last (run_front p s.threads xs more run) parts (stood s before h x rest xs same parts (thread_of x) refl here)
 
 take_all : {A : Type 0} (n : ℕ) (xs : List A) → n ≡ length xs → take n xs ≡ xs
 take_all zero [] h = refl

@@ -311,7 +311,7 @@ turn_is_safe (inr (inr h)) = no_function h
 -- The journal
 
 abbrev pub evacuation_setting : Setting
-evacuation_setting = record { program = evacuated; commands = evacuation_commands; limit = 100000; stop = stops.never }
+evacuation_setting = record { program = evacuated; commands = evacuation_commands; limit = 100000; threads = 8; stop = stops.never }
 
 abbrev pub evacuation_journal : List Entry
 evacuation_journal =
@@ -329,7 +329,7 @@ evacuation_events =
     ∷ event 1 3 (read 0 (pos 6)) ∷ event 1 3 (write 0 (pos 7)) ∷ event 1 9 (read 0 (pos 7)) ∷ event 1 9 (write 0 (pos 14))
     ∷ event 1 12 (read 0 (pos 14)) ∷ event 1 12 (print (pos 14)) ∷ event 1 5 end ∷ []
 
-evacuation_ended : (t : ℕ) (x : ThreadState) → thread_at (replay (start evacuated) evacuation_events) t ≡ Some x → x.ended ≡ true
+evacuation_ended : (t : ℕ) (x : ThreadState) → thread_at (replay (start evacuated 8) evacuation_events) t ≡ Some x → x.ended ≡ true
 evacuation_ended zero x h = cc
 evacuation_ended (suc zero) x h = cc
 evacuation_ended (suc (suc t)) x h = cc
@@ -381,7 +381,7 @@ evacuation_flagged (suc zero) = inr turn_is_safe
 evacuation_flagged (suc (suc t)) = inl refl
 
 evacuation_outside : (t : ℕ)
-    → IsOutside evacuation_setting evacuation_front t (running_thread (thread_at (replay (start evacuated) (take 5 evacuation_events)) t)) plan (evacuation_place t)
+    → IsOutside evacuation_setting evacuation_front t (running_thread (thread_at (replay (start evacuated 8) (take 5 evacuation_events)) t)) plan (evacuation_place t)
 evacuation_outside zero = tt
 evacuation_outside (suc zero) = outside_where_flagged evacuation_setting (own evacuation_setting evacuation_front 1 inside_main) kept_away turn (inr turn_is_safe)
 evacuation_outside (suc (suc t)) = tt
@@ -456,7 +456,7 @@ evacuation_trace_1 = record { most_turns = 4; gives = next (next (next (next (ne
 evacuation_woven_1 : AreWoven evacuated (plans evacuation_setting) (unborn evacuation_versions) evacuation_steps_1 []
 evacuation_woven_1 = ((refl, tt), (refl, (refl, (refl, (refl, (refl, (refl, (refl, (refl, (refl, (refl, (refl, (refl, (refl, (refl, (refl, (refl, (refl, (refl, (record { place = _; next = refl; number = refl; line = refl; version = refl; passed = refl }, (refl, (refl, (refl, (refl, (refl, (refl, (refl, (refl, (refl, (refl, (refl, (refl, (refl, (refl, (refl, (refl, (refl, (refl, (refl, (refl, (refl, (refl, (refl, (refl, (refl, (refl, (refl, (refl, (refl, (refl, (refl, (refl, (refl, (refl, (refl, (refl, (refl, (refl, (refl, (refl, (refl, (refl, (refl, (refl, (refl, (refl, (refl, (refl, (refl, (refl, tt))))))))))))))))))))))))))))))))))))))))))))))))))))))))))))))))))))))
 
-pub evacuation_part_1 : HasPart evacuation_setting evacuation_journal 1 (thread_at (replay (start evacuated) evacuation_events) 1)
+pub evacuation_part_1 : HasPart evacuation_setting evacuation_journal 1 (thread_at (replay (start evacuated 8) evacuation_events) 1)
 evacuation_part_1 = record {
   steps = evacuation_steps_1;
   ahead = [];
@@ -467,14 +467,14 @@ evacuation_part_1 = record {
   taken = refl;
 }
 
-pub evacuation_parts : (t : ℕ) → HasPart evacuation_setting evacuation_journal t (thread_at (replay (start evacuated) evacuation_events) t)
+pub evacuation_parts : (t : ℕ) → HasPart evacuation_setting evacuation_journal t (thread_at (replay (start evacuated 8) evacuation_events) t)
 evacuation_parts zero = refl
 evacuation_parts (suc zero) = evacuation_part_1
 evacuation_parts (suc (suc t)) = nothing_made 2 (suc (suc t)) evacuation_journal (omega arith) refl
 
-evacuation_run : AreRun evacuated evacuation_events
+evacuation_run : AreRun evacuated 8 evacuation_events
 evacuation_run = record {
-  traced = threads_traced evacuated evacuation_events (record { items = items evacuation_steps_1; outcome = Finished; trace = evacuation_trace_1; same = refl }, tt) refl refl;
+  traced = threads_traced evacuated 8 evacuation_events (record { items = items evacuation_steps_1; outcome = Finished; trace = evacuation_trace_1; same = refl }, tt) refl refl;
   allowed =
       runs.begins refl refl (does refl refl (does refl tt (does refl refl (does refl tt (does refl refl (does refl tt (does refl refl (does refl tt (does refl refl (does refl tt (does refl refl (does refl tt (does refl refl (does refl tt (does refl tt (tt))))))))))))))));
 }

@@ -36,7 +36,7 @@ abbrev alone_commands : List Command
 alone_commands = record { trigger = script.at 0; name = codes "uni"; action = install (means (plan_of adds alone)) } ∷ []
 
 abbrev pub alone_setting : Setting
-alone_setting = record { program = adds; commands = alone_commands; limit = 100000; stop = stops.never }
+alone_setting = record { program = adds; commands = alone_commands; limit = 100000; threads = 8; stop = stops.never }
 
 abbrev pub alone_journal : List Entry
 alone_journal =
@@ -49,7 +49,7 @@ alone_events =
     event 1 5 begin ∷ event 1 6 (spawn 2 0 []) ∷ event 2 2 begin ∷ event 1 7 (read 0 (pos 0)) ∷ event 2 3 (read 0 (pos 0)) ∷ event 2 3 (write 0 (pos 1))
     ∷ event 1 7 (write 0 (pos 1)) ∷ event 2 2 end ∷ event 1 8 (join 2) ∷ event 1 9 (read 0 (pos 1)) ∷ event 1 9 (print (pos 1)) ∷ event 1 5 end ∷ []
 
-alone_ended : (t : ℕ) (x : ThreadState) → thread_at (replay (start adds) alone_events) t ≡ Some x → x.ended ≡ true
+alone_ended : (t : ℕ) (x : ThreadState) → thread_at (replay (start adds 8) alone_events) t ≡ Some x → x.ended ≡ true
 alone_ended zero x h = cc
 alone_ended (suc zero) x h = cc
 alone_ended (suc (suc zero)) x h = cc
@@ -60,7 +60,7 @@ alone_nowhere zero = refl
 alone_nowhere (suc zero) = refl
 alone_nowhere (suc (suc t)) = refl
 
-alone_outside : (t : ℕ) → IsOutside alone_setting (e.Asked 1 ∷ []) t (running_thread (thread_at (start adds) t)) (plan_of adds alone) nowhere
+alone_outside : (t : ℕ) → IsOutside alone_setting (e.Asked 1 ∷ []) t (running_thread (thread_at (start adds 8) t)) (plan_of adds alone) nowhere
 alone_outside zero = tt
 alone_outside (suc zero) = tt
 alone_outside (suc (suc t)) = tt
@@ -88,7 +88,7 @@ alone_steps_1 =
 alone_trace_1 : IsTrace adds 1 [] (items alone_steps_1) Finished
 alone_trace_1 = record { most_turns = 0; gives = next (next (next (inr (given 2 (next (next (next (given (pos 0) (next (next (next (next (inr (next (next (next (given (pos 1) (next (next (next (next (next ((refl, inl refl)))))))))))))))))))))))) }
 
-pub alone_part_1 : HasPart alone_setting alone_journal 1 (thread_at (replay (start adds) alone_events) 1)
+pub alone_part_1 : HasPart alone_setting alone_journal 1 (thread_at (replay (start adds 8) alone_events) 1)
 alone_part_1 = record {
   steps = alone_steps_1;
   ahead = [];
@@ -108,7 +108,7 @@ alone_steps_2 =
 alone_trace_2 : IsTrace adds 0 [] (items alone_steps_2) Finished
 alone_trace_2 = record { most_turns = 0; gives = next (next (next (given (pos 0) (next (next (next (next (next ((refl, inl refl)))))))))) }
 
-pub alone_part_2 : HasPart alone_setting alone_journal 2 (thread_at (replay (start adds) alone_events) 2)
+pub alone_part_2 : HasPart alone_setting alone_journal 2 (thread_at (replay (start adds 8) alone_events) 2)
 alone_part_2 = record {
   steps = alone_steps_2;
   ahead = [];
@@ -119,15 +119,15 @@ alone_part_2 = record {
   taken = refl;
 }
 
-pub alone_parts : (t : ℕ) → HasPart alone_setting alone_journal t (thread_at (replay (start adds) alone_events) t)
+pub alone_parts : (t : ℕ) → HasPart alone_setting alone_journal t (thread_at (replay (start adds 8) alone_events) t)
 alone_parts zero = refl
 alone_parts (suc zero) = alone_part_1
 alone_parts (suc (suc zero)) = alone_part_2
 alone_parts (suc (suc (suc t))) = nothing_made 3 (suc (suc (suc t))) alone_journal (omega arith) refl
 
-alone_run : AreRun adds alone_events
+alone_run : AreRun adds 8 alone_events
 alone_run = record {
-  traced = threads_traced adds alone_events (record { items = items alone_steps_1; outcome = Finished; trace = alone_trace_1; same = refl }, (record { items = items alone_steps_2; outcome = Finished; trace = alone_trace_2; same = refl }, tt)) refl refl;
+  traced = threads_traced adds 8 alone_events (record { items = items alone_steps_1; outcome = Finished; trace = alone_trace_1; same = refl }, (record { items = items alone_steps_2; outcome = Finished; trace = alone_trace_2; same = refl }, tt)) refl refl;
   allowed =
       runs.begins refl refl (does refl (refl, omega arith) (runs.begins refl refl (does refl refl (does refl refl (does refl tt (does refl tt (does refl tt (does refl (record { state = _; is = refl; ended = refl }) (does refl refl (does refl tt (does refl tt (tt))))))))))));
 }
@@ -171,7 +171,7 @@ abbrev back_commands : List Command
 back_commands = (record { trigger = script.at 0; name = (codes "r"); action = install (means (plan_of back_program ((Clause.unilateral (Region.whole (codes "f") None)) ∷ []))) } ∷ [])
 
 abbrev pub back_setting : Setting
-back_setting = record { program = back_program; commands = back_commands; limit = 100000; stop = stops.never }
+back_setting = record { program = back_program; commands = back_commands; limit = 100000; threads = 8; stop = stops.never }
 
 abbrev pub back_journal : List Entry
 back_journal =
@@ -182,7 +182,7 @@ abbrev back_events : List Event
 back_events =
     event 1 6 begin ∷ event 1 3 (write 0 (pos 1)) ∷ event 1 4 (read 0 (pos 1)) ∷ event 1 8 (print (pos 1)) ∷ event 1 6 end ∷ []
 
-back_ended : (t : ℕ) (x : ThreadState) → thread_at (replay (start back_program) back_events) t ≡ Some x → x.ended ≡ true
+back_ended : (t : ℕ) (x : ThreadState) → thread_at (replay (start back_program 8) back_events) t ≡ Some x → x.ended ≡ true
 back_ended zero x h = cc
 back_ended (suc zero) x h = cc
 back_ended (suc (suc t)) x h = cc
@@ -192,7 +192,7 @@ back_nowhere zero = refl
 back_nowhere (suc zero) = refl
 back_nowhere (suc (suc t)) = refl
 
-back_outside : (t : ℕ) → IsOutside back_setting (e.Asked 1 ∷ []) t (running_thread (thread_at (start back_program) t)) (plan_of back_program ((Clause.unilateral (Region.whole (codes "f") None)) ∷ [])) nowhere
+back_outside : (t : ℕ) → IsOutside back_setting (e.Asked 1 ∷ []) t (running_thread (thread_at (start back_program 8) t)) (plan_of back_program ((Clause.unilateral (Region.whole (codes "f") None)) ∷ [])) nowhere
 back_outside zero = tt
 back_outside (suc zero) = tt
 back_outside (suc (suc t)) = tt
@@ -220,7 +220,7 @@ back_steps_1 =
 back_trace_1 : IsTrace back_program 1 [] (items back_steps_1) Finished
 back_trace_1 = record { most_turns = 0; gives = next (next (next (next (next (next (next (next (given (pos 1) (next (next (next (next (next (next (next (next (next ((refl, inl refl))))))))))))))))))) }
 
-pub back_part_1 : HasPart back_setting back_journal 1 (thread_at (replay (start back_program) back_events) 1)
+pub back_part_1 : HasPart back_setting back_journal 1 (thread_at (replay (start back_program 8) back_events) 1)
 back_part_1 = record {
   steps = back_steps_1;
   ahead = [];
@@ -231,14 +231,14 @@ back_part_1 = record {
   taken = refl;
 }
 
-pub back_parts : (t : ℕ) → HasPart back_setting back_journal t (thread_at (replay (start back_program) back_events) t)
+pub back_parts : (t : ℕ) → HasPart back_setting back_journal t (thread_at (replay (start back_program 8) back_events) t)
 back_parts zero = refl
 back_parts (suc zero) = back_part_1
 back_parts (suc (suc t)) = nothing_made 2 (suc (suc t)) back_journal (omega arith) refl
 
-back_run : AreRun back_program back_events
+back_run : AreRun back_program 8 back_events
 back_run = record {
-  traced = threads_traced back_program back_events (record { items = items back_steps_1; outcome = Finished; trace = back_trace_1; same = refl }, tt) refl refl;
+  traced = threads_traced back_program 8 back_events (record { items = items back_steps_1; outcome = Finished; trace = back_trace_1; same = refl }, tt) refl refl;
   allowed =
       runs.begins refl refl (does refl tt (does refl refl (does refl tt (does refl tt (tt)))));
 }
@@ -295,7 +295,7 @@ abbrev caught_commands : List Command
 caught_commands = record { trigger = script.at 0; name = codes "a"; action = install (means (plan_of caught_program caught)) } ∷ []
 
 abbrev pub caught_setting : Setting
-caught_setting = record { program = caught_program; commands = caught_commands; limit = 100000; stop = stops.never }
+caught_setting = record { program = caught_program; commands = caught_commands; limit = 100000; threads = 8; stop = stops.never }
 
 abbrev pub caught_journal : List Entry
 caught_journal =
@@ -305,7 +305,7 @@ caught_journal =
 abbrev caught_events : List Event
 caught_events = event 1 2 begin ∷ event 1 3 (write 0 (pos 1)) ∷ event 1 4 (trap division) ∷ event 1 2 end ∷ []
 
-caught_ended : (t : ℕ) (x : ThreadState) → thread_at (replay (start caught_program) caught_events) t ≡ Some x → x.ended ≡ true
+caught_ended : (t : ℕ) (x : ThreadState) → thread_at (replay (start caught_program 8) caught_events) t ≡ Some x → x.ended ≡ true
 caught_ended zero x h = cc
 caught_ended (suc zero) x h = cc
 caught_ended (suc (suc t)) x h = cc
@@ -315,7 +315,7 @@ caught_nowhere zero = refl
 caught_nowhere (suc zero) = refl
 caught_nowhere (suc (suc t)) = refl
 
-caught_outside : (t : ℕ) → IsOutside caught_setting (e.Asked 1 ∷ []) t (running_thread (thread_at (start caught_program) t)) (plan_of caught_program caught) nowhere
+caught_outside : (t : ℕ) → IsOutside caught_setting (e.Asked 1 ∷ []) t (running_thread (thread_at (start caught_program 8) t)) (plan_of caught_program caught) nowhere
 caught_outside zero = tt
 caught_outside (suc zero) = tt
 caught_outside (suc (suc t)) = tt
@@ -341,7 +341,7 @@ caught_steps_1 =
 caught_trace_1 : IsTrace caught_program 0 [] (items caught_steps_1) Finished
 caught_trace_1 = record { most_turns = 0; gives = next (next (next (next (next (next (next (next ((refl, inl refl))))))))) }
 
-pub caught_part_1 : HasPart caught_setting caught_journal 1 (thread_at (replay (start caught_program) caught_events) 1)
+pub caught_part_1 : HasPart caught_setting caught_journal 1 (thread_at (replay (start caught_program 8) caught_events) 1)
 caught_part_1 = record {
   steps = caught_steps_1;
   ahead = [];
@@ -352,14 +352,14 @@ caught_part_1 = record {
   taken = refl;
 }
 
-pub caught_parts : (t : ℕ) → HasPart caught_setting caught_journal t (thread_at (replay (start caught_program) caught_events) t)
+pub caught_parts : (t : ℕ) → HasPart caught_setting caught_journal t (thread_at (replay (start caught_program 8) caught_events) t)
 caught_parts zero = refl
 caught_parts (suc zero) = caught_part_1
 caught_parts (suc (suc t)) = nothing_made 2 (suc (suc t)) caught_journal (omega arith) refl
 
-caught_run : AreRun caught_program caught_events
+caught_run : AreRun caught_program 8 caught_events
 caught_run = record {
-  traced = threads_traced caught_program caught_events (record { items = items caught_steps_1; outcome = Finished; trace = caught_trace_1; same = refl }, tt) refl refl;
+  traced = threads_traced caught_program 8 caught_events (record { items = items caught_steps_1; outcome = Finished; trace = caught_trace_1; same = refl }, tt) refl refl;
   allowed = runs.begins refl refl (does refl tt (does refl tt (does refl tt tt)));
 }
 

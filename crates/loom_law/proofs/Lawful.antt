@@ -66,7 +66,7 @@ event_turns s es h open_ y m ok =
     let k = strict s es h in
     longer s (es ++ entry_of y ∷ []) _ _ (ap (λ zs. zs ++ y ∷ []) k.1)
     (turns.event_turns s es k.0 open_ y (subst (λ zs. MayTurn s es zs y.thread (entry_of y) (goes (made y.line y.act))) (sym k.1) m)
-    (subst (λ zs. IsAllowed (replay (start s.program) zs) y) (sym k.1) ok))
+    (subst (λ zs. IsAllowed (replay (start s.program s.threads) zs) y) (sym k.1) ok))
 
 pub operation_turns : HasOperationTurns
 operation_turns s es h open_ t l o m =

@@ -1,6 +1,5 @@
 -- A thread leaves only clauses that it holds, and so only those of which the journal says it.
 use Rattle.loom_event.specs.Replay.{ThreadState}
-use Rattle.loom_trace.specs.Limits.{thread_limit}
 use Rattle.loom_law.proofs.Strict.{IsStrict}
 use Rattle.std.proofs.Common.{ℕ, suc, ◌<◌, ◌≡◌, ◌==◌, Bool, true, false, not, ◌&&◌, ◌||◌, List, [], ◌∷◌, ◌++◌, length, Some, refl, sym, ap, subst, ◌∙◌, arith}
 use Rattle.std.specs.List.{filter}
@@ -340,7 +339,7 @@ taken_once cs t c (x ∷ es) h s o =
     let ih : HaveOnce (versions_from cs t (after_entry cs c x) es) = taken_once cs t (after_entry cs c x) es h.1 (sound_behind cs c x h.0 s) (once_behind cs c x h.0 s o) in
     pick HaveOnce (takes_version t x) (c.version ∷ versions_from cs t (after_entry cs c x) es) (versions_from cs t (after_entry cs c x) es) (λ b. (o, ih)) (λ b. ih)
 
-pub right_leaves : (s : Setting) (front rest : List Entry) → IsStrict s (front ++ rest) → (i : ℕ) → i < thread_limit → (x : ThreadState)
+pub right_leaves : (s : Setting) (front rest : List Entry) → IsStrict s (front ++ rest) → (i : ℕ) → i < s.threads → (x : ThreadState)
     (h : IsPart s.program (plans s) (own s front (suc i) x)) (y : Entry) (ys : List Entry) → entries_of (suc i) front ≡ y ∷ ys → listed_places (suc i) front ≡ []
     → (l k c : ℕ) → Owes (walk_of s.program (plans s) (own s front (suc i) x) h.steps).owed l (leave k c)
     → is_held_by (control s.commands front) k c (suc i) ≡ true

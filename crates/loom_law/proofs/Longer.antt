@@ -78,7 +78,7 @@ more_behind s f (e.Finish k) rest more none h = absurd (none k refl h.0)
 more_behind s f _ rest more none h = h
 
 pub longer : (s : Setting) (es : List Entry) (h : IsStrict s es) (x : Entry) (xs ys : List Event) → xs ≡ h.events ++ ys → IsUnfinished es → map entry_of ys ≡ targets (x ∷ [])
-    → AreRun s.program xs → ((u : ℕ) → HasPart s (es ++ x ∷ []) u (thread_at (replay (start s.program) xs) u)) → Stands s (front_of s es h.events) x []
+    → AreRun s.program s.threads xs → ((u : ℕ) → HasPart s (es ++ x ∷ []) u (thread_at (replay (start s.program s.threads) xs) u)) → Stands s (front_of s es h.events) x []
     → (h' : IsStrict s (es ++ x ∷ [])) × (h'.events ≡ xs)
 longer s es h x xs ys is open_ tells run parts last = (
   record {
@@ -225,8 +225,8 @@ control_turns s es h open_ x none follows =
     let f : Front = front_of s es h.events in
     let control_ : MayFollowBy s f x [] None = subst (MayFollowBy s f x []) none follows in
     longer s es h x h.events [] (sym (append_none h.events)) open_ (sym (if_false (is_target x) (x ∷ []) [] (no_target x none))) h.run
-    (λ t. others_part s es x t (thread_at (replay (start s.program) h.events) t) (thread_at (replay (start s.program) h.events) t)
-    (of_itself (thread_at (replay (start s.program) h.events) t)) (ap (is_thread t) none) (h.parts t))
+    (λ t. others_part s es x t (thread_at (replay (start s.program s.threads) h.events) t) (thread_at (replay (start s.program s.threads) h.events) t)
+    (of_itself (thread_at (replay (start s.program s.threads) h.events) t)) (ap (is_thread t) none) (h.parts t))
     (subst (StandsBy s f x []) (sym none) control_)
 
 -- A journal with no entry
@@ -248,8 +248,8 @@ beginning s = (
   record {
     events = [];
     tells = refl;
-    run = record { traced = λ t. no_deeds s.program t (thread_at (start s.program) t); allowed = tt };
-    parts = λ t. no_part s t (thread_at (start s.program) t);
+    run = record { traced = λ t. no_deeds s.program t (thread_at (start s.program s.threads) t); allowed = tt };
+    parts = λ t. no_part s t (thread_at (start s.program s.threads) t);
     stands = λ front x rest is. absurd (no_entry front x rest is);
   },
   refl,

@@ -1,17 +1,11 @@
 -- What a thread asks to make gives one more entry of a lawful journal; a request that is disabled may be told as `Blocked`.
-use Rattle.std.proofs.Common.{ℕ, ◌≡◌, inl, true, false, List, [], ◌∷◌, ◌++◌, pos, drop, Option, Some, None, refl, sym, ap, subst, ◌∙◌}
+use Rattle.std.proofs.Common.{ℕ, ◌≡◌, true, false, List, [], ◌∷◌, ◌++◌, drop, Some, refl, sym, ap, subst, ◌∙◌}
 use Rattle.loom_tree.specs.Tree.{Source}
 use Rattle.loom_trace.specs.declared.entry.Entry.{Entry}
 use Rattle.loom_trace.specs.declared.entry.Entry.TheVariants as e
-use Rattle.loom_trace.specs.declared.entry.What.{What}
-use Rattle.loom_trace.specs.declared.entry.What.TheVariants as w
-use Rattle.loom_trace.specs.declared.request.Request.{Request}
-use Rattle.loom_trace.specs.declared.request.Request.TheVariants as r
-use Rattle.loom_lang.specs.Trace.{Act, begin, end, trap, read, write, lock, unlock, down, up, spawn, join, print, Item, made, begins, done, edge, enter, out, not_spawned, Open, IsTrace}
-use Rattle.loom_lang.specs.Acts.{Deed}
-use Rattle.loom_event.specs.Answer.{granted}
+use Rattle.loom_lang.specs.Trace.{begin, end, trap, read, write, lock, unlock, down, up, spawn, join, print, Item, made, begins, done, edge, enter, out, IsTrace}
 use Rattle.loom_event.specs.Replay.{ThreadState}
-use Rattle.loom_law.specs.Walk.{Version, Plans, Operation, wait, enters, at, past, post, leave, back, tick, cross, blocked, Queue, PartStep, goes, makes, items, told, entry_of_operation, Walk, unborn, behind_entry, taking, crossing, after, walk_from, first_number, Acts, AsksFor, MayCross, AreWoven}
+use Rattle.loom_law.specs.Walk.{Version, Plans, Operation, wait, enters, at, past, post, leave, back, tick, cross, blocked, PartStep, goes, makes, items, told, entry_of_operation, Walk, unborn, behind_entry, taking, crossing, after, walk_from, first_number, MayCross, AreWoven}
 use Rattle.loom_law.specs.ThreadPart.{Own, walk_of, IsPart, HasMoved, KeepsAway}
 use Rattle.loom_law.specs.Control.{entries_of}
 use Rattle.loom_law.specs.Lawful.{Setting, plans, own, IsFlagged, is_begin, StaysAway}
@@ -21,7 +15,6 @@ use Rattle.loom_law.proofs.OnePart.{told_append, one_move}
 use Rattle.loom_law.proofs.Earlier.{append_assoc, items_ahead, woven_front, takings}
 use Rattle.loom_law.proofs.Turns.{BeforeOp, before_op, moved, walk_coming}
 use Rattle.loom_law.proofs.Lawful.{operation_turns}
-use Rattle.loom_law.proofs.Answers.{goes_with, woven_ahead, walk_append, woven_last}
 
 asked_part : (s : Setting) (es : List Entry) (t : ℕ) (z : ThreadState) (l : ℕ) (o : Operation) → AsksToDo s es (own s es t z) l o
     → IsPart s.program (plans s) (own_with s es t z (entry_of_operation t l o))

@@ -6,7 +6,6 @@ use Rattle.loom_trace.specs.declared.entry.Entry.TheVariants as e
 use Rattle.loom_lang.specs.Trace.{begin, end, trap, read, write, lock, unlock, down, up, spawn, join, print, made, begins, done, edge, enter, out}
 use Rattle.loom_event.specs.Entries.{thread_of, is_thread}
 use Rattle.loom_event.specs.Replay.{ThreadState}
-use Rattle.loom_trace.specs.Limits.{thread_limit}
 use Rattle.loom_law.specs.Walk.{Version, Plans, wait, enters, at, past, post, leave, back, tick, cross, blocked, PartStep, goes, makes, told, Walk, unborn, without_first, taking, behind_entry, crossing, after, walk_from}
 use Rattle.loom_law.specs.ThreadPart.{walk_of, IsPart}
 use Rattle.loom_law.specs.Control.{Command, Control, first_control, after_entry, control_after, versions_from, versions_of, entries_of, row_at, listed_places_after, listed_places_from, listed_places, control}
@@ -185,17 +184,17 @@ active_told s front t x h =
 
 -- A thread crosses where a new version was listed for it, and each is listed for it
 
-abbrev RowOf : Entry → Type 0
-RowOf (e.Installed k v ps) = length ps ≡ thread_limit
-RowOf (e.Removed k v ps) = length ps ≡ thread_limit
-RowOf _ = Unit {0}
+abbrev RowOf : ℕ → Entry → Type 0
+RowOf size (e.Installed k v ps) = length ps ≡ size
+RowOf size (e.Removed k v ps) = length ps ≡ size
+RowOf size _ = Unit {0}
 
-abbrev Moves : ℕ → List ℕ → Entry → Type 0
-Moves t ls x = (is_thread t (thread_of x) ≡ true → is_cross x ≡ owes_cross x ls) × RowOf x
+abbrev Moves : ℕ → ℕ → List ℕ → Entry → Type 0
+Moves size t ls x = (is_thread t (thread_of x) ≡ true → is_cross x ≡ owes_cross x ls) × RowOf size x
 
-abbrev AreMoves : ℕ → List ℕ → List Entry → Type 0
-AreMoves t ls [] = Unit {0}
-AreMoves t ls (x ∷ xs) = Moves t ls x × AreMoves t (listed_places_after t ls x) xs
+abbrev AreMoves : ℕ → ℕ → List ℕ → List Entry → Type 0
+AreMoves size t ls [] = Unit {0}
+AreMoves size t ls (x ∷ xs) = Moves size t ls x × AreMoves size t (listed_places_after t ls x) xs
 
 -- it has begun
 abbrev begun_behind : ℕ → Bool → Entry → Bool
@@ -236,52 +235,52 @@ behind_empty : (xs ys : List ℕ) → xs ++ ys ≡ [] → ys ≡ []
 behind_empty [] ys h = h
 behind_empty (x ∷ xs) ys h = cc
 
-new_listed : (ps ls : List ℕ) (i : ℕ) → i < thread_limit → length ps ≡ thread_limit → ls ++ row_at ps (suc i) ≡ [] → ⊥
-new_listed ps ls i small is h = row_there ps i (subst (λ n. i < n) (sym is) small) (behind_empty ls (row_at ps (suc i)) h)
+new_listed : (size : ℕ) (ps ls : List ℕ) (i : ℕ) → i < size → length ps ≡ size → ls ++ row_at ps (suc i) ≡ [] → ⊥
+new_listed size ps ls i small is h = row_there ps i (subst (λ n. i < n) (sym is) small) (behind_empty ls (row_at ps (suc i)) h)
 
-newest_behind : (cs : List Command) (c : Control) (i : ℕ) (ls : List ℕ) (b : Bool) (ks : List ℕ) (x : Entry) → i < thread_limit → Moves (suc i) ls x → IsNewest c ls b ks
+newest_behind : (size : ℕ) (cs : List Command) (c : Control) (i : ℕ) (ls : List ℕ) (b : Bool) (ks : List ℕ) (x : Entry) → i < size → Moves size (suc i) ls x → IsNewest c ls b ks
     → IsNewest (after_entry cs c x) (listed_places_after (suc i) ls x) (begun_behind (suc i) b x) (active_behind (suc i) c ks x)
-newest_behind cs c i ls b ks (e.Begin u l) small m h = takes_newest c (u == suc i) b ls ks h
-newest_behind cs c i ls b ks (e.Cross u l x v n) small m h = crosses_newest c (u == suc i) b ls ks h
-newest_behind cs c i ls b ks (e.Installed k v ps) small m h = λ g n. absurd (new_listed ps ls i small m.1 n)
-newest_behind cs c i ls b ks (e.Removed k v ps) small m h = λ g n. absurd (new_listed ps ls i small m.1 n)
-newest_behind cs c i ls b ks (e.End u l) small m h = stays_newest c (u == suc i) b ls ks m.0 h
-newest_behind cs c i ls b ks (e.Trap u l r) small m h = stays_newest c (u == suc i) b ls ks m.0 h
-newest_behind cs c i ls b ks (e.Read u l x v) small m h = stays_newest c (u == suc i) b ls ks m.0 h
-newest_behind cs c i ls b ks (e.Write u l x v) small m h = stays_newest c (u == suc i) b ls ks m.0 h
-newest_behind cs c i ls b ks (e.Lock u l y) small m h = stays_newest c (u == suc i) b ls ks m.0 h
-newest_behind cs c i ls b ks (e.Unlock u l y) small m h = stays_newest c (u == suc i) b ls ks m.0 h
-newest_behind cs c i ls b ks (e.Down u l y) small m h = stays_newest c (u == suc i) b ls ks m.0 h
-newest_behind cs c i ls b ks (e.Up u l y) small m h = stays_newest c (u == suc i) b ls ks m.0 h
-newest_behind cs c i ls b ks (e.Spawn u l q f vs) small m h = stays_newest c (u == suc i) b ls ks m.0 h
-newest_behind cs c i ls b ks (e.Join u l q) small m h = stays_newest c (u == suc i) b ls ks m.0 h
-newest_behind cs c i ls b ks (e.Print u l v) small m h = stays_newest c (u == suc i) b ls ks m.0 h
-newest_behind cs c i ls b ks (e.Tick u l y) small m h = stays_newest c (u == suc i) b ls ks m.0 h
-newest_behind cs c i ls b ks (e.Blocked u l y) small m h = stays_newest c (u == suc i) b ls ks m.0 h
-newest_behind cs c i ls b ks (e.At u l k ns) small m h = stays_newest c (u == suc i) b ls ks m.0 h
-newest_behind cs c i ls b ks (e.Past u l k ns) small m h = stays_newest c (u == suc i) b ls ks m.0 h
-newest_behind cs c i ls b ks (e.Back u l) small m h = stays_newest c (u == suc i) b ls ks m.0 h
-newest_behind cs c i ls b ks (e.Enter u l k n) small m h = stays_newest c (u == suc i) b ls ks m.0 h
-newest_behind cs c i ls b ks (e.Leave u l k n) small m h = stays_newest c (u == suc i) b ls ks m.0 h
-newest_behind cs c i ls b ks (e.Post u l k n) small m h = stays_newest c (u == suc i) b ls ks m.0 h
-newest_behind cs c i ls b ks (e.Wait u l k n) small m h = stays_newest c (u == suc i) b ls ks m.0 h
-newest_behind cs c i ls b ks (e.Asked k) small m h = h
-newest_behind cs c i ls b ks (e.Refused k n y) small m h = h
-newest_behind cs c i ls b ks (e.Stalled k u l) small m h = h
-newest_behind cs c i ls b ks (e.Cut k) small m h = h
-newest_behind cs c i ls b ks (e.Unreached k) small m h = h
-newest_behind cs c i ls b ks (e.Finish k) small m h = h
+newest_behind size cs c i ls b ks (e.Begin u l) small m h = takes_newest c (u == suc i) b ls ks h
+newest_behind size cs c i ls b ks (e.Cross u l x v n) small m h = crosses_newest c (u == suc i) b ls ks h
+newest_behind size cs c i ls b ks (e.Installed k v ps) small m h = λ g n. absurd (new_listed size ps ls i small m.1 n)
+newest_behind size cs c i ls b ks (e.Removed k v ps) small m h = λ g n. absurd (new_listed size ps ls i small m.1 n)
+newest_behind size cs c i ls b ks (e.End u l) small m h = stays_newest c (u == suc i) b ls ks m.0 h
+newest_behind size cs c i ls b ks (e.Trap u l r) small m h = stays_newest c (u == suc i) b ls ks m.0 h
+newest_behind size cs c i ls b ks (e.Read u l x v) small m h = stays_newest c (u == suc i) b ls ks m.0 h
+newest_behind size cs c i ls b ks (e.Write u l x v) small m h = stays_newest c (u == suc i) b ls ks m.0 h
+newest_behind size cs c i ls b ks (e.Lock u l y) small m h = stays_newest c (u == suc i) b ls ks m.0 h
+newest_behind size cs c i ls b ks (e.Unlock u l y) small m h = stays_newest c (u == suc i) b ls ks m.0 h
+newest_behind size cs c i ls b ks (e.Down u l y) small m h = stays_newest c (u == suc i) b ls ks m.0 h
+newest_behind size cs c i ls b ks (e.Up u l y) small m h = stays_newest c (u == suc i) b ls ks m.0 h
+newest_behind size cs c i ls b ks (e.Spawn u l q f vs) small m h = stays_newest c (u == suc i) b ls ks m.0 h
+newest_behind size cs c i ls b ks (e.Join u l q) small m h = stays_newest c (u == suc i) b ls ks m.0 h
+newest_behind size cs c i ls b ks (e.Print u l v) small m h = stays_newest c (u == suc i) b ls ks m.0 h
+newest_behind size cs c i ls b ks (e.Tick u l y) small m h = stays_newest c (u == suc i) b ls ks m.0 h
+newest_behind size cs c i ls b ks (e.Blocked u l y) small m h = stays_newest c (u == suc i) b ls ks m.0 h
+newest_behind size cs c i ls b ks (e.At u l k ns) small m h = stays_newest c (u == suc i) b ls ks m.0 h
+newest_behind size cs c i ls b ks (e.Past u l k ns) small m h = stays_newest c (u == suc i) b ls ks m.0 h
+newest_behind size cs c i ls b ks (e.Back u l) small m h = stays_newest c (u == suc i) b ls ks m.0 h
+newest_behind size cs c i ls b ks (e.Enter u l k n) small m h = stays_newest c (u == suc i) b ls ks m.0 h
+newest_behind size cs c i ls b ks (e.Leave u l k n) small m h = stays_newest c (u == suc i) b ls ks m.0 h
+newest_behind size cs c i ls b ks (e.Post u l k n) small m h = stays_newest c (u == suc i) b ls ks m.0 h
+newest_behind size cs c i ls b ks (e.Wait u l k n) small m h = stays_newest c (u == suc i) b ls ks m.0 h
+newest_behind size cs c i ls b ks (e.Asked k) small m h = h
+newest_behind size cs c i ls b ks (e.Refused k n y) small m h = h
+newest_behind size cs c i ls b ks (e.Stalled k u l) small m h = h
+newest_behind size cs c i ls b ks (e.Cut k) small m h = h
+newest_behind size cs c i ls b ks (e.Unreached k) small m h = h
+newest_behind size cs c i ls b ks (e.Finish k) small m h = h
 
-newest_along : (cs : List Command) (c : Control) (i : ℕ) (ls : List ℕ) (b : Bool) (ks : List ℕ) (xs : List Entry) → i < thread_limit → AreMoves (suc i) ls xs → IsNewest c ls b ks
+newest_along : (size : ℕ) (cs : List Command) (c : Control) (i : ℕ) (ls : List ℕ) (b : Bool) (ks : List ℕ) (xs : List Entry) → i < size → AreMoves size (suc i) ls xs → IsNewest c ls b ks
     → IsNewest (control_after cs c xs) (listed_places_from (suc i) ls xs) (begun_from (suc i) b xs) (active_from cs (suc i) c ks xs)
-newest_along cs c i ls b ks [] small m h = h
-newest_along cs c i ls b ks (x ∷ xs) small m h =
-    newest_along cs (after_entry cs c x) i (listed_places_after (suc i) ls x) (begun_behind (suc i) b x) (active_behind (suc i) c ks x) xs small m.1
-    (newest_behind cs c i ls b ks x small m.0 h)
+newest_along size cs c i ls b ks [] small m h = h
+newest_along size cs c i ls b ks (x ∷ xs) small m h =
+    newest_along size cs (after_entry cs c x) i (listed_places_after (suc i) ls x) (begun_behind (suc i) b x) (active_behind (suc i) c ks x) xs small m.1
+    (newest_behind size cs c i ls b ks x small m.0 h)
 
 -- What stands moves so
 
-row_of : (s : Setting) (f : Front) (x : Entry) (rest : List Entry) → Stands s f x rest → RowOf x
+row_of : (s : Setting) (f : Front) (x : Entry) (rest : List Entry) → Stands s f x rest → RowOf s.threads x
 row_of s f (e.Installed k v ps) rest h = h.1.lists.count
 row_of s f (e.Removed k v ps) rest h = h.1.lists.count
 row_of s f _ rest h = tt
@@ -294,7 +293,7 @@ crosses_of : (s : Setting) (f : Front) (t : ℕ) (x : Entry) (o : Option ℕ) �
 crosses_of s f t x None is m h = cc
 crosses_of s f t x (Some u) is m h = subst (λ v. is_cross x ≡ owes_cross x (listed_places v f.entries)) (same_number u t h) ((m u refl).crosses)
 
-moves_of : (s : Setting) (f : Front) (t : ℕ) (x : Entry) (rest : List Entry) → Stands s f x rest → Moves t (listed_places t f.entries) x
+moves_of : (s : Setting) (f : Front) (t : ℕ) (x : Entry) (rest : List Entry) → Stands s f x rest → Moves s.threads t (listed_places t f.entries) x
 moves_of s f t x rest h = (
   (λ g. crosses_of s f t x (thread_of x) refl (λ u is. stands_moves s f x rest u h is) g),
   row_of s f x rest h,
@@ -308,11 +307,11 @@ append_one : (xs : List Entry) (y : Entry) (ys : List Entry) → (xs ++ y ∷ []
 append_one [] y ys = refl
 append_one (x ∷ xs) y ys = ap (◌∷◌ x) (append_one xs y ys)
 
-moves_from : (s : Setting) (es : List Entry) (h : IsStrict s es) (t : ℕ) (front todo rest : List Entry) → es ≡ front ++ (todo ++ rest) → AreMoves t (listed_places t front) todo
+moves_from : (s : Setting) (es : List Entry) (h : IsStrict s es) (t : ℕ) (front todo rest : List Entry) → es ≡ front ++ (todo ++ rest) → AreMoves s.threads t (listed_places t front) todo
 moves_from s es h t front [] rest is = tt
 moves_from s es h t front (x ∷ todo) rest is = (
   moves_of s (front_at s h.events front) t x (todo ++ rest) (h.stands front x (todo ++ rest) is),
-  subst (λ ls. AreMoves t ls todo) (listed_last t [] front x)
+  subst (λ ls. AreMoves s.threads t ls todo) (listed_last t [] front x)
       (moves_from s es h t (front ++ x ∷ []) todo rest (is ∙ sym (append_one front x (todo ++ rest)))),
 )
 
@@ -359,7 +358,7 @@ first_begun t b (x ∷ es) y ys h is =
     begin_begun t b x es (subst IsBegin (sym first) is) g)
     (λ g. first_begun t (begun_behind t b x) es y ys (sym (if_false (is_thread t (thread_of x)) (x ∷ entries_of t es) (entries_of t es) g) ∙ h) is)
 
-pub newest : (s : Setting) (front rest : List Entry) → IsStrict s (front ++ rest) → (i : ℕ) → i < thread_limit → (x : ThreadState)
+pub newest : (s : Setting) (front rest : List Entry) → IsStrict s (front ++ rest) → (i : ℕ) → i < s.threads → (x : ThreadState)
     (h : IsPart s.program (plans s) (own s front (suc i) x)) (y : Entry) (ys : List Entry) → entries_of (suc i) front ≡ y ∷ ys → listed_places (suc i) front ≡ []
     → (walk_of s.program (plans s) (own s front (suc i) x) h.steps).active ≡ Version.active (control s.commands front).version
 newest s front rest h i small x part y ys some none =
@@ -367,5 +366,5 @@ newest s front rest h i small x part y ys some none =
     let begins : IsBegin y =
     first_begins s.program (plans s) t x.func x.args (versions_of s.commands t front) part.steps part.ahead part.outcome y ys part.trace part.woven (part.tells ∙ some) in
     let begun : begun_from t false front ≡ true = first_begun t false front y ys some begins in
-    let moves : AreMoves t [] front = moves_from s (front ++ rest) h t [] front rest refl in
-    active_told s front t x part ∙ newest_along s.commands first_control i [] false [] front small moves (λ g n. cc) begun none
+    let moves : AreMoves s.threads t [] front = moves_from s (front ++ rest) h t [] front rest refl in
+    active_told s front t x part ∙ newest_along s.threads s.commands first_control i [] false [] front small moves (λ g n. cc) begun none

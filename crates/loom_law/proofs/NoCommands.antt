@@ -160,8 +160,8 @@ owes_no_cross s es h none x t = ap (owes_cross x) (nothing_listed s es h none t)
 
 -- An answer that the store allows to what a thread asks for.
 pub answer_without : (s : Setting) (es : List Entry) (h : IsLawful s es) → s.commands ≡ [] → IsUnfinished es → over s (front_of s es h.events) ≡ false
-    → (t : ℕ) (z : ThreadState) → thread_at (replay (start s.program) h.events) t ≡ Some z
-    → (q : Request) (d : Deed) → AsksToAct s.program (plans s) (own s es t z) q → IsAnswered q d → IsAllowed (replay (start s.program) h.events) (event_of_deed t d)
+    → (t : ℕ) (z : ThreadState) → thread_at (replay (start s.program s.threads) h.events) t ≡ Some z
+    → (q : Request) (d : Deed) → AsksToAct s.program (plans s) (own s es t z) q → IsAnswered q d → IsAllowed (replay (start s.program s.threads) h.events) (event_of_deed t d)
     → (h' : IsLawful s (es ++ entry_by t d.line d.act ∷ [])) × (h'.events ≡ h.events ++ event_of_deed t d ∷ [])
 answer_without s es h none open_ runs t z there q d asks answer allowed =
     let quiet : (k : ℕ) → Control.asked (control s.commands es) ≡ Some k → ⊥ = λ k is. none_asked (front_of s es h.events) k (nothing_controlled s es h none) is in
@@ -181,7 +181,7 @@ answer_without s es h none open_ runs t z there q d asks answer allowed =
 
 -- A tick that a thread asks for.
 pub tick_without : (s : Setting) (es : List Entry) (h : IsLawful s es) → s.commands ≡ [] → IsUnfinished es → over s (front_of s es h.events) ≡ false
-    → (t : ℕ) (z : ThreadState) → thread_at (replay (start s.program) h.events) t ≡ Some z
+    → (t : ℕ) (z : ThreadState) → thread_at (replay (start s.program s.threads) h.events) t ≡ Some z
     → (l n : ℕ) → AsksToMake s.program (plans s) (own s es t z) l (tick n) → (h' : IsLawful s (es ++ e.Tick t l n ∷ [])) × (h'.events ≡ h.events)
 tick_without s es h none open_ runs t z there l n asks =
     let quiet : (k : ℕ) → Control.asked (control s.commands es) ≡ Some k → ⊥ = λ k is. none_asked (front_of s es h.events) k (nothing_controlled s es h none) is in
@@ -199,7 +199,7 @@ tick_without s es h none open_ runs t z there l n asks =
 
 -- A thread that is blocked.
 pub blocked_without : (s : Setting) (es : List Entry) (h : IsLawful s es) → s.commands ≡ [] → IsUnfinished es → over s (front_of s es h.events) ≡ false
-    → (t : ℕ) (z : ThreadState) → thread_at (replay (start s.program) h.events) t ≡ Some z
+    → (t : ℕ) (z : ThreadState) → thread_at (replay (start s.program s.threads) h.events) t ≡ Some z
     → (l : ℕ) (what : What) → AsksToMake s.program (plans s) (own s es t z) l (blocked what) → IsDisabledFor s (front_of s es h.events) t what
     → (h' : IsLawful s (es ++ e.Blocked t l what ∷ [])) × (h'.events ≡ h.events)
 blocked_without s es h none open_ runs t z there l what asks disabled =
@@ -228,7 +228,7 @@ finish_without s es h none open_ kind ends =
 
 -- `Done`, where each thread has ended.
 pub done_without : (s : Setting) (es : List Entry) (h : IsLawful s es) → s.commands ≡ [] → IsUnfinished es → over s (front_of s es h.events) ≡ false
-    → AllEnded (replay (start s.program) h.events) → (h' : IsLawful s (es ++ e.Finish k.Done ∷ [])) × (h'.events ≡ h.events)
+    → AllEnded (replay (start s.program s.threads) h.events) → (h' : IsLawful s (es ++ e.Finish k.Done ∷ [])) × (h'.events ≡ h.events)
 done_without s es h none open_ runs ended = finish_without s es h none open_ k.Done (runs, (ended, no_due s (front_of s es h.events) none))
 
 -- `Stuck`, where the threads that live are blocked.

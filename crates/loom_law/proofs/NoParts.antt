@@ -10,7 +10,7 @@ use Rattle.loom_trace.specs.declared.entry.What.TheVariants as w
 use Rattle.loom_trace.specs.declared.entry.Ending.TheVariants as k
 use Rattle.loom_lang.specs.Places.{Place, nowhere, places}
 use Rattle.loom_lang.specs.Places as place
-use Rattle.loom_lang.specs.Trace.{begin, read, write, up, down, spawn, print, made, begins, done, enter, Open}
+use Rattle.loom_lang.specs.Trace.{begin, read, write, up, down, spawn, print, Item, made, begins, done, enter, Open}
 use Rattle.loom_command.specs.Filter.{Region, Clause}
 use Rattle.loom_command.specs.Script as script
 use Rattle.loom_event.specs.Event.{Event}
@@ -18,21 +18,23 @@ use Rattle.loom_event.specs.Replay.{start, thread_at, replay}
 use Rattle.loom_event.proofs.Runs.{next, given, event_of, events_told}
 use Rattle.loom_event.proofs.Shown.{event, adds}
 use Rattle.loom_law.specs.Filter.{Plan, plan_of}
-use Rattle.loom_law.specs.Walk.{Plans, past, leave, blocked, PartStep, goes, makes, items, told, Walk, unborn, is_same_place, position_of, place_number, request_place, walk_from, MayBlock, AreWoven}
-use Rattle.loom_law.specs.ThreadPart.{Own, walk_of, IsPart, Point, HasMoved, KeepsAway, AsksToMake}
+use Rattle.loom_law.specs.Walk.{Plans, past, leave, blocked, PartStep, goes, makes, items, told, Queue, Walk, unborn, is_same_place, position_of, place_number, request_place, place_of_next, walk_from, MayBlock, AreWoven}
+use Rattle.loom_law.specs.ThreadPart.{Own, walk_of, IsPart, Point, IsPlaceOf, ComesTo, HasMoved, KeepsAway, AsksToMake}
 use Rattle.loom_law.specs.Paths.{IsUnsafe}
 use Rattle.loom_law.specs.FilterView.{IsClear, view_behind}
 use Rattle.loom_law.specs.Control.{means, install, remove, Command}
-use Rattle.loom_law.specs.Lawful.{Setting, Front, plans, running_thread, IsOutside, SeesNothing, MayInstall, HasPart, IsFlagged, StaysAway, Parks, front_at, IsLawful}
+use Rattle.loom_law.specs.Lawful.{Setting, Front, plans, StandsAt, running_thread, IsOutside, SeesNothing, MayInstall, HasPart, IsFlagged, StaysAway, Parks, front_at, IsLawful}
 use Rattle.loom_law.specs.TurnLaws.{blocked_behind, ends_blocked}
-use Rattle.loom_law.proofs.OnePart.{told_append, same_front, one_move}
+use Rattle.loom_law.specs.Laws.{SameSteps}
+use Rattle.loom_law.proofs.OnePart.{told_append, append_none, never_empty, same_front, one_move, one_made}
 use Rattle.loom_law.proofs.Earlier.{an_own, part_front, woven_front, same_number, by_test, if_true, if_false}
 use Rattle.loom_law.proofs.Turns.{stands_there}
 use Rattle.loom_law.proofs.Makings.{OpPart, cut_part, walk_blocked}
 use Rattle.loom_law.proofs.OneRequest.{one_operation}
 use Rattle.loom_law.proofs.Journals.{not_off}
 use Rattle.loom_law.proofs.Shown.{setting, fix, version, events, main_part}
-use Rattle.loom_law.proofs.RemovalJournal.{removal_program, removal_setting}
+use Rattle.loom_law.proofs.Inside.{owed_none}
+use Rattle.loom_law.proofs.RemovalJournal.{removal_program, removal_front, removal_setting}
 
 -- What a thread owes
 
@@ -60,8 +62,8 @@ leave_first =
 pub leave_first_unlawful : IsLawful setting leave_first → ⊥
 leave_first_unlawful h =
     let same : h.events ≡ events = events_told h.events events (ap (map event_of) h.tells) in
-    let P : List Event → Type 0 = λ xs. HasPart setting leave_first 1 (thread_at (replay (start adds) xs) 1) in
-    let part : HasPart setting leave_first 1 (thread_at (replay (start adds) events) 1) = subst P same (h.parts 1) in
+    let P : List Event → Type 0 = λ xs. HasPart setting leave_first 1 (thread_at (replay (start adds 8) xs) 1) in
+    let part : HasPart setting leave_first 1 (thread_at (replay (start adds 8) events) 1) = subst P same (h.parts 1) in
     let asks : AsksToMake adds (plans setting) at_update 7 (leave 1 1) =
     part_front adds (plans setting) 1 1 [] (version ∷ []) [] (updated ++ e.Leave 1 7 1 1 ∷ [])
     (e.Past 1 7 1 (3 ∷ 4 ∷ []) ∷ e.Blocked 1 8 (w.Join 2) ∷ e.Join 1 8 2 ∷ e.Read 1 9 0 (pos 2) ∷ e.Print 1 9 (pos 2) ∷ e.End 1 5 ∷ []) refl part in
@@ -254,6 +256,92 @@ going_unlawful h =
     let P : List Event → Type 0 = λ ys. Parks removal_setting going 2 2 (thread_at (Front.store (front_at removal_setting ys going_front)) 2) in
     let kept = subst P same (bad.0.parked.0 refl) in
     blocked_stays removal_setting _ 2 (e.Begin 2 2 ∷ e.Enter 2 3 1 1 ∷ e.At 2 3 1 (1 ∷ 2 ∷ []) ∷ e.Blocked 2 3 (w.Down 0) ∷ []) (e.Down 2 3 0) refl refl (λ y. tt) kept
+
+-- Where a thread stands
+
+-- nothing is told behind the last step that tells an entry
+ends_so : (t : ℕ) (ss front behind : List PartStep) (s : PartStep) (y : Entry) → ss ++ s ∷ [] ≡ front ++ behind → told t (s ∷ []) ≡ y ∷ [] → told t behind ≡ [] → front ≡ ss ++ s ∷ []
+ends_so t ss front [] s y is ends none = sym (is ∙ append_none front)
+ends_so t ss [] (u ∷ behind) s y is ends none =
+    absurd (never_empty (told t ss) y (sym none ∙ (ap (told t) (sym is) ∙ (told_append t ss (s ∷ []) ∙ ap (λ us. told t ss ++ us) ends))))
+ends_so t [] (u ∷ []) (v ∷ behind) s y is ends none = cc
+ends_so t [] (u ∷ r ∷ front) (v ∷ behind) s y is ends none = cc
+ends_so t (v ∷ ss) (u ∷ front) (r ∷ behind) s y is ends none =
+    let first : v ≡ u = cc in
+    let others : ss ++ s ∷ [] ≡ front ++ r ∷ behind = cc in
+    let ih : front ≡ ss ++ s ∷ [] = ends_so t ss front (r ∷ behind) s y others ends none in
+    cc (first, ih)
+
+abbrev part_at : (p : Source) (ps : Plans) (x : Own) → Point p ps x → IsPart p ps x
+part_at p ps x h = record { steps = h.steps; ahead = h.next ∷ []; outcome = Open; trace = h.trace; woven = h.woven; tells = h.tells; taken = h.taken }
+
+owing_place : (z : Walk) (os : Queue) (rest : List Item) (y : Place) → (os ≡ [] → ⊥) → place_of_next z os rest ≡ Some y → request_place z ≡ y
+owing_place z [] rest y owes h = absurd (owes refl)
+owing_place z (o ∷ os) rest y owes h = cc
+
+-- Where the last step tells an entry, and something is owed behind it, the thread stands at the place of its request alone.
+stands_owing : (p : Source) (ps : Plans) (x : Own) (a h : Point p ps x) (ss : List PartStep) (s : PartStep) (y : Entry) → a.steps ≡ ss ++ s ∷ [] → told x.thread (s ∷ []) ≡ y ∷ []
+    → ((walk_of p ps x a.steps).owed ≡ [] → ⊥) → (z : Place) → IsPlaceOf p ps x h z → request_place (walk_of p ps x a.steps) ≡ z
+stands_owing p ps x a h ss s y last ends owes z at = by_rest same.behind' same.second same.marks'
+  where
+    same : SameSteps x a.steps h.steps
+    same = one_made p ps x (part_at p ps x a) (part_at p ps x h)
+
+    whole : same.made ≡ a.steps
+    whole = ends_so x.thread ss same.made same.behind s y (sym last ∙ same.first) ends same.marks ∙ sym last
+
+    by_rest : (behind : List PartStep) → h.steps ≡ same.made ++ behind → told x.thread behind ≡ [] → request_place (walk_of p ps x a.steps) ≡ z
+    by_rest [] is none =
+        let steps : h.steps ≡ a.steps = is ∙ (append_none same.made ∙ whole) in
+        let there : place_of_next (walk_of p ps x a.steps) (walk_of p ps x a.steps).owed (h.next ∷ []) ≡ Some z =
+        subst (λ us. place_of_next (walk_of p ps x us) (walk_of p ps x us).owed (h.next ∷ []) ≡ Some z) steps at in
+        owing_place (walk_of p ps x a.steps) (walk_of p ps x a.steps).owed (h.next ∷ []) z owes there
+    by_rest (goes i ∷ behind) is none =
+        let steps : h.steps ≡ a.steps ++ goes i ∷ behind = is ∙ ap (λ us. us ++ goes i ∷ behind) whole in
+        let woven : AreWoven p ps (unborn x.versions) (a.steps ++ goes i ∷ behind) (h.next ∷ []) = subst (λ us. AreWoven p ps (unborn x.versions) us (h.next ∷ [])) steps h.woven in
+        absurd (owes (owed_none p (walk_of p ps x a.steps) i (items behind ++ h.next ∷ []) (stands_there p ps (unborn x.versions) a.steps (goes i) behind (h.next ∷ []) woven)))
+    by_rest (makes l o ∷ behind) is none = cc
+
+-- A removal lists for a blocked thread a place that it passed.
+abbrev pub removed_misplaced : List Entry
+removed_misplaced = removal_front ++ e.Removed 2 2 (4 ∷ 2 ∷ 1 ∷ 0 ∷ 0 ∷ 0 ∷ 0 ∷ 0 ∷ []) ∷ []
+
+abbrev blocked_own : Own
+blocked_own = an_own 3 0 [] (record { number = 1; active = 1 ∷ [] } ∷ []) (e.Begin 3 2 ∷ e.Blocked 3 3 (w.Enter 1 1) ∷ [])
+
+abbrev before_block : List PartStep
+before_block = goes (made 2 begin) ∷ goes (enter 0 []) ∷ goes (begins 3 []) ∷ []
+
+abbrev blocked_point : Point removal_program (plans removal_setting) blocked_own
+blocked_point = record {
+  steps = before_block ++ makes 3 (blocked (w.Enter 1 1)) ∷ [];
+  next = made 3 (down 0);
+  trace = record { most_turns = 0; gives = next (next (next (next (inl (refl, refl))))) };
+  woven = ((refl, tt), (refl, (refl, (record { asks = refl; not_yet = refl }, tt))));
+  tells = refl;
+  taken = refl;
+}
+
+abbrev third_of : List ℕ → ℕ
+third_of (a ∷ b ∷ c ∷ ns) = c
+third_of _ = 0
+
+pub removed_misplaced_unlawful : IsLawful removal_setting removed_misplaced → ⊥
+removed_misplaced_unlawful h =
+    let p : Source = removal_program in
+    let xs : List Event = (event 1 9 begin ∷ event 1 10 (spawn 2 0 []) ∷ event 2 2 begin ∷ event 1 11 (spawn 3 0 []) ∷ event 3 2 begin ∷ event 1 12 (print (pos 1)) ∷ []) in
+    let same : h.events ≡ xs = events_told h.events xs (ap (map event_of) h.tells) in
+    let bad = h.follows removal_front (e.Removed 2 2 (4 ∷ 2 ∷ 1 ∷ 0 ∷ 0 ∷ 0 ∷ 0 ∷ 0 ∷ [])) [] refl in
+    let x : Place = bad.1.lists.place 3 in
+    let number : place_number p x ≡ 1 = sym (ap third_of bad.1.lists.are) in
+    let passed : place.entry 0 ≡ x = at_number x (places p) 1 (place.entry 0) number refl in
+    let P : List Event → Type 0 = λ ys. StandsAt removal_setting (front_at removal_setting ys removal_front) 3 x in
+    let stands : ComesTo p (plans removal_setting) blocked_own x = subst P same (bad.1.lists.stands 3) in
+    let at : place.inside 3 ≡ x =
+    stands_owing p (plans removal_setting) blocked_own blocked_point stands.point before_block (makes 3 (blocked (w.Enter 1 1))) (e.Blocked 3 3 (w.Enter 1 1)) refl refl
+    (λ g. cc) x stands.place in
+    let no : place.inside 3 ≡ place.entry 0 = at ∙ sym passed in
+    cc
 
 -- It is installed while thread 1 is inside: between its read and its write.
 abbrev pub inside : List Entry

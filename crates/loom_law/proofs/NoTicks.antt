@@ -1,26 +1,28 @@
 -- Journals that are not lawful, since a tick is left out, or told early.
-use Rattle.std.proofs.Common.{ℕ, suc, ◌≤◌, ◌<◌, ◌≡◌, ◌==◌, ◌⊎◌, inl, inr, Bool, true, false, nat_lt, pos, List, [], ◌∷◌, ◌++◌, length, map, Some, slice_get, refl, sym, ap, subst, ◌∙◌, codes, arith}
-use Rattle.std.proofs.lemmas.Bool.{eqb-false, ltb-true, ltb-false}
-use Rattle.loom_tree.specs.Tree.{Source}
+use Rattle.std.proofs.Common.{ℕ, zero, suc, ◌+◌, ◌≤◌, ◌<◌, ◌≡◌, ◌==◌, ◌⊎◌, inl, inr, Bool, true, false, nat_lt, drop, pos, List, [], ◌∷◌, ◌++◌, length, map, Some, slice_get, refl, sym, ap, subst, ◌∙◌, codes, arith}
+use Rattle.std.proofs.lemmas.Bool.{eqb-false, ne_eqb, ltb-true, ltb-false}
+use Rattle.loom_tree.specs.Tree.{Source, num, Simple, simple, while_}
+use Rattle.loom_tree.specs.Tree as tree
 use Rattle.loom_trace.specs.declared.entry.Entry.{Entry}
 use Rattle.loom_trace.specs.declared.entry.Entry.TheVariants as e
 use Rattle.loom_trace.specs.declared.request.Request.TheVariants as r
 use Rattle.loom_lang.specs.Places.{Place, places, line_of_place}
 use Rattle.loom_lang.specs.Places as place
-use Rattle.loom_lang.specs.Trace.{begin, end, trap, read, write, lock, unlock, down, up, spawn, join, print, Item, made, begins, done, edge, enter, out}
+use Rattle.loom_lang.specs.Trace.{Locals, Lists, Open, turns, IsTrace, begin, end, trap, read, write, lock, unlock, down, up, spawn, join, print, Item, made, begins, done, edge, enter, out}
 use Rattle.loom_event.specs.Event.{Event}
 use Rattle.loom_event.specs.Replay.{start, thread_at, replay}
 use Rattle.loom_event.proofs.Runs.{next, given, event_of, events_told}
 use Rattle.loom_event.proofs.Shown.{event}
 use Rattle.loom_law.specs.Filter.{function}
-use Rattle.loom_law.specs.Walk.{Version, Plans, wait, enters, past, post, leave, back, tick, cross, blocked, Operation, PartStep, goes, makes, items, OpenStatement, OpenFrame, Spot, elsewhere, beginning, entered, complete, left, trapped, Queue, Walk, unborn, owed_at, function_line, place_number, tick_after, with_tick, taking, crossing, after, walk_from, place_of_request, request_place, innermost, place_in_top, place_of_next, first_number, MayCross, MayStand, AreWoven}
+use Rattle.loom_law.specs.Walk.{Version, Plans, wait, enters, past, post, leave, back, tick, cross, blocked, Operation, PartStep, goes, makes, items, told, OpenStatement, OpenFrame, Spot, elsewhere, beginning, entered, complete, left, trapped, Queue, Walk, unborn, owed_at, function_line, place_number, tick_after, with_tick, taking, crossing, after, walk_from, place_of_request, request_place, innermost, place_in_top, place_of_next, first_number, MayCross, MayStand, AreWoven}
 use Rattle.loom_law.specs.Walk as walk
 use Rattle.loom_law.specs.ThreadPart.{Own, IsPart, AsksToMake, AsksToAct}
 use Rattle.loom_law.specs.Lawful.{Setting, plans, HasPart, IsLawful}
-use Rattle.loom_law.proofs.Earlier.{an_own, woven_front, by_test, if_true, same_number}
-use Rattle.loom_law.proofs.Turns.{stands_there}
+use Rattle.loom_law.proofs.Earlier.{an_own, woven_front, by_test, if_true, if_false, same_number, takings}
+use Rattle.loom_law.proofs.Turns.{stands_there, walk_coming}
+use Rattle.loom_law.proofs.OnePart.{append_none}
 use Rattle.loom_law.proofs.Makings.{OpPart, cut_part}
-use Rattle.loom_law.proofs.OneRequest.{no_split}
+use Rattle.loom_law.proofs.OneRequest.{no_split, one_operation}
 use Rattle.loom_law.proofs.NoParts.{at_number}
 use Rattle.loom_law.proofs.TickJournal.{endless, loop_setting}
 use Rattle.loom_law.proofs.EvacuationJournal.{evacuated, evacuation_setting}
@@ -177,11 +179,165 @@ pub tick_missing_unlawful : IsLawful loop_setting tick_missing → ⊥
 tick_missing_unlawful h =
     let xs : List Event = (event 1 1 begin ∷ []) in
     let same : h.events ≡ xs = events_told h.events xs (ap (map event_of) h.tells) in
-    let P : List Event → Type 0 = λ ys. HasPart loop_setting tick_missing 1 (thread_at (replay (start endless) ys) 1) in
+    let P : List Event → Type 0 = λ ys. HasPart loop_setting tick_missing 1 (thread_at (replay (start endless 8) ys) 1) in
     let part : IsPart endless (plans loop_setting) missing_own = subst P same (h.parts 1) in
     let few : 1000 < tick_after = crosses_in_time endless (plans loop_setting) missing_own (e.Begin 1 1 ∷ []) 2 3 1 1000 2 refl refl part in
     let no : ⊥ = omega arith in
     no
+
+-- A tick is left out, and the next one is told.
+
+-- 1  fn main() {
+-- 2    while (1) {
+-- 3      f();
+-- 4      f();
+-- 5    }
+-- 6  }
+-- 7  fn f() {
+-- 8  }
+abbrev calling : Source
+calling = record {
+  words = [];
+  mutexes = [];
+  semas = [];
+  funcs =
+      record { name = codes "main"; line = 1; params = []; body = while_ 2 (num (pos 1)) (simple 3 (Simple.call (codes "f") []) (simple 4 (Simple.call (codes "f") []) tree.end)) tree.end }
+      ∷ record { name = codes "f"; line = 7; params = []; body = tree.end } ∷ [];
+}
+
+abbrev calling_setting : Setting
+calling_setting = record loop_setting { program = calling; commands = [] }
+
+-- so many turns of the loop, with three places in each
+turns_of : ℕ → List PartStep → List PartStep
+turns_of zero more = more
+turns_of (suc n) more =
+    goes (begins 3 []) ∷ goes (enter 1 []) ∷ goes (out 1) ∷ goes (done 3) ∷ goes (begins 4 []) ∷ goes (enter 1 []) ∷ goes (out 1) ∷ goes (done 4) ∷ goes (edge 2) ∷ turns_of n more
+
+turns_told : (n : ℕ) (more : List PartStep) → told 1 (turns_of n more) ≡ told 1 more
+unfolding turns_of
+turns_told zero more = refl
+turns_told (suc n) more = turns_told n more
+
+turns_trace : (turn : Locals → (Locals → Lists) → (Locals → Lists) → Lists) (more : Locals → Lists)
+    → ((again leave : Locals → Lists) (is : List Item) → again [] is Open
+    → turn [] again leave (begins 3 [] ∷ enter 1 [] ∷ out 1 ∷ done 3 ∷ begins 4 [] ∷ enter 1 [] ∷ out 1 ∷ done 4 ∷ edge 2 ∷ is) Open)
+    → (n : ℕ) → turns n turn more [] (items (turns_of n [])) Open
+unfolding turns_of
+turns_trace turn more h zero = (refl, refl)
+turns_trace turn more h (suc n) = h (λ env. turns n turn more env) more (items (turns_of n [])) (turns_trace turn more h n)
+
+calling_trace : (n : ℕ) → IsTrace calling 0 [] (made 1 begin ∷ enter 0 [] ∷ begins 2 [] ∷ items (turns_of n [])) Open
+calling_trace n = record {
+  most_turns = n;
+  gives = next (next (next (turns_trace _ _ (λ again leave is h. next (next (next (next (next (next (next (next (next h))))))))) n)));
+}
+
+-- in the loop, behind these places
+abbrev at_turn : Spot → List Place → Walk
+at_turn s ys = record {
+  coming = [];
+  active = [];
+  held = [];
+  frames = record { func = 0; statements = record { line = 2; events = [] } ∷ []; inside = [] } ∷ [];
+  spot = s;
+  owed = [];
+  passed = ys;
+  is_blocked = false;
+}
+
+-- in the call on a line
+abbrev in_call : ℕ → List Place → Walk
+in_call l ys = record (at_turn (entered 1 []) (place.entry 1 ∷ ys)) {
+  frames = record { func = 1; statements = []; inside = [] }
+      ∷ record { func = 0; statements = record { line = l; events = [] } ∷ record { line = 2; events = [] } ∷ []; inside = [] } ∷ [];
+}
+
+abbrev no_plans : Plans
+no_plans = plans calling_setting
+
+not_yet : (x : Place) (n : ℕ) → suc n < 1000 → with_tick calling x (suc n) [] ≡ []
+not_yet x n h = if_false (suc n == 1000) _ [] (ne_eqb (suc n) 1000 (λ e. omega arith))
+
+-- one turn, up to its back edge
+turn_woven : (s : Spot) (ys : List Place) → suc (length ys) + 1 < 1000 → (more : List PartStep) (ahead : List Item)
+    → AreWoven calling no_plans (record (at_turn elsewhere (place.back_edge 2 ∷ place.entry 1 ∷ place.entry 1 ∷ ys)) { owed = with_tick calling (place.back_edge 2) (suc (suc (suc (length ys)))) [] }) more ahead
+    → AreWoven calling no_plans (at_turn s ys) (turns_of 1 more) ahead
+unfolding turns_of
+turn_woven s ys few more ahead h =
+    let zs : List Place = place.entry 1 ∷ ys in
+    let second : List PartStep = goes (out 1) ∷ goes (done 4) ∷ goes (edge 2) ∷ more in
+    let first : List PartStep = goes (out 1) ∷ goes (done 3) ∷ goes (begins 4 []) ∷ goes (enter 1 []) ∷ second in
+    let P : Queue → Type 0 = λ os. AreWoven calling no_plans (record (in_call 3 ys) { owed = os }) first ahead in
+    let Q : Queue → Type 0 = λ os. AreWoven calling no_plans (record (in_call 4 zs) { owed = os }) second ahead in
+    let behind : Q (with_tick calling (place.entry 1) (suc (length zs)) []) = subst Q (sym (not_yet (place.entry 1) (length zs) (omega arith))) (refl, (refl, (refl, h))) in
+    (refl, (refl, subst P (sym (not_yet (place.entry 1) (length ys) (omega arith))) (refl, (refl, (refl, (refl, behind))))))
+
+turns_woven : (n : ℕ) (s : Spot) (ys : List Place) → length ys + (n + n + n) < 1000 → (more : List PartStep) (ahead : List Item)
+    → ((t : Spot) (zs : List Place) → length zs ≡ length ys + (n + n + n) → AreWoven calling no_plans (at_turn t zs) more ahead)
+    → AreWoven calling no_plans (at_turn s ys) (turns_of n more) ahead
+unfolding turns_of
+turns_woven zero s ys few more ahead h = h s ys (omega arith)
+turns_woven (suc n) s ys few more ahead h =
+    let zs : List Place = place.back_edge 2 ∷ place.entry 1 ∷ place.entry 1 ∷ ys in
+    let P : Queue → Type 0 = λ os. AreWoven calling no_plans (record (at_turn elsewhere zs) { owed = os }) (turns_of n more) ahead in
+    let ih : AreWoven calling no_plans (at_turn elsewhere zs) (turns_of n more) ahead = turns_woven n elsewhere zs (omega arith) more ahead (λ t us is. h t us (omega arith)) in
+    turn_woven s ys (omega arith) (turns_of n more) ahead (subst P (sym (not_yet (place.back_edge 2) (suc (suc (length ys))) (omega arith))) ih)
+
+-- the turn with the thousandth place, and the tick there
+abbrev with_first_tick : List PartStep
+with_first_tick = turns_of 1 (makes 2 (tick 3) ∷ [])
+
+first_tick : (ys : List Place) → length ys ≡ 997 → with_tick calling (place.back_edge 2) (suc (suc (suc (length ys)))) [] ≡ (2, tick 3) ∷ []
+first_tick ys is = if_true (suc (suc (suc (length ys))) == 1000) ((2, tick 3) ∷ []) [] (ap (λ n. suc (suc (suc n)) == 1000) is)
+
+tick_woven : (s : Spot) (ys : List Place) → length ys ≡ 997 → AreWoven calling no_plans (at_turn s ys) with_first_tick []
+tick_woven s ys is =
+    let zs : List Place = place.back_edge 2 ∷ place.entry 1 ∷ place.entry 1 ∷ ys in
+    let P : Queue → Type 0 = λ os. AreWoven calling no_plans (record (at_turn elsewhere zs) { owed = os }) (makes 2 (tick 3) ∷ []) [] in
+    turn_woven s ys (omega arith) (makes 2 (tick 3) ∷ []) [] (subst P (sym (first_tick ys is)) (refl, tt))
+
+one_more_turn : (n : ℕ) → items (turns_of n with_first_tick) ≡ items (turns_of (suc n) [])
+unfolding turns_of
+one_more_turn zero = refl
+one_more_turn (suc n) =
+    ap (λ is. begins 3 [] ∷ enter 1 [] ∷ out 1 ∷ done 3 ∷ begins 4 [] ∷ enter 1 [] ∷ out 1 ∷ done 4 ∷ edge 2 ∷ is) (one_more_turn n)
+
+abbrev calling_own : Own
+calling_own = an_own 1 0 [] (first_version ∷ []) (e.Begin 1 1 ∷ [])
+
+abbrev tick_steps : List PartStep
+tick_steps = goes (made 1 begin) ∷ goes (enter 0 []) ∷ goes (begins 2 []) ∷ turns_of 332 with_first_tick
+
+tick_told : told 1 tick_steps ≡ e.Begin 1 1 ∷ e.Tick 1 2 3 ∷ []
+tick_told = ap (◌∷◌ (e.Begin 1 1)) (turns_told 332 with_first_tick ∙ turns_told 1 (makes 2 (tick 3) ∷ []))
+
+-- The thousandth place is a back edge, and there the thread asks to tell the tick.
+asks_tick : AsksToMake calling no_plans calling_own 2 (tick 3)
+asks_tick = record {
+  steps = tick_steps;
+  ahead = [];
+  outcome = Open;
+  trace = subst (λ is. IsTrace calling 0 [] is Open) (sym (ap (λ is. made 1 begin ∷ enter 0 [] ∷ begins 2 [] ∷ is) (append_none (items (turns_of 332 with_first_tick)) ∙ one_more_turn 332)))
+      (calling_trace 333);
+  woven = ((refl, tt), (refl, (refl, turns_woven 332 (beginning 2 []) (place.entry 0 ∷ []) (omega arith) with_first_tick [] (λ s zs is. tick_woven s zs (omega arith)))));
+  tells = tick_told;
+  taken = walk_coming calling no_plans 1 (unborn (first_version ∷ [])) tick_steps ∙ ap (λ es. drop (takings es) (first_version ∷ [])) tick_told;
+}
+
+-- a thousand places behind that tick the next one is told, at the entry of a function
+abbrev pub tick_forgotten : List Entry
+tick_forgotten = e.Begin 1 1 ∷ e.Tick 1 7 7 ∷ []
+
+pub tick_forgotten_unlawful : IsLawful calling_setting tick_forgotten → ⊥
+tick_forgotten_unlawful h =
+    let xs : List Event = (event 1 1 begin ∷ []) in
+    let same : h.events ≡ xs = events_told h.events xs (ap (map event_of) h.tells) in
+    let P : List Event → Type 0 = λ ys. HasPart calling_setting tick_forgotten 1 (thread_at (replay (start calling 8) ys) 1) in
+    let part : AsksToMake calling no_plans calling_own 7 (tick 7) = subst P same (h.parts 1) in
+    let one = one_operation calling no_plans calling_own 2 7 (tick 3) (tick 7) refl refl asks_tick part in
+    let no : 2 ≡ 7 = one.0 in
+    cc
 
 -- A tick is told at the first turn of a loop.
 
@@ -215,6 +371,6 @@ pub tick_early_unlawful : IsLawful bare_setting tick_early → ⊥
 tick_early_unlawful h =
     let xs : List Event = (event 1 5 begin ∷ event 1 3 (read 0 (pos 0)) ∷ event 1 3 (write 0 (pos 1)) ∷ event 1 9 (read 0 (pos 1)) ∷ event 1 9 (write 0 (pos 2)) ∷ []) in
     let same : h.events ≡ xs = events_told h.events xs (ap (map event_of) h.tells) in
-    let P : List Event → Type 0 = λ ys. HasPart bare_setting tick_early 1 (thread_at (replay (start evacuated) ys) 1) in
+    let P : List Event → Type 0 = λ ys. HasPart bare_setting tick_early 1 (thread_at (replay (start evacuated 8) ys) 1) in
     let asks_tick : AsksToMake evacuated (plans bare_setting) early_own 7 (tick 7) = subst P same (h.parts 1) in
     no_split evacuated (plans bare_setting) early_own (r.Read 3 0) (record { line = 3; act = read 0 (pos 2) }) 7 (tick 7) asks_read (inl (pos 2, refl)) refl asks_tick

@@ -24,7 +24,7 @@ use Rattle.loom_law.proofs.Journals.{not_due, moves}
 -- An update is lost: both threads read before either writes.
 
 abbrev pub lost_setting : Setting
-lost_setting = record { program = adds; commands = []; limit = 100000; stop = stops.never }
+lost_setting = record { program = adds; commands = []; limit = 100000; threads = 8; stop = stops.never }
 
 abbrev pub lost_journal : List Entry
 lost_journal =
@@ -36,7 +36,7 @@ lost_events =
     event 1 5 begin ∷ event 1 6 (spawn 2 0 []) ∷ event 2 2 begin ∷ event 1 7 (read 0 (pos 0)) ∷ event 2 3 (read 0 (pos 0)) ∷ event 1 7 (write 0 (pos 1))
     ∷ event 2 3 (write 0 (pos 1)) ∷ event 2 2 end ∷ event 1 8 (join 2) ∷ event 1 9 (read 0 (pos 1)) ∷ event 1 9 (print (pos 1)) ∷ event 1 5 end ∷ []
 
-lost_ended : (t : ℕ) (x : ThreadState) → thread_at (replay (start adds) lost_events) t ≡ Some x → x.ended ≡ true
+lost_ended : (t : ℕ) (x : ThreadState) → thread_at (replay (start adds 8) lost_events) t ≡ Some x → x.ended ≡ true
 lost_ended zero x h = cc
 lost_ended (suc zero) x h = cc
 lost_ended (suc (suc zero)) x h = cc
@@ -53,7 +53,7 @@ lost_steps_1 =
 lost_trace_1 : IsTrace adds 1 [] (items lost_steps_1) Finished
 lost_trace_1 = record { most_turns = 0; gives = next (next (next (inr (given 2 (next (next (next (given (pos 0) (next (next (next (next (inr (next (next (next (given (pos 1) (next (next (next (next (next ((refl, inl refl)))))))))))))))))))))))) }
 
-pub lost_part_1 : HasPart lost_setting lost_journal 1 (thread_at (replay (start adds) lost_events) 1)
+pub lost_part_1 : HasPart lost_setting lost_journal 1 (thread_at (replay (start adds 8) lost_events) 1)
 lost_part_1 = record {
   steps = lost_steps_1;
   ahead = [];
@@ -72,7 +72,7 @@ lost_steps_2 =
 lost_trace_2 : IsTrace adds 0 [] (items lost_steps_2) Finished
 lost_trace_2 = record { most_turns = 0; gives = next (next (next (given (pos 0) (next (next (next (next (next ((refl, inl refl)))))))))) }
 
-pub lost_part_2 : HasPart lost_setting lost_journal 2 (thread_at (replay (start adds) lost_events) 2)
+pub lost_part_2 : HasPart lost_setting lost_journal 2 (thread_at (replay (start adds 8) lost_events) 2)
 lost_part_2 = record {
   steps = lost_steps_2;
   ahead = [];
@@ -83,15 +83,15 @@ lost_part_2 = record {
   taken = refl;
 }
 
-pub lost_parts : (t : ℕ) → HasPart lost_setting lost_journal t (thread_at (replay (start adds) lost_events) t)
+pub lost_parts : (t : ℕ) → HasPart lost_setting lost_journal t (thread_at (replay (start adds 8) lost_events) t)
 lost_parts zero = refl
 lost_parts (suc zero) = lost_part_1
 lost_parts (suc (suc zero)) = lost_part_2
 lost_parts (suc (suc (suc t))) = nothing_made 3 (suc (suc (suc t))) lost_journal (omega arith) refl
 
-lost_run : AreRun adds lost_events
+lost_run : AreRun adds 8 lost_events
 lost_run = record {
-  traced = threads_traced adds lost_events (record { items = items lost_steps_1; outcome = Finished; trace = lost_trace_1; same = refl }, (record { items = items lost_steps_2; outcome = Finished; trace = lost_trace_2; same = refl }, tt)) refl refl;
+  traced = threads_traced adds 8 lost_events (record { items = items lost_steps_1; outcome = Finished; trace = lost_trace_1; same = refl }, (record { items = items lost_steps_2; outcome = Finished; trace = lost_trace_2; same = refl }, tt)) refl refl;
   allowed =
       runs.begins refl refl (does refl (refl, omega arith) (runs.begins refl refl (does refl refl (does refl refl (does refl tt (does refl tt (does refl tt (does refl (record { state = _; is = refl; ended = refl }) (does refl refl (does refl tt (does refl tt (tt))))))))))));
 }
@@ -124,7 +124,7 @@ abbrev prints_one : List Entry → Bool
 prints_one es = list_any tells_one es
 
 abbrev pub stop_setting : Setting
-stop_setting = record { program = adds; commands = []; limit = 100000; stop = prints_one }
+stop_setting = record { program = adds; commands = []; limit = 100000; threads = 8; stop = prints_one }
 
 abbrev pub stop_journal : List Entry
 stop_journal =
@@ -146,7 +146,7 @@ stop_steps_1 =
 stop_trace_1 : IsTrace adds 1 [] (items stop_steps_1) Open
 stop_trace_1 = record { most_turns = 0; gives = next (next (next (inr (given 2 (next (next (next (given (pos 0) (next (next (next (next (inr (next (next (next (given (pos 1) (next (next (inl (refl, refl))))))))))))))))))))) }
 
-pub stop_part_1 : HasPart stop_setting stop_journal 1 (thread_at (replay (start adds) stop_events) 1)
+pub stop_part_1 : HasPart stop_setting stop_journal 1 (thread_at (replay (start adds 8) stop_events) 1)
 stop_part_1 = record {
   steps = stop_steps_1;
   ahead = [];
@@ -157,7 +157,7 @@ stop_part_1 = record {
   taken = refl;
 }
 
-pub stop_part_2 : HasPart stop_setting stop_journal 2 (thread_at (replay (start adds) stop_events) 2)
+pub stop_part_2 : HasPart stop_setting stop_journal 2 (thread_at (replay (start adds 8) stop_events) 2)
 stop_part_2 = record {
   steps = lost_steps_2;
   ahead = [];
@@ -168,15 +168,15 @@ stop_part_2 = record {
   taken = refl;
 }
 
-pub stop_parts : (t : ℕ) → HasPart stop_setting stop_journal t (thread_at (replay (start adds) stop_events) t)
+pub stop_parts : (t : ℕ) → HasPart stop_setting stop_journal t (thread_at (replay (start adds 8) stop_events) t)
 stop_parts zero = refl
 stop_parts (suc zero) = stop_part_1
 stop_parts (suc (suc zero)) = stop_part_2
 stop_parts (suc (suc (suc t))) = nothing_made 3 (suc (suc (suc t))) stop_journal (omega arith) refl
 
-stop_run : AreRun adds stop_events
+stop_run : AreRun adds 8 stop_events
 stop_run = record {
-  traced = threads_traced adds stop_events (record { items = items stop_steps_1; outcome = Open; trace = stop_trace_1; same = refl }, (record { items = items lost_steps_2; outcome = Finished; trace = lost_trace_2; same = refl }, tt)) refl refl;
+  traced = threads_traced adds 8 stop_events (record { items = items stop_steps_1; outcome = Open; trace = stop_trace_1; same = refl }, (record { items = items lost_steps_2; outcome = Finished; trace = lost_trace_2; same = refl }, tt)) refl refl;
   allowed =
       runs.begins refl refl (does refl (refl, omega arith) (runs.begins refl refl (does refl refl (does refl refl (does refl tt (does refl tt (does refl tt (does refl (record { state = _; is = refl; ended = refl }) (does refl refl (does refl tt (tt)))))))))));
 }
@@ -197,7 +197,7 @@ stop_lawful = record {
 -- Three thread entries and no more.
 
 abbrev pub limit_setting : Setting
-limit_setting = record { program = adds; commands = []; limit = 3; stop = stops.never }
+limit_setting = record { program = adds; commands = []; limit = 3; threads = 8; stop = stops.never }
 
 abbrev pub limit_journal : List Entry
 limit_journal =
@@ -214,7 +214,7 @@ limit_steps_1 =
 limit_trace_1 : IsTrace adds 1 [] (items limit_steps_1) Open
 limit_trace_1 = record { most_turns = 0; gives = next (next (next (inr (given 2 (next (inl (refl, refl))))))) }
 
-pub limit_part_1 : HasPart limit_setting limit_journal 1 (thread_at (replay (start adds) limit_events) 1)
+pub limit_part_1 : HasPart limit_setting limit_journal 1 (thread_at (replay (start adds 8) limit_events) 1)
 limit_part_1 = record {
   steps = limit_steps_1;
   ahead = [];
@@ -232,7 +232,7 @@ limit_steps_2 =
 limit_trace_2 : IsTrace adds 0 [] (items limit_steps_2) Open
 limit_trace_2 = record { most_turns = 0; gives = next (inl (refl, refl)) }
 
-pub limit_part_2 : HasPart limit_setting limit_journal 2 (thread_at (replay (start adds) limit_events) 2)
+pub limit_part_2 : HasPart limit_setting limit_journal 2 (thread_at (replay (start adds 8) limit_events) 2)
 limit_part_2 = record {
   steps = limit_steps_2;
   ahead = [];
@@ -243,15 +243,15 @@ limit_part_2 = record {
   taken = refl;
 }
 
-pub limit_parts : (t : ℕ) → HasPart limit_setting limit_journal t (thread_at (replay (start adds) limit_events) t)
+pub limit_parts : (t : ℕ) → HasPart limit_setting limit_journal t (thread_at (replay (start adds 8) limit_events) t)
 limit_parts zero = refl
 limit_parts (suc zero) = limit_part_1
 limit_parts (suc (suc zero)) = limit_part_2
 limit_parts (suc (suc (suc t))) = nothing_made 3 (suc (suc (suc t))) limit_journal (omega arith) refl
 
-limit_run : AreRun adds limit_events
+limit_run : AreRun adds 8 limit_events
 limit_run = record {
-  traced = threads_traced adds limit_events (record { items = items limit_steps_1; outcome = Open; trace = limit_trace_1; same = refl }, (record { items = items limit_steps_2; outcome = Open; trace = limit_trace_2; same = refl }, tt)) refl refl;
+  traced = threads_traced adds 8 limit_events (record { items = items limit_steps_1; outcome = Open; trace = limit_trace_1; same = refl }, (record { items = items limit_steps_2; outcome = Open; trace = limit_trace_2; same = refl }, tt)) refl refl;
   allowed =
       runs.begins refl refl (does refl (refl, omega arith) (runs.begins refl refl (tt)));
 }
@@ -273,7 +273,7 @@ limit_lawful = record {
 -- A thread waits for its own mutex.
 
 abbrev pub stuck_setting : Setting
-stuck_setting = record { program = locks; commands = []; limit = 100000; stop = stops.never }
+stuck_setting = record { program = locks; commands = []; limit = 100000; threads = 8; stop = stops.never }
 
 abbrev pub stuck_journal : List Entry
 stuck_journal =
@@ -283,7 +283,7 @@ abbrev stuck_events : List Event
 stuck_events =
     event 1 2 begin ∷ event 1 3 (lock 0) ∷ []
 
-stuck_lives : (t : ℕ) → Lives (replay (start locks) stuck_events) t
+stuck_lives : (t : ℕ) → Lives (replay (start locks 8) stuck_events) t
     → IsBlocked stuck_setting (front_at stuck_setting stuck_events (e.Begin 1 2 ∷ e.Lock 1 3 0 ∷ e.Blocked 1 4 (w.Lock 0) ∷ [])) t
     ⊎ IsHeldOff stuck_setting (front_at stuck_setting stuck_events (e.Begin 1 2 ∷ e.Lock 1 3 0 ∷ e.Blocked 1 4 (w.Lock 0) ∷ [])) t
 stuck_lives zero h = let no : None ≡ Some h.state = h.is in cc
@@ -304,7 +304,7 @@ stuck_trace_1 = record { most_turns = 0; gives = next (next (next (next (next (n
 stuck_ahead_1 : IsTrace locks 0 [] (items stuck_steps_1 ++ made 4 (lock 0) ∷ []) Open
 stuck_ahead_1 = record { most_turns = 0; gives = next (next (next (next (next (next (next (inl (refl, refl)))))))) }
 
-pub stuck_part_1 : HasPart stuck_setting stuck_journal 1 (thread_at (replay (start locks) stuck_events) 1)
+pub stuck_part_1 : HasPart stuck_setting stuck_journal 1 (thread_at (replay (start locks 8) stuck_events) 1)
 stuck_part_1 = record {
   steps = stuck_steps_1;
   ahead = made 4 (lock 0) ∷ [];
@@ -315,14 +315,14 @@ stuck_part_1 = record {
   taken = refl;
 }
 
-pub stuck_parts : (t : ℕ) → HasPart stuck_setting stuck_journal t (thread_at (replay (start locks) stuck_events) t)
+pub stuck_parts : (t : ℕ) → HasPart stuck_setting stuck_journal t (thread_at (replay (start locks 8) stuck_events) t)
 stuck_parts zero = refl
 stuck_parts (suc zero) = stuck_part_1
 stuck_parts (suc (suc t)) = nothing_made 2 (suc (suc t)) stuck_journal (omega arith) refl
 
-stuck_run : AreRun locks stuck_events
+stuck_run : AreRun locks 8 stuck_events
 stuck_run = record {
-  traced = threads_traced locks stuck_events (record { items = items stuck_steps_1; outcome = Open; trace = stuck_trace_1; same = refl }, tt) refl refl;
+  traced = threads_traced locks 8 stuck_events (record { items = items stuck_steps_1; outcome = Open; trace = stuck_trace_1; same = refl }, tt) refl refl;
   allowed =
       runs.begins refl refl (does refl refl (tt));
 }
@@ -357,7 +357,7 @@ divides = record {
 }
 
 abbrev pub trap_setting : Setting
-trap_setting = record { program = divides; commands = []; limit = 100000; stop = stops.never }
+trap_setting = record { program = divides; commands = []; limit = 100000; threads = 8; stop = stops.never }
 
 abbrev pub trap_journal : List Entry
 trap_journal =
@@ -367,7 +367,7 @@ abbrev trap_events : List Event
 trap_events =
     event 1 2 begin ∷ event 1 3 (read 0 (pos 0)) ∷ event 1 3 (trap division) ∷ event 1 2 end ∷ []
 
-trap_ended : (t : ℕ) (x : ThreadState) → thread_at (replay (start divides) trap_events) t ≡ Some x → x.ended ≡ true
+trap_ended : (t : ℕ) (x : ThreadState) → thread_at (replay (start divides 8) trap_events) t ≡ Some x → x.ended ≡ true
 trap_ended zero x h = cc
 trap_ended (suc zero) x h = cc
 trap_ended (suc (suc t)) x h = cc
@@ -379,7 +379,7 @@ trap_steps_1 =
 trap_trace_1 : IsTrace divides 0 [] (items trap_steps_1) Finished
 trap_trace_1 = record { most_turns = 0; gives = next (next (next (given (pos 0) (next (next (next ((refl, inl refl)))))))) }
 
-pub trap_part_1 : HasPart trap_setting trap_journal 1 (thread_at (replay (start divides) trap_events) 1)
+pub trap_part_1 : HasPart trap_setting trap_journal 1 (thread_at (replay (start divides 8) trap_events) 1)
 trap_part_1 = record {
   steps = trap_steps_1;
   ahead = [];
@@ -390,14 +390,14 @@ trap_part_1 = record {
   taken = refl;
 }
 
-pub trap_parts : (t : ℕ) → HasPart trap_setting trap_journal t (thread_at (replay (start divides) trap_events) t)
+pub trap_parts : (t : ℕ) → HasPart trap_setting trap_journal t (thread_at (replay (start divides 8) trap_events) t)
 trap_parts zero = refl
 trap_parts (suc zero) = trap_part_1
 trap_parts (suc (suc t)) = nothing_made 2 (suc (suc t)) trap_journal (omega arith) refl
 
-trap_run : AreRun divides trap_events
+trap_run : AreRun divides 8 trap_events
 trap_run = record {
-  traced = threads_traced divides trap_events (record { items = items trap_steps_1; outcome = Finished; trace = trap_trace_1; same = refl }, tt) refl refl;
+  traced = threads_traced divides 8 trap_events (record { items = items trap_steps_1; outcome = Finished; trace = trap_trace_1; same = refl }, tt) refl refl;
   allowed =
       runs.begins refl refl (does refl refl (does refl tt (does refl tt (tt))));
 }

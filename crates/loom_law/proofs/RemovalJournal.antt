@@ -58,7 +58,7 @@ removal_front =
     ∷ e.Enter 2 3 1 1 ∷ e.Begin 3 2 ∷ e.Print 1 12 (pos 1) ∷ e.At 2 3 1 (1 ∷ 2 ∷ []) ∷ e.Blocked 3 3 (w.Enter 1 1) ∷ e.Asked 2 ∷ e.Blocked 2 3 (w.Down 0) ∷ []
 
 abbrev pub removal_setting : Setting
-removal_setting = record { program = removal_program; commands = removal_commands; limit = 100000; stop = stops.never }
+removal_setting = record { program = removal_program; commands = removal_commands; limit = 100000; threads = 8; stop = stops.never }
 
 abbrev pub removal_journal : List Entry
 removal_journal =
@@ -73,7 +73,7 @@ removal_events =
     ∷ event 1 6 (up 0) ∷ event 2 3 (down 0) ∷ event 1 7 (up 0) ∷ event 2 2 end ∷ event 3 3 (down 0) ∷ event 1 14 (join 2) ∷ event 3 2 end
     ∷ event 1 15 (join 3) ∷ event 1 9 end ∷ []
 
-removal_ended : (t : ℕ) (x : ThreadState) → thread_at (replay (start removal_program) removal_events) t ≡ Some x → x.ended ≡ true
+removal_ended : (t : ℕ) (x : ThreadState) → thread_at (replay (start removal_program 8) removal_events) t ≡ Some x → x.ended ≡ true
 removal_ended zero x h = cc
 removal_ended (suc zero) x h = cc
 removal_ended (suc (suc zero)) x h = cc
@@ -85,7 +85,7 @@ removal_nowhere zero = refl
 removal_nowhere (suc zero) = refl
 removal_nowhere (suc (suc t)) = refl
 
-removal_outside : (t : ℕ) → IsOutside removal_setting (e.Asked 1 ∷ []) t (running_thread (thread_at (start removal_program) t)) (plan_of removal_program ((Clause.exclusive ((Region.between (record { file = (codes "hold.lm"); line = 3; test = None } ∷ []) (record { file = (codes "hold.lm"); line = 3; test = None } ∷ [])) ∷ [])) ∷ [])) nowhere
+removal_outside : (t : ℕ) → IsOutside removal_setting (e.Asked 1 ∷ []) t (running_thread (thread_at (start removal_program 8) t)) (plan_of removal_program ((Clause.exclusive ((Region.between (record { file = (codes "hold.lm"); line = 3; test = None } ∷ []) (record { file = (codes "hold.lm"); line = 3; test = None } ∷ [])) ∷ [])) ∷ [])) nowhere
 removal_outside zero = tt
 removal_outside (suc zero) = tt
 removal_outside (suc (suc t)) = tt
@@ -198,7 +198,7 @@ removal_steps_1 =
 removal_trace_1 : IsTrace removal_program 2 [] (items removal_steps_1) Finished
 removal_trace_1 = record { most_turns = 0; gives = next (next (next (inr (given 2 (next (next (next (inr (given 3 (next (next (next (next (next (next (next (next (inr (next (next (next (inr (next (next (next (next (next (inr (next (next (next (inr (next (next (next (next ((refl, inl refl)))))))))))))))))))))))))))))))))))))) }
 
-pub removal_part_1 : HasPart removal_setting removal_journal 1 (thread_at (replay (start removal_program) removal_events) 1)
+pub removal_part_1 : HasPart removal_setting removal_journal 1 (thread_at (replay (start removal_program 8) removal_events) 1)
 removal_part_1 = record {
   steps = removal_steps_1;
   ahead = [];
@@ -217,7 +217,7 @@ removal_steps_2 =
 removal_trace_2 : IsTrace removal_program 0 [] (items removal_steps_2) Finished
 removal_trace_2 = record { most_turns = 0; gives = next (next (next (next (next (next (next ((refl, inl refl)))))))) }
 
-pub removal_part_2 : HasPart removal_setting removal_journal 2 (thread_at (replay (start removal_program) removal_events) 2)
+pub removal_part_2 : HasPart removal_setting removal_journal 2 (thread_at (replay (start removal_program 8) removal_events) 2)
 removal_part_2 = record {
   steps = removal_steps_2;
   ahead = [];
@@ -236,7 +236,7 @@ removal_steps_3 =
 removal_trace_3 : IsTrace removal_program 0 [] (items removal_steps_3) Finished
 removal_trace_3 = record { most_turns = 0; gives = next (next (next (next (next (next (next ((refl, inl refl)))))))) }
 
-pub removal_part_3 : HasPart removal_setting removal_journal 3 (thread_at (replay (start removal_program) removal_events) 3)
+pub removal_part_3 : HasPart removal_setting removal_journal 3 (thread_at (replay (start removal_program 8) removal_events) 3)
 removal_part_3 = record {
   steps = removal_steps_3;
   ahead = [];
@@ -247,16 +247,16 @@ removal_part_3 = record {
   taken = refl;
 }
 
-pub removal_parts : (t : ℕ) → HasPart removal_setting removal_journal t (thread_at (replay (start removal_program) removal_events) t)
+pub removal_parts : (t : ℕ) → HasPart removal_setting removal_journal t (thread_at (replay (start removal_program 8) removal_events) t)
 removal_parts zero = refl
 removal_parts (suc zero) = removal_part_1
 removal_parts (suc (suc zero)) = removal_part_2
 removal_parts (suc (suc (suc zero))) = removal_part_3
 removal_parts (suc (suc (suc (suc t)))) = nothing_made 4 (suc (suc (suc (suc t)))) removal_journal (omega arith) refl
 
-removal_run : AreRun removal_program removal_events
+removal_run : AreRun removal_program 8 removal_events
 removal_run = record {
-  traced = threads_traced removal_program removal_events (record { items = items removal_steps_1; outcome = Finished; trace = removal_trace_1; same = refl }, (record { items = items removal_steps_2; outcome = Finished; trace = removal_trace_2; same = refl }, (record { items = items removal_steps_3; outcome = Finished; trace = removal_trace_3; same = refl }, tt))) refl refl;
+  traced = threads_traced removal_program 8 removal_events (record { items = items removal_steps_1; outcome = Finished; trace = removal_trace_1; same = refl }, (record { items = items removal_steps_2; outcome = Finished; trace = removal_trace_2; same = refl }, (record { items = items removal_steps_3; outcome = Finished; trace = removal_trace_3; same = refl }, tt))) refl refl;
   allowed =
       runs.begins refl refl (does refl (refl, omega arith) (runs.begins refl refl (does refl (refl, omega arith) (runs.begins refl refl (does refl tt (does refl (_, refl, omega arith) (does refl (0, refl) (does refl (_, refl, omega arith) (does refl tt (does refl (0, refl) (does refl (record { state = _; is = refl; ended = refl }) (does refl tt (does refl (record { state = _; is = refl; ended = refl }) (does refl tt (tt)))))))))))))));
 }

@@ -9,8 +9,8 @@ use Rattle.loom_trace.specs.declared.request.Request.TheVariants as r
 use Rattle.loom_lang.specs.Trace.{Act, trap, lock, down, join, Item, made, not_spawned, Open, IsTrace}
 use Rattle.loom_lang.specs.Acts.{Deed}
 use Rattle.loom_event.specs.Answer.{granted, trapped, IsBlockedFor}
-use Rattle.loom_law.specs.Walk.{Plans, blocked, Queue, PartStep, makes, items, Walk, unborn, walk_from, Acts, AsksFor, AreWoven}
-use Rattle.loom_law.specs.ThreadPart.{Own, walk_of, IsPart, with_entry, AsksToAct, GoesOn}
+use Rattle.loom_law.specs.Walk.{blocked, Queue, PartStep, makes, items, Walk, unborn, walk_from, Acts, AsksFor, AreWoven}
+use Rattle.loom_law.specs.ThreadPart.{Own, walk_of, with_entry, AsksToAct, GoesOn}
 use Rattle.loom_law.specs.TurnLaws.{blocked_behind, HasBlocks, HasSameRequest}
 use Rattle.loom_law.proofs.OnePart.{told_append}
 use Rattle.loom_law.proofs.Earlier.{items_ahead}

@@ -50,7 +50,7 @@ abbrev pub commands : List Command
 commands = record { trigger = script.at 0; name = codes "fix"; action = install (means (plan_of adds fix)) } ∷ []
 
 abbrev pub setting : Setting
-setting = record { program = adds; commands = commands; limit = 100000; stop = stops.never }
+setting = record { program = adds; commands = commands; limit = 100000; threads = 8; stop = stops.never }
 
 abbrev pub journal : List Entry
 journal =
@@ -211,7 +211,7 @@ events =
     ∷ event 2 3 (read 0 (pos 1)) ∷ event 2 3 (write 0 (pos 2)) ∷ event 2 2 end ∷ event 1 8 (join 2) ∷ event 1 9 (read 0 (pos 2))
     ∷ event 1 9 (print (pos 2)) ∷ event 1 5 end ∷ []
 
-pub all_parts : (t : ℕ) → HasPart setting journal t (thread_at (replay (start adds) events) t)
+pub all_parts : (t : ℕ) → HasPart setting journal t (thread_at (replay (start adds 8) events) t)
 all_parts zero = refl
 all_parts (suc zero) = main_part
 all_parts (suc (suc zero)) = add_part
@@ -253,7 +253,7 @@ stands_nowhere zero = refl
 stands_nowhere (suc zero) = refl
 stands_nowhere (suc (suc t)) = refl
 
-outside_first : (t : ℕ) → IsOutside setting (e.Asked 1 ∷ []) t (running_thread (thread_at (start adds) t)) (plan_of adds fix) nowhere
+outside_first : (t : ℕ) → IsOutside setting (e.Asked 1 ∷ []) t (running_thread (thread_at (start adds 8) t)) (plan_of adds fix) nowhere
 outside_first zero = tt
 outside_first (suc zero) = tt
 outside_first (suc (suc t)) = tt
@@ -271,7 +271,7 @@ installs = record {
   outside = outside_first;
 }
 
-all_ended : (t : ℕ) (x : ThreadState) → thread_at (replay (start adds) events) t ≡ Some x → x.ended ≡ true
+all_ended : (t : ℕ) (x : ThreadState) → thread_at (replay (start adds 8) events) t ≡ Some x → x.ended ≡ true
 all_ended zero x h = cc
 all_ended (suc zero) x h = cc
 all_ended (suc (suc zero)) x h = cc
@@ -295,9 +295,9 @@ main_traced = record { items = items main_steps; outcome = Finished; trace = mai
 add_traced : IsTraced adds 0 [] (deed 2 begin ∷ deed 3 (read 0 (pos 1)) ∷ deed 3 (write 0 (pos 2)) ∷ deed 2 end ∷ [])
 add_traced = record { items = items add_steps; outcome = Finished; trace = add_trace; same = refl }
 
-run : AreRun adds events
+run : AreRun adds 8 events
 run = record {
-  traced = threads_traced adds events (main_traced, (add_traced, tt)) refl refl;
+  traced = threads_traced adds 8 events (main_traced, (add_traced, tt)) refl refl;
   allowed =
       runs.begins refl refl (does refl (refl, omega arith) (runs.begins refl refl (does refl refl (does refl tt (does refl refl (does refl tt (does refl tt
       (does refl (record { state = _; is = refl; ended = refl }) (does refl refl (does refl tt (does refl tt tt)))))))))));
@@ -342,7 +342,7 @@ bare_journal =
 pub bare_is_unlawful : IsLawful setting bare_journal → ⊥
 bare_is_unlawful h =
     let same : h.events ≡ events = events_told h.events events (ap (map event_of) h.tells) in
-    let P : List Event → Type 0 = λ xs. HasPart setting bare_journal 1 (thread_at (replay (start adds) xs) 1) in
+    let P : List Event → Type 0 = λ xs. HasPart setting bare_journal 1 (thread_at (replay (start adds 8) xs) 1) in
     bare_is_no_part (subst P same (h.parts 1))
 
 -- No thread makes `Blocked` twice behind each other, and nothing of an order begins before what it follows

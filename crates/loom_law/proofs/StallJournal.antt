@@ -266,7 +266,7 @@ locking_is_unsafe = inl (record {
 -- The journal
 
 abbrev pub stall_setting : Setting
-stall_setting = record { program = parks; commands = stall_commands; limit = 100000; stop = stops.never }
+stall_setting = record { program = parks; commands = stall_commands; limit = 100000; threads = 8; stop = stops.never }
 
 abbrev pub stall_journal : List Entry
 stall_journal =
@@ -280,7 +280,7 @@ stall_events =
     ∷ event 1 16 (unlock 0) ∷ event 2 4 (lock 0) ∷ event 2 5 (write 0 (pos 1)) ∷ event 2 6 (unlock 0) ∷ event 2 3 end ∷ event 1 17 (join 2)
     ∷ event 1 8 end ∷ []
 
-stall_ended : (t : ℕ) (x : ThreadState) → thread_at (replay (start parks) stall_events) t ≡ Some x → x.ended ≡ true
+stall_ended : (t : ℕ) (x : ThreadState) → thread_at (replay (start parks 8) stall_events) t ≡ Some x → x.ended ≡ true
 stall_ended zero x h = cc
 stall_ended (suc zero) x h = cc
 stall_ended (suc (suc zero)) x h = cc
@@ -338,14 +338,14 @@ stall_stood (suc zero) = stall_at_1
 stall_stood (suc (suc zero)) = stall_at_2
 stall_stood (suc (suc (suc t))) = refl
 
-stall_waits : (t : ℕ) → Lives (replay (start parks) (take 5 stall_events)) t
+stall_waits : (t : ℕ) → Lives (replay (start parks 8) (take 5 stall_events)) t
     → IsFlagged stall_setting 1 (stall_place t) ⊎ (IsBlocked stall_setting (front_at stall_setting stall_events stall_front) t ⊎ IsHeldOff stall_setting (front_at stall_setting stall_events stall_front) t)
 stall_waits zero h = let no : None ≡ Some h.state = h.is in cc
 stall_waits (suc zero) h = inl (inr turn_is_safe)
 stall_waits (suc (suc zero)) h = inr (inl ((1, refl), refl))
 stall_waits (suc (suc (suc t))) h = let no : None ≡ Some h.state = h.is in cc
 
-stall_lowest : (t : ℕ) → Lives (replay (start parks) (take 5 stall_events)) t → t < 2 → IsFlagged stall_setting 1 (stall_place t)
+stall_lowest : (t : ℕ) → Lives (replay (start parks 8) (take 5 stall_events)) t → t < 2 → IsFlagged stall_setting 1 (stall_place t)
 stall_lowest zero h less = let no : None ≡ Some h.state = h.is in cc
 stall_lowest (suc zero) h less = inr turn_is_safe
 stall_lowest (suc (suc t)) h less = let no : ⊥ = omega arith in absurd no
@@ -379,7 +379,7 @@ stall_steps_1 =
 stall_trace_1 : IsTrace parks 1 [] (items stall_steps_1) Finished
 stall_trace_1 = record { most_turns = 3; gives = next (next (next (next (next (next (inr (given 2 (next (next (next (next (next (next (next (next (next (next (next (next (next (next (next (next (next (next (next (inr (next (next (next (inr (next (next (next (next (refl, inl refl)))))))))))))))))))))))))))))))))))) }
 
-pub stall_part_1 : HasPart stall_setting stall_journal 1 (thread_at (replay (start parks) stall_events) 1)
+pub stall_part_1 : HasPart stall_setting stall_journal 1 (thread_at (replay (start parks 8) stall_events) 1)
 stall_part_1 = record {
   steps = stall_steps_1;
   ahead = [];
@@ -399,7 +399,7 @@ stall_steps_2 =
 stall_trace_2 : IsTrace parks 0 [] (items stall_steps_2) Finished
 stall_trace_2 = record { most_turns = 0; gives = next (next (next (next (next (next (next (next (next (inr (next (next (next (next ((refl, inl refl))))))))))))))) }
 
-pub stall_part_2 : HasPart stall_setting stall_journal 2 (thread_at (replay (start parks) stall_events) 2)
+pub stall_part_2 : HasPart stall_setting stall_journal 2 (thread_at (replay (start parks 8) stall_events) 2)
 stall_part_2 = record {
   steps = stall_steps_2;
   ahead = [];
@@ -410,15 +410,15 @@ stall_part_2 = record {
   taken = refl;
 }
 
-pub stall_parts : (t : ℕ) → HasPart stall_setting stall_journal t (thread_at (replay (start parks) stall_events) t)
+pub stall_parts : (t : ℕ) → HasPart stall_setting stall_journal t (thread_at (replay (start parks 8) stall_events) t)
 stall_parts zero = refl
 stall_parts (suc zero) = stall_part_1
 stall_parts (suc (suc zero)) = stall_part_2
 stall_parts (suc (suc (suc t))) = nothing_made 3 (suc (suc (suc t))) stall_journal (omega arith) refl
 
-stall_run : AreRun parks stall_events
+stall_run : AreRun parks 8 stall_events
 stall_run = record {
-  traced = threads_traced parks stall_events (record { items = items stall_steps_1; outcome = Finished; trace = stall_trace_1; same = refl }, (record { items = items stall_steps_2; outcome = Finished; trace = stall_trace_2; same = refl }, tt)) refl refl;
+  traced = threads_traced parks 8 stall_events (record { items = items stall_steps_1; outcome = Finished; trace = stall_trace_1; same = refl }, (record { items = items stall_steps_2; outcome = Finished; trace = stall_trace_2; same = refl }, tt)) refl refl;
   allowed =
       runs.begins refl refl (does refl refl (does refl (refl, omega arith) (runs.begins refl refl (does refl tt (does refl tt (does refl refl (does refl refl (does refl tt (does refl refl (does refl tt (does refl (record { state = _; is = refl; ended = refl }) (does refl tt (tt)))))))))))));
 }

@@ -37,8 +37,8 @@ Stands s f x rest = StandsBy s f x rest (thread_of x)
 pub record IsStrict (s : Setting) (es : List Entry) : Type 0 where
   pub events : List Event
   pub tells : map entry_of events ≡ targets es
-  pub run : AreRun s.program events
-  pub parts : (t : ℕ) → HasPart s es t (thread_at (replay (start s.program) events) t)
+  pub run : AreRun s.program s.threads events
+  pub parts : (t : ℕ) → HasPart s es t (thread_at (replay (start s.program s.threads) events) t)
   pub stands : (front : List Entry) (x : Entry) (rest : List Entry) → es ≡ front ++ x ∷ rest → Stands s (front_at s events front) x rest
 
 -- Such a journal is lawful, and its entries balance

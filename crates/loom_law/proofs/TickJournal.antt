@@ -52,7 +52,7 @@ abbrev tick_commands : List Command
 tick_commands = record { trigger = script.at 9; name = codes "a"; action = remove } ∷ []
 
 abbrev pub tick_setting : Setting
-tick_setting = record { program = endless; commands = tick_commands; limit = 5; stop = stops.never }
+tick_setting = record { program = endless; commands = tick_commands; limit = 5; threads = 8; stop = stops.never }
 
 abbrev pub tick_journal : List Entry
 tick_journal = e.Begin 1 1 ∷ e.Tick 1 2 3 ∷ e.Tick 1 2 3 ∷ e.Tick 1 2 3 ∷ e.Tick 1 2 3 ∷ e.Unreached 1 ∷ e.Finish k.Limit ∷ []
@@ -229,7 +229,7 @@ TakesAll z = z.coming ≡ []
 three_taken : (ps : Plans) → TakesAll (walk_from endless ps (in_loop [] elsewhere []) three_more)
 three_taken ps = thousand_leads TakesAll ps (thousand (thousand [])) (thousand_leads TakesAll ps (thousand []) (thousand_leads TakesAll ps [] refl))
 
-tick_part : HasPart tick_setting tick_journal 1 (thread_at (replay (start endless) tick_events) 1)
+tick_part : HasPart tick_setting tick_journal 1 (thread_at (replay (start endless 8) tick_events) 1)
 tick_part = record {
   steps = tick_steps;
   ahead = [];
@@ -240,15 +240,15 @@ tick_part = record {
   taken = first_leads TakesAll (plans tick_setting) [] three_more (three_taken (plans tick_setting));
 }
 
-tick_parts : (t : ℕ) → HasPart tick_setting tick_journal t (thread_at (replay (start endless) tick_events) t)
+tick_parts : (t : ℕ) → HasPart tick_setting tick_journal t (thread_at (replay (start endless 8) tick_events) t)
 tick_parts zero = refl
 tick_parts (suc zero) = tick_part
 tick_parts (suc (suc t)) = nothing_made 2 (suc (suc t)) tick_journal (omega arith) refl
 
 -- the run, with any number of rounds
-loop_run : (n : ℕ) → AreRun endless tick_events
+loop_run : (n : ℕ) → AreRun endless 8 tick_events
 loop_run n = record {
-  traced = threads_traced endless tick_events (
+  traced = threads_traced endless 8 tick_events (
     record {
       items = made 1 begin ∷ enter 0 [] ∷ begins 2 [] ∷ items (rounds n []);
       outcome = Open;
@@ -290,6 +290,7 @@ loop_setting = record {
   program = endless;
   commands = record { trigger = script.at 1; name = codes "f"; action = install (means skip_plan) } ∷ [];
   limit = 3;
+  threads = 8;
   stop = stops.never;
 }
 
@@ -412,7 +413,7 @@ loop_flagged (suc (suc t)) = inl refl
 abbrev in_main : ThreadState
 in_main = record { func = 0; args = []; begun = true; ended = false }
 
-loop_outside : (t : ℕ) → IsOutside loop_setting loop_front t (running_thread (thread_at (replay (start endless) tick_events) t)) skip_plan (loop_place t)
+loop_outside : (t : ℕ) → IsOutside loop_setting loop_front t (running_thread (thread_at (replay (start endless 8) tick_events) t)) skip_plan (loop_place t)
 loop_outside zero = tt
 loop_outside (suc zero) = outside_where_flagged loop_setting (own loop_setting loop_front 1 in_main) skips turn (inr turn_is_safe)
 loop_outside (suc (suc t)) = tt
@@ -433,7 +434,7 @@ loop_installs = record {
 abbrev new_version : List Version
 new_version = record { number = 1; active = 1 ∷ [] } ∷ []
 
-loop_part : HasPart loop_setting loop_journal 1 (thread_at (replay (start endless) tick_events) 1)
+loop_part : HasPart loop_setting loop_journal 1 (thread_at (replay (start endless 8) tick_events) 1)
 loop_part = record {
   steps = loop_steps with_cross;
   ahead = edge 2 ∷ [];
@@ -454,7 +455,7 @@ loop_part = record {
   taken = first_leads TakesAll (plans loop_setting) new_version with_cross refl;
 }
 
-loop_parts : (t : ℕ) → HasPart loop_setting loop_journal t (thread_at (replay (start endless) tick_events) t)
+loop_parts : (t : ℕ) → HasPart loop_setting loop_journal t (thread_at (replay (start endless 8) tick_events) t)
 loop_parts zero = refl
 loop_parts (suc zero) = loop_part
 loop_parts (suc (suc t)) = nothing_made 2 (suc (suc t)) loop_journal (omega arith) refl

@@ -13,7 +13,6 @@ use Rattle.loom_lang.proofs.NextAct.{one_next_act}
 use Rattle.loom_event.specs.Event.{Event, entry_by, entry_of, is_target, targets, deeds}
 use Rattle.loom_event.specs.Entries.{thread_of, is_thread}
 use Rattle.loom_event.specs.Replay.{ThreadState, Store, new_thread, main_thread, start, thread_at, IsAllowedAct, IsAllowed, with_thread, after_act, replay, AreAllowed}
-use Rattle.loom_trace.specs.Limits.{thread_limit}
 use Rattle.loom_event.specs.Replay as law
 use Rattle.loom_event.specs.Run.{IsTraced, IsThreadTraced, AreRun}
 use Rattle.loom_law.specs.Walk.{Version, Plans, Operation, wait, enters, at, past, post, leave, back, tick, cross, blocked, PartStep, goes, makes, items, told, entry_of_operation, Walk, unborn, holds, without_first, taking, behind_entry, crossing, filter_of, after, walk_from, Owes, first_number, MayCross, MayStand, AreWoven}
@@ -160,7 +159,7 @@ acts_append (out f ∷ is) js = acts_append is js
 
 -- Runs with one more event
 
-own_traced : (s : Setting) (es : List Entry) (h : IsStrict s es) (y : Event) (z : ThreadState) → thread_at (replay (start s.program) h.events) y.thread ≡ Some z
+own_traced : (s : Setting) (es : List Entry) (h : IsStrict s es) (y : Event) (z : ThreadState) → thread_at (replay (start s.program s.threads) h.events) y.thread ≡ Some z
     → (part : IsPart s.program (plans s) (own_with s es y.thread z (entry_of y))) (before : List PartStep) → part.steps ≡ before ++ goes (made y.line y.act) ∷ []
     → IsTraced s.program z.func z.args (deeds y.thread h.events ++ record { line = y.line; act = y.act } ∷ [])
 own_traced s es h y z there part before is =
@@ -211,23 +210,23 @@ deeds_others t xs y h =
     deeds_append t xs (y ∷ [])
     ∙ (ap (λ ds. deeds t xs ++ ds) (if_false (y.thread == t) (record { line = y.line; act = y.act } ∷ []) [] h) ∙ append_none (deeds t xs))
 
-keeps_threads : (p : Source) (xs : List Event) (y : Event) (u : ℕ) → IsOf (thread_at (replay (start p) xs) u) (thread_at (replay (start p) (xs ++ y ∷ [])) u)
-keeps_threads p xs y u =
-    subst (λ st. IsOf (thread_at (replay (start p) xs) u) (thread_at st u)) (sym (replay_append (start p) xs (y ∷ []))) (act_keeps (replay (start p) xs) y.thread y.act u)
+keeps_threads : (p : Source) (most : ℕ) (xs : List Event) (y : Event) (u : ℕ) → IsOf (thread_at (replay (start p most) xs) u) (thread_at (replay (start p most) (xs ++ y ∷ [])) u)
+keeps_threads p most xs y u =
+    subst (λ st. IsOf (thread_at (replay (start p most) xs) u) (thread_at st u)) (sym (replay_append (start p most) xs (y ∷ []))) (act_keeps (replay (start p most) xs) y.thread y.act u)
 
-longer_run : (p : Source) (xs : List Event) (y : Event) (z : ThreadState) → AreRun p xs → thread_at (replay (start p) xs) y.thread ≡ Some z → IsAllowed (replay (start p) xs) y
-    → IsTraced p z.func z.args (deeds y.thread xs ++ record { line = y.line; act = y.act } ∷ []) → AreRun p (xs ++ y ∷ [])
-longer_run p xs y z run there ok traced = record {
-  traced = λ u. by_test (y.thread == u) (IsThreadTraced p (xs ++ y ∷ []) u (thread_at (replay (start p) (xs ++ y ∷ [])) u))
+longer_run : (p : Source) (most : ℕ) (xs : List Event) (y : Event) (z : ThreadState) → AreRun p most xs → thread_at (replay (start p most) xs) y.thread ≡ Some z → IsAllowed (replay (start p most) xs) y
+    → IsTraced p z.func z.args (deeds y.thread xs ++ record { line = y.line; act = y.act } ∷ []) → AreRun p most (xs ++ y ∷ [])
+longer_run p most xs y z run there ok traced = record {
+  traced = λ u. by_test (y.thread == u) (IsThreadTraced p (xs ++ y ∷ []) u (thread_at (replay (start p most) (xs ++ y ∷ [])) u))
       (λ b.
-      subst (λ v. IsThreadTraced p (xs ++ y ∷ []) v (thread_at (replay (start p) (xs ++ y ∷ [])) v)) (same_number y.thread u b)
-      (same_traced p (xs ++ y ∷ []) y.thread (deeds y.thread xs ++ record { line = y.line; act = y.act } ∷ []) z (thread_at (replay (start p) (xs ++ y ∷ [])) y.thread)
-      (subst (λ o. IsOf o (thread_at (replay (start p) (xs ++ y ∷ [])) y.thread)) there (keeps_threads p xs y y.thread))
+      subst (λ v. IsThreadTraced p (xs ++ y ∷ []) v (thread_at (replay (start p most) (xs ++ y ∷ [])) v)) (same_number y.thread u b)
+      (same_traced p (xs ++ y ∷ []) y.thread (deeds y.thread xs ++ record { line = y.line; act = y.act } ∷ []) z (thread_at (replay (start p most) (xs ++ y ∷ [])) y.thread)
+      (subst (λ o. IsOf o (thread_at (replay (start p most) (xs ++ y ∷ [])) y.thread)) there (keeps_threads p most xs y y.thread))
       (deeds_last y.thread xs y (eq_same y.thread)) traced))
       (λ b.
-      others_traced p xs (xs ++ y ∷ []) u (thread_at (replay (start p) xs) u) (thread_at (replay (start p) (xs ++ y ∷ [])) u) (keeps_threads p xs y u)
+      others_traced p xs (xs ++ y ∷ []) u (thread_at (replay (start p most) xs) u) (thread_at (replay (start p most) (xs ++ y ∷ [])) u) (keeps_threads p most xs y u)
       (deeds_others u xs y b) (run.traced u));
-  allowed = allowed_append (start p) xs y run.allowed ok;
+  allowed = allowed_append (start p most) xs y run.allowed ok;
 }
 
 -- The versions that are still to come
@@ -415,15 +414,16 @@ turn_moves s es xs t x step m of tells = record {
 }
 
 pub event_turns : (s : Setting) (es : List Entry) (h : IsStrict s es) → IsUnfinished es
-    → (y : Event) → MayTurn s es h.events y.thread (entry_of y) (goes (made y.line y.act)) → IsAllowed (replay (start s.program) h.events) y
+    → (y : Event) → MayTurn s es h.events y.thread (entry_of y) (goes (made y.line y.act)) → IsAllowed (replay (start s.program s.threads) h.events) y
     → (h' : IsStrict s (es ++ entry_of y ∷ [])) × (h'.events ≡ h.events ++ y ∷ [])
 event_turns s es h open_ y m ok =
     let p : Source = s.program in
     let x : Entry = entry_of y in
     let of : thread_of x ≡ Some y.thread = entry_thread y.thread y.line y.act in
     longer s es h x (h.events ++ y ∷ []) (y ∷ []) refl open_ (sym (if_true (is_target x) (x ∷ []) [] (act_target y.thread y.line y.act)))
-    (longer_run p h.events y m.state h.run m.there ok (own_traced s es h y m.state m.there m.part m.before m.last))
-    (turn_parts s es (replay (start p) h.events) x y.thread m.state h.parts of m.there m.part (replay (start p) (h.events ++ y ∷ [])) (keeps_threads p h.events y))
+    (longer_run p s.threads h.events y m.state h.run m.there ok (own_traced s es h y m.state m.there m.part m.before m.last))
+    (turn_parts s es (replay (start p s.threads) h.events) x y.thread m.state h.parts of m.there m.part (replay (start p s.threads) (h.events ++ y ∷ []))
+    (keeps_threads p s.threads h.events y))
     (event_stands s (front_of s es h.events) y.thread y.line y.act (turn_moves s es h.events y.thread x (goes (made y.line y.act)) m of refl)
     (act_free s es h y.thread y.line y.act m.state m.part m.before m.last))
 
@@ -532,9 +532,20 @@ last_length : {A : Type 0} (xs : List A) (x : A) → length (xs ++ x ∷ []) ≡
 last_length [] x = refl
 last_length (y ∷ xs) x = ap suc (last_length xs x)
 
-few_behind : (s : Store) (u : ℕ) (a : Act) → IsAllowedAct s u a → length s.spawned ≤ thread_limit → length (Store.spawned (after_act s u a)) ≤ thread_limit
-few_behind s u begin h n = subst (λ m. m ≤ thread_limit) (sym (with_thread_length s u (λ x. record x { begun = true }))) n
-few_behind s u end h n = subst (λ m. m ≤ thread_limit) (sym (with_thread_length s u (λ x. record x { ended = true }))) n
+-- there are no more threads than there may be
+abbrev AreFew : Store → Type 0
+AreFew s = length s.spawned ≤ s.most
+
+with_thread_most : (s : Store) (u : ℕ) (f : ThreadState → ThreadState) → Store.most (with_thread s u f) ≡ s.most
+with_thread_most s zero f = refl
+with_thread_most s (suc n) f = refl
+
+few_with : (s : Store) (u : ℕ) (f : ThreadState → ThreadState) → AreFew s → AreFew (with_thread s u f)
+few_with s u f n = omega (arith, with_thread_length s u f, with_thread_most s u f)
+
+few_behind : (s : Store) (u : ℕ) (a : Act) → IsAllowedAct s u a → AreFew s → AreFew (after_act s u a)
+few_behind s u begin h n = few_with s u (λ x. record x { begun = true }) n
+few_behind s u end h n = few_with s u (λ x. record x { ended = true }) n
 few_behind s u (trap c) h n = n
 few_behind s u (read x v) h n = n
 few_behind s u (write x v) h n = n
@@ -544,24 +555,45 @@ few_behind s u (down m) h n = n
 few_behind s u (up m) h n = n
 few_behind s u (spawn c f vs) h n =
     let is : c ≡ length s.spawned + 1 = h.1.0 in
-    let most : c ≤ thread_limit = h.1.1 in
-    let few : suc (length s.spawned) ≤ thread_limit = omega arith in
-    subst (λ m. m ≤ thread_limit) (sym (last_length s.spawned (new_thread f vs))) few
+    let most : c ≤ s.most = h.1.1 in
+    let few : suc (length s.spawned) ≤ s.most = omega arith in
+    subst (λ m. m ≤ s.most) (sym (last_length s.spawned (new_thread f vs))) few
 few_behind s u (join c) h n = n
 few_behind s u (print v) h n = n
 
-few_along : (s : Store) (xs : List Event) → AreAllowed s xs → length s.spawned ≤ thread_limit → length (Store.spawned (replay s xs)) ≤ thread_limit
+few_along : (s : Store) (xs : List Event) → AreAllowed s xs → AreFew s → AreFew (replay s xs)
 few_along s [] h n = n
 few_along s (x ∷ xs) h n = few_along (law.after_event s x) xs h.1 (few_behind s x.thread x.act h.0 n)
 
-few_first : (o : Option ℕ) → length (main_thread o) ≤ thread_limit
-few_first None = omega arith
-few_first (Some f) = omega arith
+act_most : (s : Store) (u : ℕ) (a : Act) → Store.most (after_act s u a) ≡ s.most
+act_most s u begin = with_thread_most s u (λ x. record x { begun = true })
+act_most s u end = with_thread_most s u (λ x. record x { ended = true })
+act_most s u (trap c) = refl
+act_most s u (read x v) = refl
+act_most s u (write x v) = refl
+act_most s u (lock m) = refl
+act_most s u (unlock m) = refl
+act_most s u (down m) = refl
+act_most s u (up m) = refl
+act_most s u (spawn c f vs) = refl
+act_most s u (join c) = refl
+act_most s u (print v) = refl
 
-thread_small : (p : Source) (xs : List Event) (i : ℕ) (z : ThreadState) → AreAllowed (start p) xs → thread_at (replay (start p) xs) (suc i) ≡ Some z → i < thread_limit
-thread_small p xs i z ok there =
-    let few : length (Store.spawned (replay (start p) xs)) ≤ thread_limit = few_along (start p) xs ok (few_first (function_number p (codes "main"))) in
-    let small : i < length (Store.spawned (replay (start p) xs)) = slice_small (Store.spawned (replay (start p) xs)) i z there in
+pub replay_most : (s : Store) (xs : List Event) → Store.most (replay s xs) ≡ s.most
+replay_most s [] = refl
+replay_most s (x ∷ xs) = replay_most (law.after_event s x) xs ∙ act_most s x.thread x.act
+
+few_first : (most : ℕ) (o : Option ℕ) → length (main_thread most o) ≤ most
+few_first most None = omega arith
+few_first zero (Some f) = omega arith
+few_first (suc n) (Some f) = omega arith
+
+thread_small : (p : Source) (most : ℕ) (xs : List Event) (i : ℕ) (z : ThreadState) → AreAllowed (start p most) xs → thread_at (replay (start p most) xs) (suc i) ≡ Some z → i < most
+thread_small p most xs i z ok there =
+    let few : length (Store.spawned (replay (start p most) xs)) ≤ Store.most (replay (start p most) xs) =
+    few_along (start p most) xs ok (few_first most (function_number p (codes "main"))) in
+    let small : i < length (Store.spawned (replay (start p most) xs)) = slice_small (Store.spawned (replay (start p most) xs)) i z there in
+    let same : Store.most (replay (start p most) xs) ≡ most = replay_most (start p most) xs in
     omega arith
 
 -- Operations
@@ -586,7 +618,7 @@ MakesOp s es t z l o = IsPart s.program (plans s) (an_own t z.func z.args (versi
 abbrev IsOwed : ℕ → Operation → Type 0
 IsOwed l o = (p : Source) (z : Walk) (rest : List Item) → MayStand p z (makes l o) rest → Owes z.owed l o
 
-op_installed : (s : Setting) (es : List Entry) (h : IsStrict s es) (i l : ℕ) (o : Operation) (z : ThreadState) (k : ℕ) → thread_at (replay (start s.program) h.events) (suc i) ≡ Some z
+op_installed : (s : Setting) (es : List Entry) (h : IsStrict s es) (i l : ℕ) (o : Operation) (z : ThreadState) (k : ℕ) → thread_at (replay (start s.program s.threads) h.events) (suc i) ≡ Some z
     → MakesOp s es (suc i) z l o → owes_cross (entry_of_operation (suc i) l o) (listed_places (suc i) es) ≡ false → filter_of o ≡ Some k → IsOwed l o
     → is_installed (control s.commands es) k ≡ true
 op_installed s es h i l o z k there part none f owed =
@@ -594,10 +626,10 @@ op_installed s es h i l o z k there part none f owed =
     let n : takings (entries_of t es) ≡ length (versions_of s.commands t es) = takings_taken s.commands t first_control es in
     let b : FrontPart s.program (plans s) (own s es t z) l o = front_part s.program (plans s) t z.func z.args (versions_of s.commands t es) (entries_of t es) l o n part in
     let begun = has_begun s.program (plans s) t z.func z.args (versions_of s.commands t es) (entries_of t es) l o part in
-    owed_installed s es [] (subst (IsStrict s) (sym (append_none es)) h) i (thread_small s.program h.events i z h.run.allowed there) z b.part begun.0 begun.1.0 begun.1.1
+    owed_installed s es [] (subst (IsStrict s) (sym (append_none es)) h) i (thread_small s.program s.threads h.events i z h.run.allowed there) z b.part begun.0 begun.1.0 begun.1.1
     (op_owes t l o (listed_places t es) none) l o k (owed s.program (walk_of s.program (plans s) (own s es t z) b.part.steps) b.rest b.stands) f
 
-leave_held : (s : Setting) (es : List Entry) (h : IsStrict s es) (i l k c : ℕ) (z : ThreadState) → thread_at (replay (start s.program) h.events) (suc i) ≡ Some z
+leave_held : (s : Setting) (es : List Entry) (h : IsStrict s es) (i l k c : ℕ) (z : ThreadState) → thread_at (replay (start s.program s.threads) h.events) (suc i) ≡ Some z
     → MakesOp s es (suc i) z l (leave k c) → owes_cross (e.Leave (suc i) l k c) (listed_places (suc i) es) ≡ false → is_held_by (control s.commands es) k c (suc i) ≡ true
 leave_held s es h i l k c z there part none =
     let t : ℕ = suc i in
@@ -605,7 +637,7 @@ leave_held s es h i l k c z there part none =
     let b : FrontPart s.program (plans s) (own s es t z) l (leave k c) =
     front_part s.program (plans s) t z.func z.args (versions_of s.commands t es) (entries_of t es) l (leave k c) n part in
     let begun = has_begun s.program (plans s) t z.func z.args (versions_of s.commands t es) (entries_of t es) l (leave k c) part in
-    right_leaves s es [] (subst (IsStrict s) (sym (append_none es)) h) i (thread_small s.program h.events i z h.run.allowed there) z b.part begun.0 begun.1.0 begun.1.1
+    right_leaves s es [] (subst (IsStrict s) (sym (append_none es)) h) i (thread_small s.program s.threads h.events i z h.run.allowed there) z b.part begun.0 begun.1.0 begun.1.1
     (op_owes t l (leave k c) (listed_places t es) none) l k c b.stands
 
 -- The version of a `Cross`
@@ -623,7 +655,7 @@ cross_version p plans t f args vs v es l x n m few h =
     let same : Some v.number ≡ Some n = ap first_number (sym coming) ∙ stands.version in
     cc
 
-op_stands : (s : Setting) (es : List Entry) (h : IsStrict s es) (i l : ℕ) (o : Operation) (z : ThreadState) → thread_at (replay (start s.program) h.events) (suc i) ≡ Some z
+op_stands : (s : Setting) (es : List Entry) (h : IsStrict s es) (i l : ℕ) (o : Operation) (z : ThreadState) → thread_at (replay (start s.program s.threads) h.events) (suc i) ≡ Some z
     → IsPart s.program (plans s) (own_with s es (suc i) z (entry_of_operation (suc i) l o)) → MayMove s (front_of s es h.events) (suc i) (entry_of_operation (suc i) l o)
     → Permits s (front_of s es h.events) (entry_of_operation (suc i) l o) → Stands s (front_of s es h.events) (entry_of_operation (suc i) l o) []
 op_stands s es h i l (wait k n) z there part m needs = (m, (op_installed s es h i l (wait k n) z k there part (sym m.crosses) refl (λ p w rest g. g), needs))
@@ -644,7 +676,7 @@ op_stands s es h i l (cross x v n) z there part m needs = (
 )
 op_stands s es h i l (blocked what) z there part m needs = (m, needs)
 
-pub some_thread : (s : Setting) (es : List Entry) (h : IsStrict s es) (t l : ℕ) (o : Operation) (z : ThreadState) → thread_at (replay (start s.program) h.events) t ≡ Some z
+pub some_thread : (s : Setting) (es : List Entry) (h : IsStrict s es) (t l : ℕ) (o : Operation) (z : ThreadState) → thread_at (replay (start s.program s.threads) h.events) t ≡ Some z
     → IsPart s.program (plans s) (own_with s es t z (entry_of_operation t l o)) → MayMove s (front_of s es h.events) t (entry_of_operation t l o)
     → Permits s (front_of s es h.events) (entry_of_operation t l o) → Stands s (front_of s es h.events) (entry_of_operation t l o) []
 some_thread s es h zero l o z there part moves needs = cc
@@ -654,7 +686,7 @@ pub operation_turns : (s : Setting) (es : List Entry) (h : IsStrict s es) → Is
     → (t l : ℕ) (o : Operation) → MayTurn s es h.events t (entry_of_operation t l o) (makes l o)
     → (h' : IsStrict s (es ++ entry_of_operation t l o ∷ [])) × (h'.events ≡ h.events)
 operation_turns s es h open_ t l o m =
-    let st : Store = replay (start s.program) h.events in
+    let st : Store = replay (start s.program s.threads) h.events in
     let x : Entry = entry_of_operation t l o in
     let of : thread_of x ≡ Some t = op_thread t l o in
     longer s es h x h.events [] (sym (append_none h.events)) open_ (sym (if_false (is_target x) (x ∷ []) [] (op_no_target t l o))) h.run

@@ -11,7 +11,6 @@ use Rattle.loom_trace.specs.declared.entry.What.TheVariants as w
 use Rattle.loom_lang.specs.Places.{Place, nowhere, line_of_place}
 use Rattle.loom_event.specs.Event.{Event, entry_of, targets}
 use Rattle.loom_event.specs.Replay.{ThreadState, Store, start, thread_at, replay, IsDisabled, AllEnded}
-use Rattle.loom_trace.specs.Limits.{thread_limit}
 use Rattle.loom_event.specs.Run.{AreRun}
 use Rattle.loom_event.specs.Entries.{thread_of, thread_entries, last_of_thread, is_stopped, is_over, is_at_limit}
 use Rattle.loom_law.specs.Filter.{Plan, numbers, is_alone, before_in, has}
@@ -28,6 +27,8 @@ pub record Setting : Type 0 where
   pub commands : List Command
   -- how many entries threads may make
   pub limit : ℕ
+  -- how many threads there may be
+  pub threads : ℕ
   -- the stop test, of the entries so far
   pub stop : List Entry → Bool
 
@@ -38,7 +39,7 @@ pub record Front : Type 0 where
   pub control : Control
 
 abbrev pub front_of : Setting → List Entry → List Event → Front
-front_of s es xs = record { entries = es; store = replay (start s.program) xs; control = control s.commands es }
+front_of s es xs = record { entries = es; store = replay (start s.program s.threads) xs; control = control s.commands es }
 
 -- the end of the front of a journal that tells these events
 abbrev pub front_at : Setting → List Event → List Entry → Front
@@ -187,9 +188,9 @@ abbrev pub IsOutside : Setting → List Entry → ℕ → Option ThreadState →
 IsOutside s es t None g y = Unit {0}
 IsOutside s es t (Some x) g y = SeesNothing s (own s es t x) g y
 
--- the row lists for each thread a flagged place at which it stands
+-- the row lists for each thread that there may be a flagged place at which it stands
 pub record ListsPlaces (s : Setting) (f : Front) (k : ℕ) (row : List ℕ) : Type 0 where
-  pub count : length row ≡ thread_limit
+  pub count : length row ≡ s.threads
   pub place : ℕ → Place
   pub are : row ≡ map (λ t. place_number s.program (place t)) (numbers 1 row)
   pub stands : (t : ℕ) → StandsAt s f t (place t)
@@ -364,13 +365,13 @@ pub record IsObeyed (s : Setting) (f : Front) (x : Entry) : Type 0 where
 
 -- Lawful journals
 
--- The journal is lawful for a program, a list of commands, a limit of thread entries and a stop test.
+-- The journal is lawful for a program, a list of commands, a limit of thread entries, a number of threads and a stop test.
 pub record IsLawful (s : Setting) (es : List Entry) : Type 0 where
   -- its target entries are a run of the program
   pub events : List Event
   pub tells : map entry_of events ≡ targets es
-  pub run : AreRun s.program events
+  pub run : AreRun s.program s.threads events
   -- each thread has its full part
-  pub parts : (t : ℕ) → HasPart s es t (thread_at (replay (start s.program) events) t)
+  pub parts : (t : ℕ) → HasPart s es t (thread_at (replay (start s.program s.threads) events) t)
   -- each entry follows those before it
   pub follows : (front : List Entry) (x : Entry) (rest : List Entry) → es ≡ front ++ x ∷ rest → MayFollow s (front_at s events front) x rest

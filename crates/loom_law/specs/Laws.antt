@@ -16,7 +16,6 @@ use Rattle.loom_law.specs.FilterView.{IsClear, view_behind}
 use Rattle.loom_law.specs.Paths.{IsUnsafe}
 use Rattle.loom_event.specs.Event.{Event, entry_of}
 use Rattle.loom_event.specs.Replay.{ThreadState, start, thread_at, replay, IsAllowed}
-use Rattle.loom_trace.specs.Limits.{thread_limit}
 use Rattle.loom_event.specs.Entries.{thread_of, IsFinished}
 use Rattle.loom_law.specs.Judgement.{IsJudged, IsCommandList}
 use Rattle.loom_law.specs.Control.{Holder, Judgement, Command, Control, control, versions_of, entries_of, listed_places, since_asked, is_post, is_past}
@@ -112,7 +111,7 @@ IsAlwaysBalanced = (s : Setting) (es : List Entry) (h : IsLawful s es) (front : 
 
 -- A thread that made an entry, and for which no new version is listed behind its last one, has the newest version.
 abbrev pub HasNewest : Type 0
-HasNewest = (s : Setting) (front rest : List Entry) → IsLawful s (front ++ rest) → (i : ℕ) → i < thread_limit → (x : ThreadState)
+HasNewest = (s : Setting) (front rest : List Entry) → IsLawful s (front ++ rest) → (i : ℕ) → i < s.threads → (x : ThreadState)
     (h : IsPart s.program (plans s) (own s front (suc i) x)) (y : Entry) (ys : List Entry) → entries_of (suc i) front ≡ y ∷ ys → listed_places (suc i) front ≡ []
     → (walk_of s.program (plans s) (own s front (suc i) x) h.steps).active ≡ Version.active (control s.commands front).version
 
@@ -123,7 +122,7 @@ HasOwedActive = (p : Source) (plans : Plans) (x : Own) (h : IsPart p plans x) (l
 
 -- So it is of an installed filter, where no new version is listed for the thread.
 abbrev pub HasOwedInstalled : Type 0
-HasOwedInstalled = (s : Setting) (front rest : List Entry) → IsLawful s (front ++ rest) → (i : ℕ) → i < thread_limit → (x : ThreadState)
+HasOwedInstalled = (s : Setting) (front rest : List Entry) → IsLawful s (front ++ rest) → (i : ℕ) → i < s.threads → (x : ThreadState)
     (h : IsPart s.program (plans s) (own s front (suc i) x)) (y : Entry) (ys : List Entry) → entries_of (suc i) front ≡ y ∷ ys → listed_places (suc i) front ≡ []
     → (l : ℕ) (o : Operation) (k : ℕ) → Owes (walk_of s.program (plans s) (own s front (suc i) x) h.steps).owed l o → filter_of o ≡ Some k
     → is_installed (control s.commands front) k ≡ true
@@ -144,7 +143,7 @@ HasHeldLeaves = (p : Source) (plans : Plans) (x : Own) (h : IsPart p plans x) �
 
 -- The journal says so too, where no new version is listed for the thread.
 abbrev pub HasRightLeaves : Type 0
-HasRightLeaves = (s : Setting) (front rest : List Entry) → IsLawful s (front ++ rest) → (i : ℕ) → i < thread_limit → (x : ThreadState)
+HasRightLeaves = (s : Setting) (front rest : List Entry) → IsLawful s (front ++ rest) → (i : ℕ) → i < s.threads → (x : ThreadState)
     (h : IsPart s.program (plans s) (own s front (suc i) x)) (y : Entry) (ys : List Entry) → entries_of (suc i) front ≡ y ∷ ys → listed_places (suc i) front ≡ []
     → (l k c : ℕ) → Owes (walk_of s.program (plans s) (own s front (suc i) x) h.steps).owed l (leave k c)
     → is_held_by (control s.commands front) k c (suc i) ≡ true
@@ -187,7 +186,7 @@ HasBeginning = (s : Setting) → (h : IsLawful s []) × (h.events ≡ [])
 -- Behind the entries and events so far thread t may make this entry, with this step of its part.
 pub record MayTurn (s : Setting) (es : List Entry) (xs : List Event) (t : ℕ) (x : Entry) (step : PartStep) : Type 0 where
   pub state : ThreadState
-  pub there : thread_at (replay (start s.program) xs) t ≡ Some state
+  pub there : thread_at (replay (start s.program s.threads) xs) t ≡ Some state
   -- with it the thread's own entries are a part
   pub part : IsPart s.program (plans s) (own_with s es t state x)
   pub before : List PartStep
@@ -204,7 +203,7 @@ pub record MayTurn (s : Setting) (es : List Entry) (xs : List Event) (t : ℕ) (
 -- A lawful journal with one more event of a thread is lawful, where the store allows the event.
 abbrev pub HasEventTurns : Type 0
 HasEventTurns = (s : Setting) (es : List Entry) (h : IsLawful s es) → IsUnfinished es
-    → (y : Event) → MayTurn s es h.events y.thread (entry_of y) (goes (made y.line y.act)) → IsAllowed (replay (start s.program) h.events) y
+    → (y : Event) → MayTurn s es h.events y.thread (entry_of y) (goes (made y.line y.act)) → IsAllowed (replay (start s.program s.threads) h.events) y
     → (h' : IsLawful s (es ++ entry_of y ∷ [])) × (h'.events ≡ h.events ++ y ∷ [])
 
 -- So it is with one more operation of a thread, `Cross` and `Blocked` too.

@@ -72,7 +72,7 @@ pub record KeepsPromises (s : Setting) (f : Front) (x : Entry) : Type 0 where
 
 -- Without the entries of filters and commands the journal is a run of the program, and each of its entries keeps the promises.
 pub record Promises (s : Setting) (es : List Entry) (h : IsLawful s es) : Type 0 where
-  pub run : IsRun s.program (targets es)
+  pub run : IsRun s.program s.threads (targets es)
   pub entries : (front : List Entry) (x : Entry) (rest : List Entry) → es ≡ front ++ x ∷ rest → KeepsPromises s (front_at s h.events front) x
   -- and behind the last entry too
   pub last_holders : HasOneHolder (control s.commands es)

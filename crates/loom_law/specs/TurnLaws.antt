@@ -21,10 +21,10 @@ use Rattle.loom_law.specs.Laws.{IsUnfinished, own_with, MayTurn}
 -- Behind the entries and events so far thread t asks for an act, the store allows this answer, and nothing keeps the thread from making it.
 pub record MayAnswer (s : Setting) (es : List Entry) (xs : List Event) (t : ℕ) (q : Request) (d : Deed) : Type 0 where
   pub state : ThreadState
-  pub there : thread_at (replay (start s.program) xs) t ≡ Some state
+  pub there : thread_at (replay (start s.program s.threads) xs) t ≡ Some state
   pub asks : AsksToAct s.program (plans s) (own s es t state) q
   pub answer : IsAnswered q d
-  pub allowed : IsAllowed (replay (start s.program) xs) (event_of_deed t d)
+  pub allowed : IsAllowed (replay (start s.program s.threads) xs) (event_of_deed t d)
   pub goes_on : IsOpen s (front_of s es xs)
   pub not_held_off : IsHeldOff s (front_of s es xs) t → ⊥
   pub no_cross : owes_cross (entry_by t d.line d.act) (listed_places t es) ≡ false
@@ -54,7 +54,7 @@ AsksToDo s es x l o = AsksToMake s.program (plans s) x l o
 -- Behind the entries and events so far thread t asks to make an operation, and nothing keeps it from making it.
 pub record MayMake (s : Setting) (es : List Entry) (xs : List Event) (t l : ℕ) (o : Operation) : Type 0 where
   pub state : ThreadState
-  pub there : thread_at (replay (start s.program) xs) t ≡ Some state
+  pub there : thread_at (replay (start s.program s.threads) xs) t ≡ Some state
   pub asks : AsksToDo s es (own s es t state) l o
   pub goes_on : IsOpen s (front_of s es xs)
   pub not_held_off : IsHeldOff s (front_of s es xs) t → ⊥

@@ -9,7 +9,7 @@ use Rattle.loom_event.specs.Replay.{Store, IsAllowed, after_act, after_event, re
 use Rattle.loom_event.specs.Answer.{trapped, IsAnswered}
 use Rattle.loom_store.specs.declared.answer.Answer.TheVariants as a
 use Rattle.loom_store.specs.Answer.{Does, done, IsGranted, HasReason, IsTrap, IsTrapped, deed_of}
-use Rattle.loom_store.specs.Laws.{LeadsTo, HasDeeds, events_of, HasReplays}
+use Rattle.loom_store.specs.Laws.{LeadsTo, HasDeeds, deed_events, HasReplays}
 
 does_leads : (s : Store) (t : ℕ) (q : Request) (o : Option Deed) (new : Store) → Does s t o new → ((d : Deed) → o ≡ Some d → IsAnswered q d) → LeadsTo s t q o new
 does_leads s t q None new h f = absurd h
@@ -60,7 +60,7 @@ none_more [] = refl
 none_more (x ∷ xs) = ap (λ z. x ∷ z) (none_more xs)
 
 with_deed : (s : Store) (xs : List Event) (t : ℕ) (q : Request) (o : Option Deed) (new : Store) → AreAllowed s xs → LeadsTo (replay s xs) t q o new
-    → (new ≡ replay s (xs ++ events_of t o)) × AreAllowed s (xs ++ events_of t o)
+    → (new ≡ replay s (xs ++ deed_events t o)) × AreAllowed s (xs ++ deed_events t o)
 with_deed s xs t q None new h is =
     let same : xs ++ [] ≡ xs = none_more xs in
     (is ∙ ap (replay s) (sym same), subst (AreAllowed s) (sym same) h)

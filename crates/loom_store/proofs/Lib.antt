@@ -1,4 +1,3 @@
-pub mod Main
 pub mod Counts
 pub mod ThreadList
 pub mod PartAnswers

@@ -8,9 +8,9 @@ use Rattle.loom_lang.specs.Trace.{trap, reason}
 use Rattle.loom_lang.specs.Acts.{Deed}
 use Rattle.loom_syntax.specs.File.{sema_limit}
 use Rattle.loom_event.specs.Replay.{ThreadState, Store, thread_at, IsRunning, IsDisabled}
-use Rattle.loom_event.specs.Answer.{trapped, request_for}
+use Rattle.loom_event.specs.Answer.{asks_begin, trapped, request_for}
 use Rattle.loom_store.specs.declared.answer.Answer.TheVariants as a
-use Rattle.loom_store.specs.Answer.{is_begin, IsGiven, IsGranted, IsTrap, IsTrapped}
+use Rattle.loom_store.specs.Answer.{IsGiven, IsGranted, IsTrap, IsTrapped}
 use Rattle.loom_store.specs.Laws.{HasOneAnswer, HasExactWaits, is_own_trap, HasExactTraps}
 use Rattle.loom_store.proofs.PartAnswers.{running}
 
@@ -132,7 +132,7 @@ trapped_by : (s : Store) (t : ℕ) (q : Request) (n : ℕ) → is_own_trap q ≡
 trapped_by s t (r.Trap l k) n own h = cc
 trapped_by s t q n own h = h
 
-no_begin : (q : Request) (d : Deed) → trapped q ≡ Some d → is_begin q ≡ false
+no_begin : (q : Request) (d : Deed) → trapped q ≡ Some d → asks_begin q ≡ false
 no_begin (r.Begin l) d h = cc
 no_begin q d h = refl
 

@@ -3,12 +3,13 @@ use Rattle.std.proofs.Common.{ℕ, ◌-◌, ◌≡◌, true, false, not, pos, Li
 use Rattle.std.specs.Prelude.{slice_set}
 use Rattle.loom_trace.specs.declared.request.Request.{Request}
 use Rattle.loom_trace.specs.declared.request.Request.TheVariants as r
-use Rattle.loom_event.specs.Answer.{request_for}
-use Rattle.loom_event.specs.Replay.{ThreadState, Store, IsRunning, IsUnborn, counted_down, IsDisabled}
+use Rattle.loom_event.specs.Answer.{asks_begin, request_for}
+use Rattle.loom_event.specs.Replay.{ThreadState, Store, IsRunning, AwaitsBegin, counted_down, IsDisabled}
 use Rattle.loom_store.specs.declared.answer.Answer.{Answer}
 use Rattle.loom_store.specs.declared.answer.Answer.TheVariants as a
 use Rattle.loom_store.specs.Parts.{Locks, Downs}
-use Rattle.loom_store.specs.Answer.{is_begin, MayAsk, Answers}
+use Rattle.loom_store.specs.Threads.{Threads}
+use Rattle.loom_store.specs.Answer.{MayAsk, Answers}
 use Rattle.loom_store.proofs.ThreadList.{thread_found, thread_put}
 
 -- The same request of the same store is answered alike.
@@ -18,25 +19,32 @@ answered s old t p q x new store request may h =
     let asks : MayAsk s t p = subst (λ (z : Store). MayAsk z t p) (sym store) (subst (MayAsk old t) request may) in
     subst (λ (z : Request). Answers old t z x new) (sym request) (subst (λ (z : Store). Answers z t p x new) store (h asks))
 
-unborn : (s : Store) (t l : ℕ) → MayAsk s t (r.Begin l) → IsUnborn s t
+unborn : (s : Store) (t l : ℕ) → MayAsk s t (r.Begin l) → AwaitsBegin s t
 unborn s t l h = record { state = h.state; is = h.is; not_begun = h.begun }
 
-pub running : (s : Store) (t : ℕ) (q : Request) → is_begin q ≡ false → MayAsk s t q → IsRunning s t
+pub running : (s : Store) (t : ℕ) (q : Request) → asks_begin q ≡ false → MayAsk s t q → IsRunning s t
 running s t q other h = record { state = h.state; is = h.is; begun = h.begun ∙ ap not other; not_ended = h.lives }
 
-pub begins : (s : Store) (t l : ℕ) (threads : List ThreadState) → MayAsk s t (r.Begin l)
-    → ((x : ThreadState) → slice_get s.spawned (t - 1) ≡ Some x → threads ≡ slice_set s.spawned (t - 1) (record x { begun = true }))
-    → Answers s t (r.Begin l) (a.Granted (pos 0)) (record s { spawned = threads })
+-- the store's threads, of which these were spawned
+abbrev pub threads_of : Store → List ThreadState → Threads
+threads_of s xs = record { spawned = xs; most = s.most }
+
+abbrev pub with_threads : Store → Threads → Store
+with_threads s threads = record s { spawned = threads.spawned; most = threads.most }
+
+pub begins : (s : Store) (t l : ℕ) (threads : Threads) → MayAsk s t (r.Begin l)
+    → ((x : ThreadState) → slice_get s.spawned (t - 1) ≡ Some x → threads ≡ threads_of s (slice_set s.spawned (t - 1) (record x { begun = true })))
+    → Answers s t (r.Begin l) (a.Granted (pos 0)) (with_threads s threads)
 begins s t l threads h put =
     let is = put h.state (thread_found s t h.state h.is) in
-    (refl, (unborn s t l h, ap (λ z. record s { spawned = z }) is ∙ sym (thread_put s t (λ x. record x { begun = true }) h.state h.is)))
+    (refl, (unborn s t l h, ap (with_threads s) is ∙ sym (thread_put s t (λ x. record x { begun = true }) h.state h.is)))
 
-pub ends : (s : Store) (t l : ℕ) (threads : List ThreadState) → MayAsk s t (r.End l)
-    → ((x : ThreadState) → slice_get s.spawned (t - 1) ≡ Some x → threads ≡ slice_set s.spawned (t - 1) (record x { ended = true }))
-    → Answers s t (r.End l) (a.Granted (pos 0)) (record s { spawned = threads })
+pub ends : (s : Store) (t l : ℕ) (threads : Threads) → MayAsk s t (r.End l)
+    → ((x : ThreadState) → slice_get s.spawned (t - 1) ≡ Some x → threads ≡ threads_of s (slice_set s.spawned (t - 1) (record x { ended = true })))
+    → Answers s t (r.End l) (a.Granted (pos 0)) (with_threads s threads)
 ends s t l threads h put =
     let is = put h.state (thread_found s t h.state h.is) in
-    let end = ap (λ z. record s { spawned = z }) is ∙ sym (thread_put s t (λ x. record x { ended = true }) h.state h.is) in
+    let end = ap (with_threads s) is ∙ sym (thread_put s t (λ x. record x { ended = true }) h.state h.is) in
     (refl, ((running s t (r.End l) refl h, tt), end))
 
 pub locks : (s : Store) (t l m : ℕ) (x : Answer) (holders : List (Option ℕ)) → MayAsk s t (r.Lock l m) → Locks s.holders m t x holders

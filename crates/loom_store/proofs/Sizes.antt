@@ -98,21 +98,21 @@ many_cells (x ∷ ws) =
     let rest : List ℤ = flat_map (λ (x : Word). first_values x.cells x.first) ws in
     length-append (first_values x.cells x.first) rest ∙ ap (λ z. z + length rest) (many_values x x.cells refl) ∙ ap (λ z. cells_of x + z) (many_cells ws)
 
-words_of : (p : Source) (xs : List Event) → length (Store.words (replay (start p) xs)) ≡ cell_count p.words
-words_of p xs = HasSizes.words (replay_sizes (start p) xs) ∙ many_cells p.words
+words_of : (p : Source) (most : ℕ) (xs : List Event) → length (Store.words (replay (start p most) xs)) ≡ cell_count p.words
+words_of p most xs = HasSizes.words (replay_sizes (start p most) xs) ∙ many_cells p.words
 
-mutexes_of : (p : Source) (xs : List Event) → length (Store.holders (replay (start p) xs)) ≡ length p.mutexes
-mutexes_of p xs = HasSizes.holders (replay_sizes (start p) xs) ∙ length-map p.mutexes nobody
+mutexes_of : (p : Source) (most : ℕ) (xs : List Event) → length (Store.holders (replay (start p most) xs)) ≡ length p.mutexes
+mutexes_of p most xs = HasSizes.holders (replay_sizes (start p most) xs) ∙ length-map p.mutexes nobody
 
-semas_of : (p : Source) (xs : List Event) → length (Store.semas (replay (start p) xs)) ≡ length p.semas
-semas_of p xs = HasSizes.semas (replay_sizes (start p) xs) ∙ length-map p.semas (λ (x : Sema). x.first)
+semas_of : (p : Source) (most : ℕ) (xs : List Event) → length (Store.semas (replay (start p most) xs)) ≡ length p.semas
+semas_of p most xs = HasSizes.semas (replay_sizes (start p most) xs) ∙ length-map p.semas (λ (x : Sema). x.first)
 
 pub always_answers : CanAlwaysAnswer
-always_answers p xs (r.Trap l n) h = h
-always_answers p xs (r.Read l x) h = omega (arith, words_of p xs, h)
-always_answers p xs (r.Write l x v) h = omega (arith, words_of p xs, h)
-always_answers p xs (r.Lock l m) h = omega (arith, mutexes_of p xs, h)
-always_answers p xs (r.Unlock l m) h = omega (arith, mutexes_of p xs, h)
-always_answers p xs (r.Down l k) h = omega (arith, semas_of p xs, h)
-always_answers p xs (r.Up l k) h = omega (arith, semas_of p xs, h)
-always_answers p xs q h = tt
+always_answers p most xs (r.Trap l n) h = h
+always_answers p most xs (r.Read l x) h = omega (arith, words_of p most xs, h)
+always_answers p most xs (r.Write l x v) h = omega (arith, words_of p most xs, h)
+always_answers p most xs (r.Lock l m) h = omega (arith, mutexes_of p most xs, h)
+always_answers p most xs (r.Unlock l m) h = omega (arith, mutexes_of p most xs, h)
+always_answers p most xs (r.Down l k) h = omega (arith, semas_of p most xs, h)
+always_answers p most xs (r.Up l k) h = omega (arith, semas_of p most xs, h)
+always_answers p most xs q h = tt

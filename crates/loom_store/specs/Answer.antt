@@ -1,5 +1,5 @@
 -- How a store answers what a thread asks for.
-use Rattle.std.specs.Prelude.{ℕ, ◌<◌, ◌≡◌, ◌⊎◌, ℤ, pos, Bool, true, false, not, length, Option, Some, None}
+use Rattle.std.specs.Prelude.{ℕ, ◌<◌, ◌≡◌, ◌⊎◌, ℤ, pos, false, not, length, Option, Some, None}
 use Rattle.loom_lang.specs.Trace.{Act, trap, reason}
 use Rattle.loom_lang.specs.Acts.{Deed}
 use Rattle.loom_trace.specs.declared.entry.What.{What}
@@ -8,22 +8,18 @@ use Rattle.loom_trace.specs.declared.request.Request.{Request}
 use Rattle.loom_trace.specs.declared.request.Request.TheVariants as r
 use Rattle.loom_event.specs.Event.{event_of_deed}
 use Rattle.loom_event.specs.Replay.{ThreadState, Store, thread_at, IsAllowed, after_event, IsDisabled}
-use Rattle.loom_event.specs.Answer.{granted, trapped, request_for}
+use Rattle.loom_event.specs.Answer.{asks_begin, granted, trapped, request_for}
 use Rattle.loom_store.specs.declared.answer.Answer.{Answer}
 use Rattle.loom_store.specs.declared.answer.Answer.TheVariants as a
 
 -- Who may ask, and for what
-
-abbrev pub is_begin : Request → Bool
-is_begin (r.Begin l) = true
-is_begin _ = false
 
 -- The thread lives, and has begun unless it asks for its begin.
 pub record MayAsk (s : Store) (t : ℕ) (q : Request) : Type 0 where
   pub state : ThreadState
   pub is : thread_at s t ≡ Some state
   pub lives : state.ended ≡ false
-  pub begun : state.begun ≡ not (is_begin q)
+  pub begun : state.begun ≡ not (asks_begin q)
 
 -- The store has the word, mutex or semaphore that a request names, and a trap is one that a thread finds by itself.
 abbrev pub CanAnswer : Store → Request → Type 0

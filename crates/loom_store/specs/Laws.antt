@@ -46,14 +46,14 @@ abbrev pub HasDeeds : Type 0
 HasDeeds = (s : Store) (t : ℕ) (q : Request) (x : Answer) (new : Store) → Answers s t q x new → LeadsTo s t q (deed_of q x) new
 
 -- the events of one deed
-abbrev pub events_of : ℕ → Option Deed → List Event
-events_of t None = []
-events_of t (Some d) = event_of_deed t d ∷ []
+abbrev pub deed_events : ℕ → Option Deed → List Event
+deed_events t None = []
+deed_events t (Some d) = event_of_deed t d ∷ []
 
 -- The store of allowed events is, behind an answer, that of these and of what was answered, and they are allowed.
 abbrev pub HasReplays : Type 0
 HasReplays = (s : Store) (xs : List Event) (t : ℕ) (q : Request) (x : Answer) (new : Store) → AreAllowed s xs → Answers (replay s xs) t q x new
-    → (new ≡ replay s (xs ++ events_of t (deed_of q x))) × AreAllowed s (xs ++ events_of t (deed_of q x))
+    → (new ≡ replay s (xs ++ deed_events t (deed_of q x))) × AreAllowed s (xs ++ deed_events t (deed_of q x))
 
 -- What a store is asked
 
@@ -67,4 +67,4 @@ HasLastingWaits = (s : Store) (xs : List Event) (what : What) → CanWait s what
 
 -- The store of a run can answer each request that has the program's numbers.
 abbrev pub CanAlwaysAnswer : Type 0
-CanAlwaysAnswer = (p : Source) (xs : List Event) (q : Request) → HasNumbers p q → CanAnswer (replay (start p) xs) q
+CanAlwaysAnswer = (p : Source) (most : ℕ) (xs : List Event) (q : Request) → HasNumbers p q → CanAnswer (replay (start p most) xs) q

@@ -1,9 +1,9 @@
 -- What an act does to one part of a store, and how it is answered.
 use Rattle.std.specs.Prelude.{ℕ, suc, ◌+◌, ◌<◌, ◌≤◌, ◌≡◌, ◌≢◌, ℤ, pos, true, false, List, [], ◌∷◌, ◌++◌, length, slice_get, slice_set, Option, Some, None}
 use Rattle.loom_trace.specs.declared.entry.What.TheVariants as w
-use Rattle.loom_trace.specs.Limits.{thread_limit}
 use Rattle.loom_syntax.specs.File.{sema_limit}
 use Rattle.loom_event.specs.Replay.{ThreadState, new_thread}
+use Rattle.loom_store.specs.Threads.{Threads}
 use Rattle.loom_store.specs.declared.answer.Answer.{Answer}
 use Rattle.loom_store.specs.declared.answer.Answer.TheVariants as a
 
@@ -55,11 +55,12 @@ abbrev pub IsIndex : ℤ → ℕ → Option ℕ → Type 0
 IsIndex v n (Some i) = (v ≡ pos (suc i)) × (i < n)
 IsIndex v n None = (i : ℕ) → v ≡ pos (suc i) → n ≤ i
 
--- The new thread is the last.
-abbrev pub Spawns : List ThreadState → ℕ → List ℤ → Answer → List ThreadState → Type 0
-Spawns old f vs (a.Granted v) new = (v ≡ pos (length old + 1)) × (length old + 1 ≤ thread_limit) × (new ≡ old ++ new_thread f vs ∷ [])
+-- The new thread is the last. There are no more than there may be.
+abbrev pub Spawns : Threads → ℕ → List ℤ → Answer → Threads → Type 0
+Spawns old f vs (a.Granted v) new =
+    (v ≡ pos (length old.spawned + 1)) × (length old.spawned + 1 ≤ old.most) × (new ≡ record old { spawned = old.spawned ++ new_thread f vs ∷ [] })
 Spawns old f vs (a.Disabled what) new = ⊥
-Spawns old f vs (a.Trapped n) new = (n ≡ 5) × (thread_limit ≤ length old) × (new ≡ old)
+Spawns old f vs (a.Trapped n) new = (n ≡ 5) × (old.most ≤ length old.spawned) × (new ≡ old)
 
 -- The value names a thread that has ended, one that lives, or none.
 abbrev pub Joins : List ThreadState → ℤ → Answer → Type 0

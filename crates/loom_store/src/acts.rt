@@ -3,10 +3,8 @@ ghost use Rattle.std.specs.Prelude.{◌≡◌, ◌<◌, length, slice_set};
 ghost use Rattle.loom_store.specs.Parts.{Reads, Locks, Unlocks, Downs, Ups, AreCounts};
 
 use crate::answer::Answer;
+use loom_syntax::item::SEMA_LIMIT;
 use loom_trace::entry::What;
-
-// The greatest value of a semaphore.
-const SEMA_LIMIT: u32 = 2147483647;
 
 // Why an unlock is a trap: the thread doesn't hold the mutex.
 const NOT_HELD: u8 = 3;
@@ -81,7 +79,7 @@ pub(crate) fn up(semas: &mut [u32], s: u8) -> Answer
     ensures counts { AreCounts semas.new }
 {
     let count = semas[s as usize];
-    if count == SEMA_LIMIT {
+    if u64::from(count) == SEMA_LIMIT {
         return Answer::Trapped(OVERFLOW);
     }
     semas[s as usize] = count + 1;

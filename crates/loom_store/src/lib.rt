@@ -4,6 +4,6 @@
 mod acts;
 pub mod answer;
 pub mod laws;
-pub mod start;
+mod start;
 pub mod store;
 pub mod threads;

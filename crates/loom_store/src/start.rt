@@ -1,20 +1,14 @@
 //! What a run begins with.
-ghost use Rattle.std.specs.Prelude.{◌≡◌, ◌==◌, ◌≤◌, ◌+◌, ◌++◌, [], map, flat_map, length, codes, IfOk, OnOk, Some};
-ghost use Rattle.std.specs.Cmp.Lexicographic.{pointwise};
+ghost use Rattle.std.specs.Prelude.{◌≡◌, ◌≤◌, ◌+◌, ◌++◌, map, flat_map, length, IfOk, OnOk};
 ghost use Rattle.loom_tree.specs.declared.item.Word as word;
 ghost use Rattle.loom_tree.specs.declared.item.Sema as sema;
-ghost use Rattle.loom_tree.specs.Tree.{Function, functions_of};
-ghost use Rattle.loom_lang.specs.Limits.{function_limit, cell_limit};
+ghost use Rattle.loom_lang.specs.Limits.{cell_limit};
 ghost use Rattle.loom_lang.specs.Rules.{cells_of, cell_count};
-ghost use Rattle.loom_lang.specs.Numbers.{index_of, function_number};
-ghost use Rattle.loom_event.specs.Answer.{IsFunctionWith};
 ghost use Rattle.loom_event.specs.Replay.{first_values, nobody};
 
 use loom_lang::limits::CELL_LIMIT;
-use loom_lang::program::Program;
 use loom_tree::item::{Sema, Word};
 use loom_tree::name::{Name, NoMemory};
-use loom_tree::statement::Func;
 use std::alloc::Global;
 
 // Appends a word's cells.
@@ -30,7 +24,7 @@ fn put_cells(values: &mut Vec<i64>, word: &Word) -> Result<(), NoMemory>
 }
 
 /// The cells of the words, with their values before the run. An `Err` is want of memory.
-pub fn first_words(alloc: Global, words: &[Word]) -> Result<Vec<i64>, NoMemory>
+pub(crate) fn first_words(alloc: Global, words: &[Word]) -> Result<Vec<i64>, NoMemory>
     requires few { cell_count words.now ≤ cell_limit }
     ensures { IfOk result (λ v. v.items ≡ flat_map (λ (x : word.Word). first_values x.cells x.first) words.now) }
 {
@@ -61,35 +55,4 @@ pub(crate) fn first_counts(alloc: Global, semas: &[Sema]) -> Result<Vec<u32>, No
         counts.push(sema.first)?;
     }
     Ok(counts)
-}
-
-fn is_main(name: &Name) -> bool
-    ensures { result ≡ pointwise ◌==◌ name.now (codes "main") }
-{
-    name.bytes() == b"main".as_slice()
-}
-
-// Where `main` stands first.
-#[tactic(auto, using(crate::proofs::Main::from_zero))]
-fn main_index(funcs: &[Func]) -> Option<u8>
-    requires few { length funcs.now ≤ function_limit }
-    ensures { result ≡ index_of (codes "main") (map (λ (f : Function). f.name) (functions_of funcs.now)) }
-{
-    'scan: for (i, f) in funcs.iter().enumerate() {
-        if is_main(&f.name) {
-            return Some(i as u8);
-        }
-    }
-    None
-}
-
-/// The number of `main`.
-pub fn main_number(program: &Program) -> u8
-    ensures number { function_number program.now (codes "main") ≡ Some result }
-    ensures function { IsFunctionWith program.now result [] }
-{
-    match main_index(program.funcs().0.as_slice()) {
-        Some(number) => number,
-        None => unreachable!(),
-    }
 }

@@ -1,5 +1,5 @@
 //! The store of a run.
-ghost use Rattle.std.specs.Prelude.{◌≡◌, ◌<◌, true, false, IfOk, IfSome, IfNone, Some, None};
+ghost use Rattle.std.specs.Prelude.{◌≡◌, ◌<◌, ◌≤◌, true, false, IfOk, IfSome, IfNone, Some, None};
 ghost use Rattle.loom_trace.specs.Limits.{thread_limit};
 ghost use Rattle.loom_event.specs.Replay.{start, thread_at, IsDisabled};
 ghost use Rattle.loom_store.specs.Threads.{state_of};
@@ -7,8 +7,9 @@ ghost use Rattle.loom_store.specs.Answer.{MayAsk, CanAnswer, CanWait, Answers};
 
 use crate::acts::{down, lock, read, unlock, up, write};
 use crate::answer::Answer;
-use crate::start::{first_counts, first_holders, first_words, main_number};
+use crate::start::{first_counts, first_holders, first_words};
 use crate::threads::{Thread, Threads};
+use loom_lang::numbers::main_number;
 use loom_lang::program::Program;
 use loom_trace::entry::What;
 use loom_trace::request::Request;
@@ -35,17 +36,17 @@ impl Model for Store {
 
     ghost Value = { Store };
 
-    ghost view = { λ s. record { words = s.words.items; holders = s.holders.items; semas = s.semas.items; spawned = s.threads } };
+    ghost view = { λ s. record { words = s.words.items; holders = s.holders.items; semas = s.semas.items; spawned = s.threads.spawned; most = s.threads.most } };
 
     ghost invariant = { λ s. AreCounts s.semas.items };
 }
 
 impl Store {
-    /// The store before the run: thread 1 is spawned, with `main`. There may be `threads` threads, this one among them. It takes all of its
-    /// memory here. An `Err` is want of memory.
+    /// The store before the run: thread 1 is spawned, with `main`. There may be `threads` threads, this one among them, from 0 to 8; with 0
+    /// none is spawned. It takes all of its memory here. An `Err` is want of memory.
     pub fn make(alloc: Global, p: &Program, threads: u8) -> Result<Store, NoMemory>
-        requires threads { threads ≡ thread_limit }
-        ensures { IfOk result (λ s. s ≡ start p.now) }
+        requires threads { threads ≤ thread_limit }
+        ensures { IfOk result (λ s. s ≡ start p.now threads) }
     {
         let words = first_words(alloc, p.words().0.as_slice())?;
         let holders = first_holders(alloc, p.mutexes().0.as_slice())?;

@@ -1,6 +1,8 @@
 //! What threads of a small program are answered.
-ghost use Rattle.std.specs.Prelude.{◌≡◌, true};
-ghost use Rattle.loom_store.specs.Answer.{MayAsk, CanAnswer, is_begin};
+ghost use Rattle.std.specs.Prelude.{◌≡◌, ◌≤◌, true};
+ghost use Rattle.loom_trace.specs.Limits.{thread_limit};
+ghost use Rattle.loom_event.specs.Answer.{asks_begin};
+ghost use Rattle.loom_store.specs.Answer.{MayAsk, CanAnswer};
 
 mod rows;
 
@@ -14,17 +16,19 @@ use rows::{ALONE, END, PROGRAM, Row, TWO};
 use std::alloc::Global;
 use std::test::Fail;
 
-fn first_store(alloc: Global) -> Result<Store, LangError> {
+fn first_store(alloc: Global, threads: u8) -> Result<Store, LangError>
+    requires { threads ≤ thread_limit }
+{
     let bytes = PROGRAM.as_bytes();
     if bytes.len() > 65536 {
         return Err(LangError::Refused);
     }
     let program = parse_program(alloc, bytes)?;
-    Ok(Store::make(alloc, &program, 8)?)
+    Ok(Store::make(alloc, &program, threads)?)
 }
 
 fn begins(r: &Request) -> bool
-    ensures { result ≡ is_begin r.now }
+    ensures { result ≡ asks_begin r.now }
 {
     match *r {
         Request::Begin { .. } => true,
@@ -122,12 +126,23 @@ fn spawns_all(store: &mut Store) -> bool {
 
 #[test]
 fn answers_the_rows(rt: HostRuntime) -> Result<(), Fail> {
-    let mut store = first_store(rt.alloc())?;
+    let mut store = first_store(rt.alloc(), 8)?;
     assert_eq!(rt; first_wrong(&mut store, &ALONE), None);
     assert!(rt; spawns(&mut store, Answer::Granted(2)));
     assert_eq!(rt; first_wrong(&mut store, &TWO), None);
     assert!(rt; spawns_all(&mut store));
     assert!(rt; spawns(&mut store, Answer::Trapped(5)));
     assert_eq!(rt; first_wrong(&mut store, &END), None);
+    Ok(())
+}
+
+#[test]
+fn has_as_many_threads_as_it_is_given(rt: HostRuntime) -> Result<(), Fail> {
+    let mut store = first_store(rt.alloc(), 2)?;
+    assert_eq!(rt; first_wrong(&mut store, &ALONE), None);
+    assert!(rt; spawns(&mut store, Answer::Granted(2)));
+    assert!(rt; spawns(&mut store, Answer::Trapped(5)));
+    let none = first_store(rt.alloc(), 0)?;
+    assert!(rt; none.thread(1).is_none());
     Ok(())
 }

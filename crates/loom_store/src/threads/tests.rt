@@ -6,7 +6,7 @@ use super::Threads;
 
 /// Whether thread `t` lives, and has begun or not.
 pub(crate) fn is_at(threads: &Threads, t: u8, begun: bool) -> bool
-    ensures { result ≡ true → (i : ℕ) × (x : ThreadState) × (t ≡ suc i) × (slice_get threads.now i ≡ Some x) × (x.ended ≡ false) × (x.begun ≡ begun) }
+    ensures { result ≡ true → (i : ℕ) × (x : ThreadState) × (t ≡ suc i) × (slice_get threads.now.spawned i ≡ Some x) × (x.ended ≡ false) × (x.begun ≡ begun) }
 {
     if t == 0 || t as usize > threads.items.len() {
         return false;

@@ -6,19 +6,19 @@ use Rattle.loom_event.specs.Replay.{Store}
 use Rattle.loom_store.specs.declared.answer.Answer.TheVariants as a
 use Rattle.loom_store.specs.Parts.{Locks, Downs}
 use Rattle.loom_store.specs.contracts.store.Store.{the_view}
-use Rattle.loom_store.proofs.PartAnswers.{answered, begins, ends, locks, downs}
+use Rattle.loom_store.proofs.PartAnswers.{answered, with_threads, begins, ends, locks, downs}
 use Rattle.loom_store.proofs.store.Store.ask.Goals as goal
 
 pub returns-in-Begin : goal.returns-in-Begin
 returns-in-Begin c =
     let s : Store = the_view c.self.inside in
-    answered s c.args.self.now c.args.t (r.Begin c.in-Begin.line) c.args.r.now (a.Granted (pos 0)) (record s { spawned = c.begin.new.self })
+    answered s c.args.self.now c.args.t (r.Begin c.in-Begin.line) c.args.r.now (a.Granted (pos 0)) (with_threads s c.begin.new.self)
     c.self.view_is c.in-Begin.is c.requires.thread (λ may. begins s c.args.t c.in-Begin.line c.begin.new.self may c.begin.ensures)
 
 pub returns-in-End : goal.returns-in-End
 returns-in-End c =
     let s : Store = the_view c.self.inside in
-    answered s c.args.self.now c.args.t (r.End c.in-End.line) c.args.r.now (a.Granted (pos 0)) (record s { spawned = c.end.new.self })
+    answered s c.args.self.now c.args.t (r.End c.in-End.line) c.args.r.now (a.Granted (pos 0)) (with_threads s c.end.new.self)
     c.self.view_is c.in-End.is c.requires.thread (λ may. ends s c.args.t c.in-End.line c.end.new.self may c.end.ensures)
 
 pub returns-in-Lock : goal.returns-in-Lock

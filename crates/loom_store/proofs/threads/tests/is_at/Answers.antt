@@ -1,7 +1,7 @@
-use Rattle.std.proofs.Common.{ℕ, suc, ◌-◌, ◌<◌, ◌≡◌, List, length, slice_get, Some, Bool, not, refl, true, false, subst, arith}
+use Rattle.std.proofs.Common.{ℕ, suc, ◌-◌, ◌<◌, ◌≡◌, length, slice_get, Some, Bool, not, refl, true, false, subst, arith}
 use Rattle.std.proofs.Math.Bool.{beq}
 use Rattle.loom_event.specs.Replay.{ThreadState}
-use Rattle.loom_store.specs.Threads.{state_of}
+use Rattle.loom_store.specs.Threads.{Threads, state_of}
 use Rattle.loom_store.proofs.ThreadList.{spawned_at}
 use Rattle.loom_store.proofs.threads.tests.is_at.Goals as goal
 
@@ -21,6 +21,6 @@ returns-then-thread-begun c h =
     let x : ThreadState = state_of c.index-thread.result.now in
     let few : i < length c.threads.inside.items.items = omega (arith, c.len.ensures) in
     let is : c.args.t ≡ suc i = omega arith in
-    let there : slice_get c.args.threads.now i ≡ Some x =
-    subst (λ (z : List ThreadState). slice_get z i ≡ Some x) c.threads.view_is (spawned_at c.threads.inside.items.items i c.index-thread.result.now few c.index-thread.ensures) in
+    let there : slice_get c.args.threads.now.spawned i ≡ Some x =
+    subst (λ (z : Threads). slice_get z.spawned i ≡ Some x) c.threads.view_is (spawned_at c.threads.inside.items.items i c.index-thread.result.now few c.index-thread.ensures) in
     (i, x, is, there, lives c.index-thread.result.now.ended h, same c.index-thread.result.now.begun c.args.begun c.if-thread-begun.true)

@@ -1,5 +1,6 @@
 -- A journal with the entry that an answer makes.
 use Rattle.std.proofs.Common.{ℕ, zero, suc, ◌≤◌, ◌≡◌, ◌⊎◌, inl, inr, ◌==◌, Bool, true, false, not, List, [], ◌∷◌, ◌++◌, ℤ, pos, negsuc, length, Option, Some, None, refl, sym, ap, ◌∙◌, subst, arith}
+use Rattle.loom_trace.specs.Limits.{thread_limit}
 use Rattle.loom_tree.specs.Tree.{Source}
 use Rattle.loom_lang.specs.Trace.{Act}
 use Rattle.loom_lang.specs.Acts.{Deed}
@@ -10,7 +11,7 @@ use Rattle.loom_trace.specs.declared.entry.What.TheVariants as w
 use Rattle.loom_trace.specs.declared.request.Request.{Request}
 use Rattle.loom_trace.specs.declared.request.Request.TheVariants as r
 use Rattle.loom_event.specs.Event.{entry_by, event_of_deed}
-use Rattle.loom_event.specs.Answer.{granted, trapped, IsEntryOf, IsBlockedFor, request_for}
+use Rattle.loom_event.specs.Answer.{asks_begin, granted, trapped, IsEntryOf, IsBlockedFor, request_for}
 use Rattle.loom_event.specs.Replay.{ThreadState, Store, thread_at, after_event, replay, start, IsDisabled}
 use Rattle.loom_law.specs.Walk.{Plans, tick, blocked}
 use Rattle.loom_law.specs.ThreadPart.{Own, AsksToMake, AsksToAct}
@@ -18,7 +19,7 @@ use Rattle.loom_law.specs.Control.{entries_of}
 use Rattle.loom_law.specs.Lawful.{Setting, Front, front_of, plans, over, IsDisabledFor}
 use Rattle.loom_law.specs.TurnLaws.{ends_blocked}
 use Rattle.loom_law.proofs.SameRequest.{blocks}
-use Rattle.loom_strand.specs.Life.{asks_begin, has_none, versions_with}
+use Rattle.loom_strand.specs.Life.{has_none, versions_with}
 use Rattle.loom_strand.specs.Strand.{AsksNext}
 use Rattle.loom_store.specs.declared.answer.Answer.{Answer}
 use Rattle.loom_store.specs.declared.answer.Answer.TheVariants as a
@@ -26,7 +27,7 @@ use Rattle.loom_store.specs.Answer.{Answers, done, deed_of}
 use Rattle.loom_store.specs.Laws.{LeadsTo}
 use Rattle.loom_store.proofs.Deeds.{deeds}
 use Rattle.loom_world.specs.Book.{plain}
-use Rattle.loom_world.specs.Entry.{line_in, IsGrantOf, IsEntryFor}
+use Rattle.loom_world.specs.Entry.{line_in, IsGrantWith, IsEntryFor}
 use Rattle.loom_world.proofs.Going.{IsGoing, event_goes, tick_goes, blocked_goes}
 
 -- what is the thread's own in a journal
@@ -55,7 +56,7 @@ deed_goes {p} {limit} {es} {st} {t} {q} h asks (Some d) x new tells leads =
 
 -- granted
 granted_goes : {p : Source} {limit : ℕ} {es : List Entry} {st : Store} {t : ℕ} (q : Request) (h : IsAsking p limit es st t q) (v : ℤ) (x : Entry) (new : Store)
-    → IsGrantOf t q v x → LeadsTo st t q (done q v) new → IsGoing p limit (es ++ x ∷ []) new
+    → IsGrantWith t q v x → LeadsTo st t q (done q v) new → IsGoing p limit (es ++ x ∷ []) new
 granted_goes (r.Begin l) h v x new tells leads = deed_goes h (h.next _) (done (r.Begin l) v) x new tells leads
 granted_goes (r.End l) h v x new tells leads = deed_goes h (h.next _) (done (r.End l) v) x new tells leads
 granted_goes (r.Trap l n) h v x new tells leads = deed_goes h (h.next _) (done (r.Trap l n) v) x new tells leads
@@ -100,7 +101,7 @@ disabled_goes {p} {limit} {es} {st} {t} q h (w.Lock m) l x is free disabled tell
     let some : has_none (entries_of t es) ≡ false = sym h.begins ∙ ap asks_begin (sym same) in
     let named : IsBlockedFor t q (e.Blocked t l (w.Lock m)) = subst (λ z. IsBlockedFor t z (e.Blocked t l (w.Lock m))) same refl in
     let asks = blocks p (plans (plain p limit)) (own_by es t h.state) q l (w.Lock m) act named free in
-    let so : IsDisabled (replay (start p) h.going.lawful.events) (w.Lock m) = subst (λ z. IsDisabled z (w.Lock m)) (sym h.going.store) disabled in
+    let so : IsDisabled (replay (start p thread_limit) h.going.lawful.events) (w.Lock m) = subst (λ z. IsDisabled z (w.Lock m)) (sym h.going.store) disabled in
     let more = blocked_goes h.going h.runs t h.state h.there h.lives some l (w.Lock m) asks so in
     subst (λ z. IsGoing p limit (es ++ z ∷ []) st) (sym (tells ∙ ap (λ z. e.Blocked t z (w.Lock m)) line)) more
 disabled_goes {p} {limit} {es} {st} {t} q h (w.Down m) l x is free disabled tells =
@@ -111,7 +112,7 @@ disabled_goes {p} {limit} {es} {st} {t} q h (w.Down m) l x is free disabled tell
     let some : has_none (entries_of t es) ≡ false = sym h.begins ∙ ap asks_begin (sym same) in
     let named : IsBlockedFor t q (e.Blocked t l (w.Down m)) = subst (λ z. IsBlockedFor t z (e.Blocked t l (w.Down m))) same refl in
     let asks = blocks p (plans (plain p limit)) (own_by es t h.state) q l (w.Down m) act named free in
-    let so : IsDisabled (replay (start p) h.going.lawful.events) (w.Down m) = subst (λ z. IsDisabled z (w.Down m)) (sym h.going.store) disabled in
+    let so : IsDisabled (replay (start p thread_limit) h.going.lawful.events) (w.Down m) = subst (λ z. IsDisabled z (w.Down m)) (sym h.going.store) disabled in
     let more = blocked_goes h.going h.runs t h.state h.there h.lives some l (w.Down m) asks so in
     subst (λ z. IsGoing p limit (es ++ z ∷ []) st) (sym (tells ∙ ap (λ z. e.Blocked t z (w.Down m)) line)) more
 disabled_goes {p} {limit} {es} {st} {t} q h (w.Join c) l x is free disabled tells =
@@ -122,7 +123,7 @@ disabled_goes {p} {limit} {es} {st} {t} q h (w.Join c) l x is free disabled tell
     let some : has_none (entries_of t es) ≡ false = sym h.begins ∙ ap asks_begin (sym same) in
     let named : IsBlockedFor t q (e.Blocked t l (w.Join c)) = subst (λ z. IsBlockedFor t z (e.Blocked t l (w.Join c))) same refl in
     let asks = blocks p (plans (plain p limit)) (own_by es t h.state) q l (w.Join c) act named free in
-    let so : IsDisabled (replay (start p) h.going.lawful.events) (w.Join c) = subst (λ z. IsDisabled z (w.Join c)) (sym h.going.store) disabled in
+    let so : IsDisabled (replay (start p thread_limit) h.going.lawful.events) (w.Join c) = subst (λ z. IsDisabled z (w.Join c)) (sym h.going.store) disabled in
     let more = blocked_goes h.going h.runs t h.state h.there h.lives some l (w.Join c) asks so in
     subst (λ z. IsGoing p limit (es ++ z ∷ []) st) (sym (tells ∙ ap (λ z. e.Blocked t z (w.Join c)) line)) more
 disabled_goes q h (w.Enter k c) l x is free disabled tells = cc

@@ -2,6 +2,7 @@
 use Rattle.std.proofs.Common.{ℕ, zero, suc, ◌+◌, ◌-◌, ◌<◌, ◌≤◌, ◌≡◌, ◌⊎◌, inl, inr, ◌==◌, Bool, true, false, List, [], ◌∷◌, ◌++◌, ℤ, pos, negsuc, length, get_or, slice_get, Option, Some, None, refl, sym, ap, ◌∙◌, subst, arith, if◌then◌else◌}
 use Rattle.std.specs.Prelude.{slice_set}
 use Rattle.std.proofs.lemmas.Option.{slice_get-get_or}
+use Rattle.loom_trace.specs.Limits.{thread_limit}
 use Rattle.loom_tree.specs.Tree.{Source}
 use Rattle.loom_lang.specs.Trace.{Cause, Act, begin, end, trap, read, write, lock, unlock, down, up, spawn, join, print}
 use Rattle.loom_lang.specs.Acts.{Deed}
@@ -33,9 +34,9 @@ use Rattle.loom_store.proofs.Sizes.{all_wait, lasting_waits}
 use Rattle.loom_world.specs.Book.{Book, plain, setting, front}
 use Rattle.loom_world.specs.Idle.{IsClosed}
 use Rattle.loom_world.specs.Threads.{IsSameThread, KeepsThreads}
-use Rattle.loom_world.specs.Asking.{Asks, IsAnswered}
+use Rattle.loom_world.specs.Asking.{Asks, MakesAnswer}
 use Rattle.loom_world.specs.BookInvariant.{Notes, wait_in, wait_of, IsAtEnd, IsKept}
-use Rattle.loom_world.specs.Entry.{line_in, IsGrantOf, IsEntryFor}
+use Rattle.loom_world.specs.Entry.{line_in, IsGrantWith, IsEntryFor}
 use Rattle.loom_world.proofs.States.{IsSpawnedBy, fresh_state}
 use Rattle.loom_world.proofs.Going.{IsGoing}
 use Rattle.loom_world.proofs.Answered.{IsAsking, answer_goes}
@@ -105,7 +106,7 @@ not_told b n k t q asks free l what is disabled = by_last (ends_blocked (entries
 
 -- What the entry says
 
-grant_answers : (t : ℕ) (q : Request) (v : ℤ) (x : Entry) → IsGrantOf t q v x → IsAnswerTo t q x
+grant_answers : (t : ℕ) (q : Request) (v : ℤ) (x : Entry) → IsGrantWith t q v x → IsAnswerTo t q x
 grant_answers t (r.Begin l) v x h = inl (v, h)
 grant_answers t (r.End l) v x h = inl (v, h)
 grant_answers t (r.Trap l n) v x h = inr h
@@ -179,10 +180,10 @@ no_trap st t l k (w.Wait i n) q is can h = cc
 same_what : (l m : ℕ) (what that : What) (q : Request) → request_for l what ≡ Some q → request_for m that ≡ Some q → (t : ℕ) → e.Blocked t l what ≡ e.Blocked t m that
 same_what l m what that q is so t = what_in t q (e.Blocked t l what) (told_blocked t l what q (e.Blocked t l what) is refl) m that so
 
-grant_so : (t l : ℕ) (what : What) (q : Request) (v : ℤ) (x : Entry) → request_for l what ≡ Some q → IsGrantOf t q v x → event.IsGrantOf t q x
-grant_so t l (w.Lock m) q v x is h = let same : r.Lock l m ≡ q = cc in (v, subst (λ z. IsEntryOf t (granted z v) x) same (subst (λ z. IsGrantOf t z v x) (sym same) h))
-grant_so t l (w.Down m) q v x is h = let same : r.Down l m ≡ q = cc in (v, subst (λ z. IsEntryOf t (granted z v) x) same (subst (λ z. IsGrantOf t z v x) (sym same) h))
-grant_so t l (w.Join c) q v x is h = let same : r.Join l (pos c) ≡ q = cc in (v, subst (λ z. IsEntryOf t (granted z v) x) same (subst (λ z. IsGrantOf t z v x) (sym same) h))
+grant_so : (t l : ℕ) (what : What) (q : Request) (v : ℤ) (x : Entry) → request_for l what ≡ Some q → IsGrantWith t q v x → event.IsGrantOf t q x
+grant_so t l (w.Lock m) q v x is h = let same : r.Lock l m ≡ q = cc in (v, subst (λ z. IsEntryOf t (granted z v) x) same (subst (λ z. IsGrantWith t z v x) (sym same) h))
+grant_so t l (w.Down m) q v x is h = let same : r.Down l m ≡ q = cc in (v, subst (λ z. IsEntryOf t (granted z v) x) same (subst (λ z. IsGrantWith t z v x) (sym same) h))
+grant_so t l (w.Join c) q v x is h = let same : r.Join l (pos c) ≡ q = cc in (v, subst (λ z. IsEntryOf t (granted z v) x) same (subst (λ z. IsGrantWith t z v x) (sym same) h))
 grant_so t l (w.Enter i c) q v x is h = cc
 grant_so t l (w.Wait i n) q v x is h = cc
 
@@ -190,7 +191,7 @@ next : (t : ℕ) → 1 ≤ t → suc (t - 1) ≡ t
 next t h = omega (arith, h)
 
 -- what it is blocked at, a thread can wait for
-can_still : (b : Book) (n : Notes) (k : IsKept b n) (t l : ℕ) (what : What) → 1 ≤ t → t ≤ 8 → last_of_thread t None b.entries ≡ Some (e.Blocked t l what) → CanWait b.store what
+can_still : (b : Book) (n : Notes) (k : IsKept b n) (t l : ℕ) (what : What) → 1 ≤ t → t ≤ thread_limit → last_of_thread t None b.entries ≡ Some (e.Blocked t l what) → CanWait b.store what
 can_still b n k t l what first last is =
     let there : t - 1 < length n.waits = omega (arith, first, last, k.waits.count) in
     let note : slice_get n.waits (t - 1) ≡ Some (get_or n.waits (t - 1) None) = slice_get-get_or n.waits (t - 1) None there in
@@ -208,7 +209,7 @@ blocked_what : (t l m : ℕ) (what that : What) → e.Blocked t l what ≡ e.Blo
 blocked_what t l m what that h = cc
 
 -- The entry replies to the request.
-replies : (b : Book) (n : Notes) (k : IsKept b n) (t : ℕ) (q : Request) → 1 ≤ t → t ≤ 8 → Asks b t q → (IsBlocked (setting b) (front b) t → ⊥)
+replies : (b : Book) (n : Notes) (k : IsKept b n) (t : ℕ) (q : Request) → 1 ≤ t → t ≤ thread_limit → Asks b t q → (IsBlocked (setting b) (front b) t → ⊥)
     → (y : Answer) (x : Entry) (new : Store) → Answers b.store t q y new → IsEntryFor t q y x → IsReplyTo (ends_blocked (entries_of t b.entries)) t (Some q) x
 replies b n k t q first last asks free y x new answers tells = by_last (ends_blocked (entries_of t b.entries)) refl
   where
@@ -367,7 +368,7 @@ entry_of_deed : (t : ℕ) (o : Option Deed) (x : Entry) → IsEntryOf t o x → 
 entry_of_deed t None x h = absurd h
 entry_of_deed t (Some d) x h = ap thread_of h ∙ entry_thread t d.line d.act
 
-entry_of_grant : (t : ℕ) (q : Request) (v : ℤ) (x : Entry) → IsGrantOf t q v x → thread_of x ≡ Some t
+entry_of_grant : (t : ℕ) (q : Request) (v : ℤ) (x : Entry) → IsGrantWith t q v x → thread_of x ≡ Some t
 entry_of_grant t (r.Begin l) v x h = entry_of_deed t (done (r.Begin l) v) x h
 entry_of_grant t (r.End l) v x h = entry_of_deed t (done (r.End l) v) x h
 entry_of_grant t (r.Trap l n) v x h = entry_of_deed t (done (r.Trap l n) v) x h
@@ -387,7 +388,7 @@ entry_by_thread t q (a.Granted v) x h = entry_of_grant t q v x h
 entry_by_thread t q (a.Disabled what) x h = ap thread_of h
 entry_by_thread t q (a.Trapped m) x h = entry_of_deed t (trapped q) x h
 
-count_last : (es : List Entry) (x : Entry) → is_some_thread (thread_of x) ≡ true → thread_entries (es ++ x ∷ []) ≡ suc (thread_entries es)
+pub count_last : (es : List Entry) (x : Entry) → is_some_thread (thread_of x) ≡ true → thread_entries (es ++ x ∷ []) ≡ suc (thread_entries es)
 count_last [] x h = rw h refl
 count_last (y ∷ es) x h = by_first (is_some_thread (thread_of y)) (count_last es x h)
   where
@@ -403,7 +404,7 @@ abbrev pub book_with : Book → Entry → Store → Book
 book_with b x st = record { program = b.program; limit = b.limit; entries = b.entries ++ x ∷ []; store = st }
 
 -- A book keeps what it keeps with the entry that an answer makes.
-pub kept_more : (b : Book) (n : Notes) (k : IsKept b n) (goes_on : IsClosed b → ⊥) (t : ℕ) (q : Request) → 1 ≤ t → t ≤ 8 → Asks b t q → (IsBlocked (setting b) (front b) t → ⊥)
+pub kept_more : (b : Book) (n : Notes) (k : IsKept b n) (goes_on : IsClosed b → ⊥) (t : ℕ) (q : Request) → 1 ≤ t → t ≤ thread_limit → Asks b t q → (IsBlocked (setting b) (front b) t → ⊥)
     → (y : Answer) (x : Entry) (new : Store) (room : ℕ) → Answers b.store t q y new → IsEntryFor t q y x → room + 1 ≡ n.room
     → IsKept (book_with b x new) (record { made = n.made + 1; finished = n.finished; room = room; waits = slice_set n.waits (t - 1) (wait_of y) })
 kept_more b n k goes_on t q first last asks free y x new room answers tells left =
@@ -432,14 +433,15 @@ kept_more b n k goes_on t q first last asks free y x new room answers tells left
     }
 
 -- And the answer is the one that was asked for.
-pub answered_so : (b : Book) (n : Notes) (k : IsKept b n) (goes_on : IsClosed b → ⊥) (t : ℕ) (q : Request) → 1 ≤ t → t ≤ 8 → Asks b t q → (IsBlocked (setting b) (front b) t → ⊥)
-    → (y : Answer) (x : Entry) (new : Store) → Answers b.store t q y new → IsEntryFor t q y x → IsAnswered b t q x (book_with b x new)
+pub answered_so : (b : Book) (n : Notes) (k : IsKept b n) (goes_on : IsClosed b → ⊥) (t : ℕ) (q : Request) → 1 ≤ t → t ≤ thread_limit → Asks b t q → (IsBlocked (setting b) (front b) t → ⊥)
+    → (y : Answer) (x : Entry) (new : Store) → Answers b.store t q y new → IsEntryFor t q y x → MakesAnswer b t q x (book_with b x new)
 answered_so b n k goes_on t q first last asks free y x new answers tells = record {
   run = record { program = refl; limit = refl };
   appended = refl;
   thread = entry_by_thread t q y x tells;
   replies = replies b n k t q first last asks free y x new answers tells;
   threads = keeps_deed b.store new t q (deed_of q y) (deeds b.store t q y new answers);
+  goes_on = goes_on;
   free = free;
   few = subst (λ z. z < b.limit) k.made (not_full b n k goes_on);
 }

@@ -9,6 +9,7 @@ use Rattle.loom_trace.specs.declared.entry.Ending.{Ending}
 use Rattle.loom_trace.specs.declared.entry.What.{What}
 use Rattle.loom_event.specs.Answer.{IsFunctionWith}
 use Rattle.loom_event.specs.Entries.{thread_of, is_thread, is_some_thread, thread_entries, last_of_thread, IsFinished}
+use Rattle.loom_trace.specs.Limits.{thread_limit}
 use Rattle.loom_event.specs.Replay.{ThreadState, Store, new_thread, main_thread, start, thread_at, replay}
 use Rattle.loom_law.specs.Control.{versions_of, entries_of}
 use Rattle.loom_law.specs.Lawful.{Setting, front_of, Ends, MayControl, IsLawful}
@@ -17,7 +18,7 @@ use Rattle.loom_law.proofs.Lawful.{beginning, control_turns}
 use Rattle.loom_law.proofs.Longer.{not_mine, not_taken}
 use Rattle.loom_law.proofs.NoCommands.{none_unfinished}
 use Rattle.loom_strand.specs.Life.{has_none, has_ended, versions_with}
-use Rattle.loom_store.proofs.Main.{main_found, main_function}
+use Rattle.loom_lang.proofs.MainFunction.{main_found, main_function}
 use Rattle.loom_world.specs.declared.choice.Why.{Why}
 use Rattle.loom_world.specs.declared.choice.Why.TheVariants as why
 use Rattle.loom_world.specs.Book.{Book, IsNew, plain, setting, front, HasLawfulJournal}
@@ -46,7 +47,7 @@ finished_journal b h kind goes_on ends =
     let may : MayControl (setting b) (front_of (setting b) b.entries h.lawful.events) (e.Finish kind) [] =
     subst (λ z. MayControl (setting b) z (e.Finish kind) []) (sym (front_is b h)) (may_finish b h kind ends) in
     let more = control_turns (setting b) b.entries h.lawful goes_on (e.Finish kind) refl may in
-    record { lawful = more.0; store = ap (replay (start b.program)) more.1 ∙ h.store }
+    record { lawful = more.0; store = ap (replay (start b.program thread_limit)) more.1 ∙ h.store }
 
 -- A book keeps what it keeps when it is finished.
 pub finished_kept : (b : Book) (n : Notes) (k : IsKept b n) (kind : Ending) → n.finished ≡ false → Ends (setting b) (front b) kind → (room : ℕ)
@@ -78,25 +79,25 @@ not_idle b n k kind unfinished ends why.Blocked h = h
 
 -- Before the first entry
 
-only_main : (f : Option ℕ) (t : ℕ) (x : ThreadState) → slice_get (main_thread f) t ≡ Some x → (g : ℕ) × (f ≡ Some g) × (new_thread g [] ≡ x)
+only_main : (f : Option ℕ) (t : ℕ) (x : ThreadState) → slice_get (main_thread thread_limit f) t ≡ Some x → (g : ℕ) × (f ≡ Some g) × (new_thread g [] ≡ x)
 only_main None t x h = cc
 only_main (Some g) zero x h = let same : new_thread g [] ≡ x = cc in (g, refl, same)
 only_main (Some g) (suc t) x h = cc
 
-first_thread : (p : Source) (t : ℕ) (x : ThreadState) → thread_at (start p) t ≡ Some x → (g : ℕ) × (function_number p (codes "main") ≡ Some g) × (new_thread g [] ≡ x)
+first_thread : (p : Source) (t : ℕ) (x : ThreadState) → thread_at (start p thread_limit) t ≡ Some x → (g : ℕ) × (function_number p (codes "main") ≡ Some g) × (new_thread g [] ≡ x)
 first_thread p zero x h = cc
 first_thread p (suc t) x h = only_main (function_number p (codes "main")) t x h
 
-few_first : (f : Option ℕ) → length (main_thread f) ≤ 8
+few_first : (f : Option ℕ) → length (main_thread thread_limit f) ≤ thread_limit
 few_first None = omega arith
 few_first (Some g) = omega arith
 
-first_far : (p : Source) (t : ℕ) (x : ThreadState) → thread_at (start p) t ≡ Some x → IsAsFar [] x
+first_far : (p : Source) (t : ℕ) (x : ThreadState) → thread_at (start p thread_limit) t ≡ Some x → IsAsFar [] x
 first_far p t x h =
     let m = first_thread p t x h in
     subst (IsAsFar []) m.2 (record { begun = refl; ended = refl })
 
-first_functions : (p : Source) → KeepsRules p → (t : ℕ) (x : ThreadState) → thread_at (start p) t ≡ Some x → IsFunctionWith p x.func x.args
+first_functions : (p : Source) → KeepsRules p → (t : ℕ) (x : ThreadState) → thread_at (start p thread_limit) t ≡ Some x → IsFunctionWith p x.func x.args
 first_functions p rules t x h =
     let m = first_thread p t x h in
     subst (λ (z : ThreadState). IsFunctionWith p z.func z.args) m.2 (main_function p m.0 (main_found p rules) m.1)
@@ -108,12 +109,12 @@ first_waits b ws none h = record {
   can = λ i w is. (let no : Some w ≡ None = h.1 i (Some w) is in cc);
 }
 
-first_journal : (p : Source) (limit : ℕ) → HasLawfulJournal (record { program = p; limit = limit; entries = []; store = start p })
-first_journal p limit = let h = beginning (plain p limit) in record { lawful = h.0; store = ap (replay (start p)) h.1 }
+first_journal : (p : Source) (limit : ℕ) → HasLawfulJournal (record { program = p; limit = limit; entries = []; store = start p thread_limit })
+first_journal p limit = let h = beginning (plain p limit) in record { lawful = h.0; store = ap (replay (start p thread_limit)) h.1 }
 
 -- A new book keeps all of it.
 pub new_kept : (p : Source) (limit room : ℕ) (ws : List (Option What)) → KeepsRules p → 1 ≤ limit → limit ≤ 1000000 → room ≡ limit + 129 → AreNoWaits ws
-    → IsKept (record { program = p; limit = limit; entries = []; store = start p }) (record { made = 0; finished = false; room = room; waits = ws })
+    → IsKept (record { program = p; limit = limit; entries = []; store = start p thread_limit }) (record { made = 0; finished = false; room = room; waits = ws })
 new_kept p limit room ws rules least most left none = record {
   journal = first_journal p limit;
   least = least;
@@ -125,5 +126,5 @@ new_kept p limit room ws rules least most left none = record {
   functions = first_functions p rules;
   versions = λ t. refl;
   few_threads = few_first (function_number p (codes "main"));
-  waits = first_waits (record { program = p; limit = limit; entries = []; store = start p }) ws refl none;
+  waits = first_waits (record { program = p; limit = limit; entries = []; store = start p thread_limit }) ws refl none;
 }

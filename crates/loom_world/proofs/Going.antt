@@ -10,7 +10,7 @@ use Rattle.loom_trace.specs.declared.request.Request.{Request}
 use Rattle.loom_event.specs.Event.{Event, entry_by, event_of_deed}
 use Rattle.loom_event.specs.Entries.{thread_of, is_thread}
 use Rattle.loom_trace.specs.Limits.{thread_limit}
-use Rattle.loom_event.specs.Replay.{ThreadState, Store, start, thread_at, after_event, after_act, replay, IsAllowed, IsAllowedAct, IsRunning, IsUnborn}
+use Rattle.loom_event.specs.Replay.{ThreadState, Store, start, thread_at, after_event, after_act, replay, IsAllowed, IsAllowedAct, IsRunning, AwaitsBegin}
 use Rattle.loom_law.specs.Walk.{Version, tick, blocked}
 use Rattle.loom_law.specs.ThreadPart.{Own, AsksToMake, AsksToAct}
 use Rattle.loom_law.specs.Control.{Control, control, versions_of, entries_of}
@@ -25,12 +25,12 @@ use Rattle.loom_strand.specs.PlainWalk.{first_version}
 use Rattle.loom_strand.specs.Life.{has_none, is_end, has_ended, versions_with}
 use Rattle.loom_world.specs.Book.{Book, plain}
 use Rattle.loom_world.specs.BookInvariant.{IsAsFar}
-use Rattle.loom_world.proofs.States.{IsOther, IsBehind, begun_by, ended_by, other_state, own_state, few_threads}
+use Rattle.loom_world.proofs.States.{IsOther, IsBehind, begun_by, ended_by, other_state, own_state, most_threads, few_threads}
 
 -- The journal goes on, and its events leave this store.
 pub record IsGoing (p : Source) (limit : ℕ) (es : List Entry) (st : Store) : Type 0 where
   pub lawful : IsLawful (plain p limit) es
-  pub store : replay (start p) lawful.events ≡ st
+  pub store : replay (start p thread_limit) lawful.events ≡ st
   pub goes_on : IsUnfinished es
   pub far : (t : ℕ) (x : ThreadState) → thread_at st t ≡ Some x → IsAsFar (entries_of t es) x
   pub versions : (t : ℕ) → versions_of [] t es ≡ versions_with (entries_of t es)
@@ -135,7 +135,7 @@ not_true false h = refl
 is_begun : (st : Store) (t : ℕ) (z : ThreadState) → thread_at st t ≡ Some z → IsRunning st t → z.begun ≡ true
 is_begun st t z there r = let same : r.state ≡ z = cc (r.is, there) in subst (λ (x : ThreadState). x.begun ≡ true) same r.begun
 
-is_unborn : (st : Store) (t : ℕ) (z : ThreadState) → thread_at st t ≡ Some z → IsUnborn st t → z.begun ≡ false
+is_unborn : (st : Store) (t : ℕ) (z : ThreadState) → thread_at st t ≡ Some z → AwaitsBegin st t → z.begun ≡ false
 is_unborn st t z there r = let same : r.state ≡ z = cc (r.is, there) in subst (λ (x : ThreadState). x.begun ≡ false) same r.not_begun
 
 -- What the thread is behind an act, and which versions it takes with its entry.
@@ -181,7 +181,7 @@ event_goes {p} {limit} {es} {st} g runs t z there lives q d asks answer allowed 
     let y : Event = event_of_deed t d in
     let of : thread_of x ≡ Some t = entry_thread t d.line d.act in
     let theirs = subst (λ (w : Own). AsksToAct p (plans s) w q) (own_is g t z) asks in
-    let there_so : thread_at (replay (start p) g.lawful.events) t ≡ Some z = ap (λ w. thread_at w t) g.store ∙ there in
+    let there_so : thread_at (replay (start p thread_limit) g.lawful.events) t ≡ Some z = ap (λ w. thread_at w t) g.store ∙ there in
     let allowed_so = subst (λ w. IsAllowed w y) (sym g.store) allowed in
     let more = answer_without s es g.lawful refl g.goes_on runs t z there_so q d theirs answer allowed_so in
     let follows = by_act st t d.line d.act (entries_of t es) z there (g.far t z there) lives allowed in
@@ -189,11 +189,11 @@ event_goes {p} {limit} {es} {st} g runs t z there lives q d asks answer allowed 
     λ u is. (let b = own_state st t d.act z u there is in (b.0 ∙ follows.begun, b.1 ∙ follows.ended)) in
     record {
       lawful = more.0;
-      store = ap (replay (start p)) more.1 ∙ (replay_append (start p) g.lawful.events (y ∷ []) ∙ ap (λ w. after_event w y) g.store);
+      store = ap (replay (start p thread_limit)) more.1 ∙ (replay_append (start p thread_limit) g.lawful.events (y ∷ []) ∙ ap (λ w. after_event w y) g.store);
       goes_on = thread_unfinished es x t of;
       far = far_more g (after_act st t d.act) t x of self (λ u w. other_state st t u d.act w);
       versions = versions_more g t x of follows.takes;
-      few = few_threads st t d.act allowed g.few;
+      few = few_threads st t d.act (omega (arith, most_threads p g.lawful.events st g.store)) allowed g.few;
     }
 
 -- With an operation the store stays as it is
@@ -208,7 +208,7 @@ operation_goes {p} {limit} {es} {st} g t z there lives some x of no_end takes mo
     (subst (λ (w : ThreadState). w.begun ≡ true) same begun, subst (λ (w : ThreadState). w.ended ≡ is_end x) same (lives ∙ sym no_end))) in
     record {
       lawful = more.0;
-      store = ap (replay (start p)) more.1 ∙ g.store;
+      store = ap (replay (start p thread_limit)) more.1 ∙ g.store;
       goes_on = thread_unfinished es x t of;
       far = far_more g st t x of self (λ u w ne is. inl is);
       versions = versions_more g t x of (inr (some, takes));
@@ -222,7 +222,7 @@ pub tick_goes : {p : Source} {limit : ℕ} {es : List Entry} {st : Store} → (g
 tick_goes {p} {limit} {es} {st} g runs t z there lives some l k asks =
     let s : Setting = plain p limit in
     let theirs = subst (λ (w : Own). AsksToMake p (plans s) w l (tick k)) (own_is g t z) asks in
-    let there_so : thread_at (replay (start p) g.lawful.events) t ≡ Some z = ap (λ w. thread_at w t) g.store ∙ there in
+    let there_so : thread_at (replay (start p thread_limit) g.lawful.events) t ≡ Some z = ap (λ w. thread_at w t) g.store ∙ there in
     operation_goes g t z there lives some (e.Tick t l k) refl refl (λ v vs. refl) (tick_without s es g.lawful refl g.goes_on runs t z there_so l k theirs)
 
 pub blocked_goes : {p : Source} {limit : ℕ} {es : List Entry} {st : Store} → (g : IsGoing p limit es st) → over (plain p limit) (front_of (plain p limit) es g.lawful.events) ≡ false
@@ -233,5 +233,5 @@ pub blocked_goes : {p : Source} {limit : ℕ} {es : List Entry} {st : Store} →
 blocked_goes {p} {limit} {es} {st} g runs t z there lives some l what asks disabled =
     let s : Setting = plain p limit in
     let theirs = subst (λ (w : Own). AsksToMake p (plans s) w l (blocked what)) (own_is g t z) asks in
-    let there_so : thread_at (replay (start p) g.lawful.events) t ≡ Some z = ap (λ w. thread_at w t) g.store ∙ there in
+    let there_so : thread_at (replay (start p thread_limit) g.lawful.events) t ≡ Some z = ap (λ w. thread_at w t) g.store ∙ there in
     operation_goes g t z there lives some (e.Blocked t l what) refl refl (λ v vs. refl) (blocked_without s es g.lawful refl g.goes_on runs t z there_so l what theirs disabled)

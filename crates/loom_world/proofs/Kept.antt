@@ -1,6 +1,7 @@
 -- What a book keeps, as its calls read it.
 use Rattle.std.proofs.Common.{ℕ, zero, suc, ◌+◌, ◌-◌, ◌<◌, ◌≤◌, ◌≡◌, ◌⊎◌, inl, inr, ◌==◌, Bool, true, false, not, ◌||◌, List, [], ◌∷◌, ◌++◌, length, get_or, slice_get, Option, Some, None, refl, sym, ap, ◌∙◌, subst, arith}
 use Rattle.std.proofs.lemmas.Option.{slice_get_read, slice_get_within}
+use Rattle.loom_trace.specs.Limits.{thread_limit}
 use Rattle.loom_trace.specs.declared.entry.What.{What}
 use Rattle.loom_trace.specs.declared.entry.Ending.{Ending}
 use Rattle.loom_event.specs.Entries.{thread_entries, last_of_thread}
@@ -58,38 +59,38 @@ not_finished b n k goes_on = by_end n.finished refl
 
 -- What a thread is blocked at
 
-note_at : (b : Book) (n : Notes) (k : IsKept b n) (t : ℕ) (o w : Option What) → 1 ≤ t → t ≤ 8 → o ≡ get_or n.waits (t - 1) o → o ≡ w → slice_get n.waits (t - 1) ≡ Some w
+note_at : (b : Book) (n : Notes) (k : IsKept b n) (t : ℕ) (o w : Option What) → 1 ≤ t → t ≤ thread_limit → o ≡ get_or n.waits (t - 1) o → o ≡ w → slice_get n.waits (t - 1) ≡ Some w
 note_at b n k t o w first last is same =
     slice_get_read n.waits (length n.waits) (t - 1) o refl (omega (arith, first, last, k.waits.count)) is ∙ ap Some same
 
 next : (t : ℕ) → 1 ≤ t → suc (t - 1) ≡ t
 next t h = omega (arith, h)
 
-pub note_says : (b : Book) (n : Notes) (k : IsKept b n) (t : ℕ) (o w : Option What) → 1 ≤ t → t ≤ 8 → o ≡ get_or n.waits (t - 1) o → o ≡ w
+pub note_says : (b : Book) (n : Notes) (k : IsKept b n) (t : ℕ) (o w : Option What) → 1 ≤ t → t ≤ thread_limit → o ≡ get_or n.waits (t - 1) o → o ≡ w
     → wait_in (last_of_thread t None b.entries) ≡ w
 note_says b n k t o w first last is same =
     let each = k.waits.each (t - 1) w (note_at b n k t o w first last is same) in
     ap (λ z. wait_in (last_of_thread z None b.entries)) (sym (next t first)) ∙ sym each
 
-pub note_can : (b : Book) (n : Notes) (k : IsKept b n) (t : ℕ) (o : Option What) (w : What) → 1 ≤ t → t ≤ 8 → o ≡ get_or n.waits (t - 1) o → o ≡ Some w → CanWait b.store w
+pub note_can : (b : Book) (n : Notes) (k : IsKept b n) (t : ℕ) (o : Option What) (w : What) → 1 ≤ t → t ≤ thread_limit → o ≡ get_or n.waits (t - 1) o → o ≡ Some w → CanWait b.store w
 note_can b n k t o w first last is same = k.waits.can (t - 1) w (note_at b n k t o (Some w) first last is same)
 
-pub is_blocked_at : (b : Book) (n : Notes) (k : IsKept b n) (t : ℕ) (o : Option What) (w : What) → 1 ≤ t → t ≤ 8 → o ≡ get_or n.waits (t - 1) o → o ≡ Some w → IsDisabled b.store w
+pub is_blocked_at : (b : Book) (n : Notes) (k : IsKept b n) (t : ℕ) (o : Option What) (w : What) → 1 ≤ t → t ≤ thread_limit → o ≡ get_or n.waits (t - 1) o → o ≡ Some w → IsDisabled b.store w
     → IsBlocked (setting b) (front b) t
 is_blocked_at b n k t o w first last is same disabled =
     blocked_by b k.journal t w (note_says b n k t o (Some w) first last is same) (note_can b n k t o w first last is same) disabled
 
-pub is_free_at : (b : Book) (n : Notes) (k : IsKept b n) (t : ℕ) (o : Option What) (w : What) → 1 ≤ t → t ≤ 8 → o ≡ get_or n.waits (t - 1) o → o ≡ Some w → (IsDisabled b.store w → ⊥)
+pub is_free_at : (b : Book) (n : Notes) (k : IsKept b n) (t : ℕ) (o : Option What) (w : What) → 1 ≤ t → t ≤ thread_limit → o ≡ get_or n.waits (t - 1) o → o ≡ Some w → (IsDisabled b.store w → ⊥)
     → IsBlocked (setting b) (front b) t → ⊥
 is_free_at b n k t o w first last is same enabled =
     free_by b t w (note_says b n k t o (Some w) first last is same) (note_can b n k t o w first last is same) enabled
 
-pub is_free_without : (b : Book) (n : Notes) (k : IsKept b n) (t : ℕ) (o : Option What) → 1 ≤ t → t ≤ 8 → o ≡ get_or n.waits (t - 1) o → o ≡ None
+pub is_free_without : (b : Book) (n : Notes) (k : IsKept b n) (t : ℕ) (o : Option What) → 1 ≤ t → t ≤ thread_limit → o ≡ get_or n.waits (t - 1) o → o ≡ None
     → IsBlocked (setting b) (front b) t → ⊥
 is_free_without b n k t o first last is same = free_without b t (last_of_thread t None b.entries) (note_says b n k t o None first last is same)
 
 -- Threads have the numbers that there may be.
-pub live_number : (b : Book) (n : Notes) → IsKept b n → (t : ℕ) → Lives b.store t → (1 ≤ t) × (t ≤ 8)
+pub live_number : (b : Book) (n : Notes) → IsKept b n → (t : ℕ) → Lives b.store t → (1 ≤ t) × (t ≤ thread_limit)
 live_number b n k zero h = cc (h.is)
 live_number b n k (suc i) h =
     let there : i < length b.store.spawned = slice_get_within b.store.spawned i h.state h.is in
@@ -129,14 +130,14 @@ blocked_more b t before here u less lives = either (up_to u t less)
     either (inl h) = before u h lives
     either (inr h) = subst (λ z. IsBlocked (setting b) (front b) z) (sym h) (here (subst (λ z. Lives b.store z) h lives))
 
-thread_number : (s : Store) → length s.spawned ≤ 8 → (t : ℕ) (x : ThreadState) → thread_at s t ≡ Some x → t < 9
+thread_number : (s : Store) → length s.spawned ≤ thread_limit → (t : ℕ) (x : ThreadState) → thread_at s t ≡ Some x → t < suc thread_limit
 thread_number s few zero x h = cc
 thread_number s few (suc i) x h = let there : i < length s.spawned = slice_get_within s.spawned i x h in omega (arith, there, few)
 
-pub all_ended : (s : Store) → length s.spawned ≤ 8 → (n : ℕ) → n ≡ 9 → ((u : ℕ) (x : ThreadState) → u < n → thread_at s u ≡ Some x → x.ended ≡ true) → AllEnded s
+pub all_ended : (s : Store) → length s.spawned ≤ thread_limit → (n : ℕ) → n ≡ suc thread_limit → ((u : ℕ) (x : ThreadState) → u < n → thread_at s u ≡ Some x → x.ended ≡ true) → AllEnded s
 all_ended s few n is h t x there = h t x (omega (arith, is, thread_number s few t x there)) there
 
-pub all_blocked : (b : Book) → length b.store.spawned ≤ 8 → (n : ℕ) → n ≡ 9 → ((u : ℕ) → u < n → Lives b.store u → IsBlocked (setting b) (front b) u)
+pub all_blocked : (b : Book) → length b.store.spawned ≤ thread_limit → (n : ℕ) → n ≡ suc thread_limit → ((u : ℕ) → u < n → Lives b.store u → IsBlocked (setting b) (front b) u)
     → (t : ℕ) → Lives b.store t → IsBlocked (setting b) (front b) t
 all_blocked b few n is h t lives = h t (omega (arith, is, thread_number b.store few t lives.state lives.is)) lives
 

@@ -1,9 +1,10 @@
-mod States
+pub mod States
 mod Going
 mod Answered
 mod Notes
-mod Ends
+pub mod Ends
 mod Kept
 mod Appended
 mod Finished
 mod Strands
+pub mod FewEntries

@@ -21,7 +21,7 @@ use Rattle.loom_store.specs.Answer.{CanWait, done}
 use Rattle.loom_law.proofs.Earlier.{by_test, same_number}
 use Rattle.loom_world.specs.Book.{Book}
 use Rattle.loom_world.specs.BookInvariant.{wait_in, wait_of, HasWaits}
-use Rattle.loom_world.specs.Entry.{IsGrantOf, IsEntryFor}
+use Rattle.loom_world.specs.Entry.{IsGrantWith, IsEntryFor}
 
 -- The last entry of a thread
 
@@ -67,7 +67,7 @@ wait_of_deed : (t : ℕ) (o : Option Deed) (x : Entry) → IsEntryOf t o x → w
 wait_of_deed t None x h = absurd h
 wait_of_deed t (Some d) x h = ap (λ z. wait_in (Some z)) h ∙ wait_of_act t d.line d.act
 
-wait_of_grant : (t : ℕ) (q : Request) (v : ℤ) (x : Entry) → IsGrantOf t q v x → wait_in (Some x) ≡ None
+wait_of_grant : (t : ℕ) (q : Request) (v : ℤ) (x : Entry) → IsGrantWith t q v x → wait_in (Some x) ≡ None
 wait_of_grant t (r.Begin l) v x h = wait_of_deed t (done (r.Begin l) v) x h
 wait_of_grant t (r.End l) v x h = wait_of_deed t (done (r.End l) v) x h
 wait_of_grant t (r.Trap l n) v x h = wait_of_deed t (done (r.Trap l n) v) x h

@@ -3,7 +3,10 @@ use Rattle.std.proofs.Common.{ℕ, zero, suc, ◌+◌, ◌≤◌, ◌≡◌, ◌
 use Rattle.std.proofs.lemmas.List.{length-append}
 use Rattle.loom_lang.specs.Trace.{Act, begin, end, trap, read, write, lock, unlock, down, up, spawn, join, print}
 use Rattle.loom_trace.specs.Limits.{thread_limit}
-use Rattle.loom_event.specs.Replay.{ThreadState, Store, new_thread, thread_at, with_thread, after_act, IsAllowedAct}
+use Rattle.loom_tree.specs.Tree.{Source}
+use Rattle.loom_event.specs.Event.{Event}
+use Rattle.loom_event.specs.Replay.{ThreadState, Store, start, new_thread, thread_at, with_thread, after_act, replay, IsAllowedAct}
+use Rattle.loom_law.proofs.Turns.{replay_most}
 
 -- With one thread changed
 
@@ -109,23 +112,27 @@ own_state s (suc n) (spawn c f vs) x y h g = as_before _ x y (front_too s.spawne
 own_state s t (join c) x y h g = as_before _ x y h g
 own_state s t (print v) x y h g = as_before _ x y h g
 
--- there are no more threads than there may be
-pub few_threads : (s : Store) (t : ℕ) (a : Act) → IsAllowedAct s t a → length s.spawned ≤ thread_limit → length (Store.spawned (after_act s t a)) ≤ thread_limit
-few_threads s t begin h few = rw (many_with s (λ x. record x { begun = true }) t) few
-few_threads s t end h few = rw (many_with s (λ x. record x { ended = true }) t) few
-few_threads s t (trap c) h few = few
-few_threads s t (read w v) h few = few
-few_threads s t (write w v) h few = few
-few_threads s t (lock m) h few = few
-few_threads s t (unlock m) h few = few
-few_threads s t (down k) h few = few
-few_threads s t (up k) h few = few
-few_threads s t (spawn c f vs) h few =
-    let most : c ≤ thread_limit = h.1.1 in
+-- how many threads there may be
+pub most_threads : (p : Source) (xs : List Event) (st : Store) → replay (start p thread_limit) xs ≡ st → st.most ≡ thread_limit
+most_threads p xs st h = ap Store.most (sym h) ∙ replay_most (start p thread_limit) xs
+
+-- there are no more than that
+pub few_threads : (s : Store) (t : ℕ) (a : Act) → s.most ≤ thread_limit → IsAllowedAct s t a → length s.spawned ≤ thread_limit → length (Store.spawned (after_act s t a)) ≤ thread_limit
+few_threads s t begin small h few = rw (many_with s (λ x. record x { begun = true }) t) few
+few_threads s t end small h few = rw (many_with s (λ x. record x { ended = true }) t) few
+few_threads s t (trap c) small h few = few
+few_threads s t (read w v) small h few = few
+few_threads s t (write w v) small h few = few
+few_threads s t (lock m) small h few = few
+few_threads s t (unlock m) small h few = few
+few_threads s t (down k) small h few = few
+few_threads s t (up k) small h few = few
+few_threads s t (spawn c f vs) small h few =
+    let most : c ≤ s.most = h.1.1 in
     let is : c ≡ length s.spawned + 1 = h.1.0 in
-    omega (arith, most, is, length-append s.spawned (new_thread f vs ∷ []))
-few_threads s t (join c) h few = few
-few_threads s t (print v) h few = few
+    omega (arith, small, most, is, length-append s.spawned (new_thread f vs ∷ []))
+few_threads s t (join c) small h few = few
+few_threads s t (print v) small h few = few
 
 -- A thread that is new was spawned.
 

@@ -2,16 +2,17 @@
 use Rattle.std.specs.Prelude.{ℕ, ◌≡◌, ◌<◌, false, List, [], ◌∷◌, ◌++◌, Some}
 use Rattle.loom_trace.specs.declared.entry.Entry.{Entry}
 use Rattle.loom_trace.specs.declared.request.Request.{Request}
-use Rattle.loom_event.specs.Answer.{HasNumbers}
+use Rattle.loom_event.specs.Answer.{asks_begin, HasNumbers}
 use Rattle.loom_event.specs.Entries.{thread_of, thread_entries}
 use Rattle.loom_event.specs.Replay.{ThreadState, thread_at}
 use Rattle.loom_law.specs.Control.{entries_of}
 use Rattle.loom_law.specs.Lawful.{IsBlocked}
 use Rattle.loom_law.specs.ThreadPart.{Own}
 use Rattle.loom_law.specs.TurnLaws.{ends_blocked}
-use Rattle.loom_strand.specs.Life.{asks_begin, has_none, IsLastBlockedFor, versions_with}
+use Rattle.loom_strand.specs.Life.{has_none, IsLastBlockedFor, versions_with}
 use Rattle.loom_strand.specs.Strand.{AsksNext, IsReplyTo}
 use Rattle.loom_world.specs.Book.{Book, IsOfSameRun, setting, front}
+use Rattle.loom_world.specs.Idle.{IsClosed}
 use Rattle.loom_world.specs.Threads.{KeepsThreads}
 
 -- what is the thread's own: it took no other version than the first
@@ -30,12 +31,13 @@ pub record Asks (b : Book) (t : ℕ) (q : Request) : Type 0 where
   pub blocked : IsLastBlockedFor t q (entries_of t b.entries)
 
 -- The entry is made that answers what thread t asks for, and the threads that were spawned keep their functions.
-pub record IsAnswered (old : Book) (t : ℕ) (q : Request) (x : Entry) (new : Book) : Type 0 where
+pub record MakesAnswer (old : Book) (t : ℕ) (q : Request) (x : Entry) (new : Book) : Type 0 where
   pub run : IsOfSameRun old new
   pub appended : new.entries ≡ old.entries ++ x ∷ []
   pub thread : thread_of x ≡ Some t
   pub replies : IsReplyTo (ends_blocked (entries_of t old.entries)) t (Some q) x
   pub threads : KeepsThreads old.store new.store
+  pub goes_on : IsClosed old → ⊥
   pub free : IsBlocked (setting old) (front old) t → ⊥
   -- the limit wasn't reached
   pub few : thread_entries old.entries < old.limit

@@ -2,6 +2,7 @@
 use Rattle.std.specs.Prelude.{ℕ, ◌≡◌, Bool, false, List, []}
 use Rattle.loom_tree.specs.Tree.{Source}
 use Rattle.loom_trace.specs.declared.entry.Entry.{Entry}
+use Rattle.loom_trace.specs.Limits.{thread_limit}
 use Rattle.loom_event.specs.Replay.{Store, start, replay}
 use Rattle.loom_law.specs.Control.{control}
 use Rattle.loom_law.specs.Lawful.{Setting, Front, IsLawful}
@@ -10,9 +11,9 @@ use Rattle.loom_law.specs.Lawful.{Setting, Front, IsLawful}
 abbrev pub never : List Entry → Bool
 never es = false
 
--- A run of the program without commands, in which threads make at most `limit` entries.
+-- A run of the program without commands, with as many threads as there may be at most, which make at most `limit` entries.
 abbrev pub plain : Source → ℕ → Setting
-plain p limit = record { program = p; commands = []; limit = limit; stop = never }
+plain p limit = record { program = p; commands = []; limit = limit; threads = thread_limit; stop = never }
 
 pub record Book : Type 0 where
   pub program : Source
@@ -30,14 +31,14 @@ front b = record { entries = b.entries; store = b.store; control = control [] b.
 -- The journal is lawful, and the store is what its events leave.
 pub record HasLawfulJournal (b : Book) : Type 0 where
   pub lawful : IsLawful (setting b) b.entries
-  pub store : replay (start b.program) lawful.events ≡ b.store
+  pub store : replay (start b.program thread_limit) lawful.events ≡ b.store
 
 -- Nothing has happened yet.
 pub record IsNew (p : Source) (n : ℕ) (b : Book) : Type 0 where
   pub program : b.program ≡ p
   pub limit : b.limit ≡ n
   pub entries : b.entries ≡ []
-  pub store : b.store ≡ start p
+  pub store : b.store ≡ start p thread_limit
 
 -- It is the book of the same run.
 pub record IsOfSameRun (old new : Book) : Type 0 where

@@ -38,20 +38,21 @@ CanBeGranted (r.Join l u) v = IsThreadNumber u
 CanBeGranted q v = Unit {0}
 
 -- the entry of a request of thread t that is granted with this value
-abbrev pub IsGrantOf : ℕ → Request → ℤ → Entry → Type 0
-IsGrantOf t (r.Tick l k) v x = x ≡ e.Tick t l k
-IsGrantOf t q v x = IsEntryOf t (done q v) x
+abbrev pub IsGrantWith : ℕ → Request → ℤ → Entry → Type 0
+IsGrantWith t (r.Tick l k) v x = x ≡ e.Tick t l k
+IsGrantWith t q v x = IsEntryOf t (done q v) x
 
--- Some store, of no more threads than there may be, answers the request so.
+-- Some store, of no more threads than any may have, answers the request so.
 pub record IsAnswerable (t : ℕ) (q : Request) (y : Answer) : Type 0 where
   pub old : Store
   pub new : Store
   pub can : CanAnswer old q
   pub few : length old.spawned ≤ thread_limit
+  pub most : old.most ≤ thread_limit
   pub answers : Answers old t q y new
 
 -- the entry of thread t where its request is answered so
 abbrev pub IsEntryFor : ℕ → Request → Answer → Entry → Type 0
-IsEntryFor t q (a.Granted v) x = IsGrantOf t q v x
+IsEntryFor t q (a.Granted v) x = IsGrantWith t q v x
 IsEntryFor t q (a.Disabled what) x = x ≡ e.Blocked t (line_in q) what
 IsEntryFor t q (a.Trapped n) x = IsEntryOf t (trapped q) x

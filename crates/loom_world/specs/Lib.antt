@@ -6,3 +6,4 @@ pub mod Threads
 pub mod Asking
 pub mod Entry
 pub mod World
+pub mod Laws

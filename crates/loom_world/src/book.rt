@@ -5,13 +5,12 @@ ghost use Rattle.loom_event.specs.Replay.{AllEnded};
 ghost use Rattle.loom_law.specs.Lawful.{Ends, Lives, IsBlocked};
 ghost use Rattle.loom_trace.specs.declared.entry.Ending.{Ending as Kind};
 ghost use Rattle.loom_trace.specs.Limits.{thread_limit, entry_limit};
-ghost use Rattle.loom_world.specs.declared.choice.Why.TheVariants as why;
 ghost use Rattle.loom_world.specs.declared.choice.Choice.TheVariants as choice;
 ghost use Rattle.loom_world.specs.Book.{IsNew, IsOfSameRun, HasLawfulJournal, setting, front};
 ghost use Rattle.loom_world.specs.Idle.{IsWritten, IsClosed, IsIdleThread, CanGoOn, IsLive};
 ghost use Rattle.loom_world.specs.Turned.{Turns};
 ghost use Rattle.loom_world.specs.BookInvariant.{wait_of, AreNoWaits};
-ghost use Rattle.loom_world.specs.Asking.{Asks, IsAnswered};
+ghost use Rattle.loom_world.specs.Asking.{Asks, MakesAnswer};
 
 use crate::choice::{Turned, Why};
 use crate::entry::entry_for;
@@ -172,26 +171,28 @@ impl Book {
         }
     }
 
-    /// Answers thread `t`, and makes its entry: where its request is disabled that is `Blocked`. `None` where it is blocked already. It takes
-    /// no memory.
-    pub(crate) fn answer(&mut self, t: u8, request: &Request) -> Option<Entry>
+    /// Answers thread `t`, and makes its entry: where its request is disabled that is `Blocked`. An `Err` tells why there is none, and leaves
+    /// the book as it was: no thread makes an entry any more, or it is blocked already. It takes no memory.
+    pub(crate) fn answer(&mut self, t: u8, request: &Request) -> Result<Entry, Why>
         requires first { 1 ≤ t }
         requires last { t ≤ thread_limit }
-        requires goes_on { IsClosed self.old → ⊥ }
         requires asks { Asks self.old t request.now }
-        ensures some { IfSome result (λ x. IsAnswered self.old t request.now x self.new) }
-        ensures none { IfNone result (IsIdleThread self.old t why.Blocked × (self.new ≡ self.old)) }
+        ensures ok { IfOk result (λ x. MakesAnswer self.old t request.now x self.new) }
+        ensures err { IfErr result (λ w. IsIdleThread self.old t w × (self.new ≡ self.old)) }
         ensures lawful { HasLawfulJournal self.new }
     {
+        if self.is_closed() {
+            return Err(Why::Over);
+        }
         if self.is_blocked(t) {
-            return None;
+            return Err(Why::Blocked);
         }
         let answer = self.store.ask(t, request);
         let entry = entry_for(t, request, answer);
         self.journal.push(entry.copy());
         self.waits[t as usize - 1] = wait_of(answer);
         self.made += 1;
-        Some(entry)
+        Ok(entry)
     }
 
     // Whether each thread that was spawned has ended.

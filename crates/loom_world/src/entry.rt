@@ -1,6 +1,6 @@
 //! The entry that an answer makes.
 ghost use Rattle.std.specs.Prelude.{◌≡◌};
-ghost use Rattle.loom_world.specs.Entry.{IsAnswerable, CanBeGranted, IsEntryFor, IsGrantOf, line_in};
+ghost use Rattle.loom_world.specs.Entry.{IsAnswerable, CanBeGranted, IsEntryFor, IsGrantWith, line_in};
 
 use loom_store::answer::Answer;
 use loom_trace::entry::Entry;
@@ -30,7 +30,7 @@ fn line_of(request: &Request) -> u32
 // The entry of a request that is granted, with the value that the answer gives.
 fn granted(thread: u8, request: &Request, value: i64) -> Entry
     requires { CanBeGranted request.now value }
-    ensures { IsGrantOf thread request.now value result }
+    ensures { IsGrantWith thread request.now value result }
 {
     match *request {
         Request::Begin { line } => Entry::Begin { thread, line },

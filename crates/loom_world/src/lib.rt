@@ -4,6 +4,7 @@
 mod book;
 pub mod choice;
 mod entry;
+pub mod laws;
 #[cfg(test)]
 mod tests;
 pub mod world;

@@ -3,8 +3,10 @@ ghost use Rattle.std.specs.Prelude.{◌≡◌, ◌≤◌, IfOk, Some, true, fals
 ghost use Rattle.std.specs.List.{AllByRecursion};
 ghost use Rattle.loom_trace.specs.Limits.{thread_limit, entry_limit};
 ghost use Rattle.loom_world.specs.declared.choice.Choice.TheVariants as choice;
+ghost use Rattle.loom_world.specs.declared.choice.Turned.TheVariants as turned;
+ghost use Rattle.loom_world.specs.declared.choice.Why.{Why as Reason};
 ghost use Rattle.loom_world.specs.Book.{IsNew, IsOfSameRun, HasLawfulJournal};
-ghost use Rattle.loom_world.specs.Idle.{IsWritten, IsClosed, IsLive};
+ghost use Rattle.loom_world.specs.Idle.{IsWritten, IsLive};
 ghost use Rattle.loom_world.specs.Asking.{Asks};
 ghost use Rattle.loom_world.specs.Turned.{Turns};
 ghost use Rattle.loom_world.specs.Threads.{IsStrandOf, KeepsThreads, AreNew};
@@ -59,24 +61,25 @@ fn strands_of(alloc: Global, flow: &Flow, limit: u32) -> Result<Vec<Strand>, NoM
     Ok(strands)
 }
 
-// Makes the entry of thread `t`, whose strand asks for this, in the book and in the strand, or tells why it makes none.
+// Makes the entry of thread `t`, whose strand asks for this, in the book and in the strand, or tells why it makes none; then both stay as they
+// were.
 fn commit(book: &mut Book, flow: &Flow, strand: &mut Strand, t: u8, request: Request) -> Turned
     requires first { 1 ≤ t }
     requires last { t ≤ thread_limit }
     requires program { flow.now.program ≡ book.old.program }
     requires strand { IsStrandOf book.old t strand.old }
-    requires goes_on { IsClosed book.old → ⊥ }
     requires asks { Asks book.old t request }
     requires wanted { strand.old.wanted ≡ Some request }
     ensures run { IsOfSameRun book.old book.new }
     ensures turns { Turns book.old (choice.Thread t) book.new result }
     ensures strand { IsStrandOf book.new t strand.new }
+    ensures still { (w : Reason) → result ≡ turned.Idle w → strand.new ≡ strand.old }
     ensures threads { KeepsThreads book.old.store book.new.store }
     ensures lawful { HasLawfulJournal book.new }
 {
     match book.answer(t, &request) {
-        None => Turned::Idle(Why::Blocked),
-        Some(entry) => {
+        Err(why) => Turned::Idle(why),
+        Ok(entry) => {
             strand.answer(flow, entry);
             Turned::Moved
         }
@@ -178,6 +181,7 @@ impl World {
     pub fn finished(&self) -> bool
         ensures finished { result ≡ true → IsWritten self.now }
         ensures unfinished { result ≡ false → IsWritten self.now → ⊥ }
+        ensures lawful { HasLawfulJournal self.now }
     {
         self.book.is_finished()
     }

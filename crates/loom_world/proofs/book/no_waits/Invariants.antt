@@ -1,11 +1,12 @@
 use Rattle.std.proofs.Common.{ℕ, ◌≡◌, Option, None, Some, length, slice_get}
 use Rattle.std.specs.Prelude.{vec_capacity}
+use Rattle.loom_trace.specs.Limits.{thread_limit}
 use Rattle.loom_trace.specs.declared.entry.What.{What}
 use Rattle.loom_world.proofs.book.no_waits.Given as goal
 
 abbrev pub invariant-threads : goal.invariant-threads
 invariant-threads l = record {
   count : length l.waits.items ≡ l.counter;
-  room : vec_capacity l.waits ≡ 8;
+  room : vec_capacity l.waits ≡ thread_limit;
   none : (i : ℕ) (w : Option What) → slice_get l.waits.items i ≡ Some w → w ≡ None;
 }

@@ -1,4 +1,5 @@
 use Rattle.std.proofs.Common.{◌≡◌, ◌≤◌, length, true, Some, None, sym, ap, ◌∙◌, subst, arith}
+use Rattle.loom_trace.specs.Limits.{thread_limit}
 use Rattle.loom_event.specs.Replay.{ThreadState, thread_at}
 use Rattle.loom_store.specs.Threads.{state_of}
 use Rattle.loom_world.specs.Book.{Book}
@@ -19,4 +20,4 @@ threads-preserved c =
 
 pub returns-clause-ended : goal.returns-clause-ended
 returns-clause-ended c h =
-    all_ended c.args.self.now.store (subst (λ (b : Book). length b.store.spawned ≤ 8) c.self.view_is c.self.invariant.few_threads) c.threads.t (omega (arith, c.threads.auto.t-end, c.threads-test.false)) c.threads.invariant
+    all_ended c.args.self.now.store (subst (λ (b : Book). length b.store.spawned ≤ thread_limit) c.self.view_is c.self.invariant.few_threads) c.threads.t (omega (arith, c.threads.auto.t-end, c.threads-test.false)) c.threads.invariant

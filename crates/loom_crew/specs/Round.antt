@@ -1,0 +1,26 @@
+-- The order of the sequential driver.
+use Rattle.std.specs.Prelude.{ℕ, zero, suc, ◌<◌, List, [], ◌∷◌, ◌++◌, length}
+use Rattle.loom_trace.specs.Limits.{thread_limit}
+use Rattle.loom_world.specs.Book.{Book, HasLawfulJournal}
+use Rattle.loom_world.specs.Idle.{IsWritten}
+use Rattle.loom_world.specs.World.{Lead}
+use Rattle.loom_world.specs.declared.choice.Choice.{Choice}
+use Rattle.loom_world.specs.declared.choice.Choice.TheVariants as c
+
+-- n threads in the order of their numbers, from thread t on
+abbrev pub threads_from : ℕ → ℕ → List Choice
+threads_from t zero = []
+threads_from t (suc n) = c.Thread t ∷ threads_from (suc t) n
+
+-- A round: control, and then each thread that there may be.
+abbrev pub round : List Choice
+round = c.Control ∷ threads_from 1 thread_limit
+
+-- so many rounds
+abbrev pub rounds : ℕ → List Choice
+rounds zero = []
+rounds (suc n) = rounds n ++ round
+
+-- A round of a run that isn't finished makes an entry.
+abbrev pub HasProgress : Type 0
+HasProgress = (old new : Book) → HasLawfulJournal old → (IsWritten old → ⊥) → Lead old round new → length old.entries < length new.entries

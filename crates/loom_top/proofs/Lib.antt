@@ -1,9 +1,3 @@
-pub mod OneThread
-pub mod Turns
-pub mod Ends
-pub mod Begun
-pub mod UnderWay
 pub mod Words
 pub mod Written
 pub mod Top
-pub mod Behind

@@ -11,18 +11,23 @@ use Rattle.loom_io.proofs.Pages.{front_behind}
 use Rattle.loom_tree.specs.Tree.{Source}
 use Rattle.loom_tree.specs.Decimal.{decimal}
 use Rattle.loom_trace.specs.declared.entry.Entry.{Entry}
+use Rattle.loom_trace.specs.declared.entry.Entry.TheVariants as e
 use Rattle.loom_trace.specs.declared.entry.Ending.{Ending}
 use Rattle.loom_trace.specs.declared.entry.Ending.TheVariants as k
 use Rattle.loom_trace.specs.Text.{journal_text}
 use Rattle.loom_lang.specs.Program.{IsProgram}
-use Rattle.loom_lang.specs.Laws.{HasOneProgram}
+use Rattle.loom_event.specs.Entries.{IsFinished}
+use Rattle.loom_event.proofs.Stops.{never_stopped}
+use Rattle.loom_law.specs.Lawful.{Front, Ends, front_at, IsLawful}
+use Rattle.loom_law.proofs.Promises.{always_promises}
+use Rattle.loom_world.specs.Book.{Book, plain, IsNew, IsOfSameRun, HasLawfulJournal}
+use Rattle.loom_world.specs.Idle.{IsWritten}
 use Rattle.loom_top.specs.declared.status.Status.{Status}
 use Rattle.loom_top.specs.declared.status.Status.TheVariants as status
-use Rattle.loom_top.specs.Runnable.{is_runnable}
 use Rattle.loom_top.specs.Code.{code, ended_as}
 use Rattle.loom_top.specs.Invocation.{Invocation, IsWithoutLimit, IsWithLimit, IsInvocation}
 use Rattle.loom_lang.specs.Limits.{file_limit}
-use Rattle.loom_top.specs.Answers.{CanRun, CanEnd, IsRunOf, Call, FileOwes, CanBe, IsFileOf, CallOwes, Answers, IsValid, IsMissing, Put, FileEnds}
+use Rattle.loom_top.specs.Answers.{CanEnd, EndsIn, IsRunOf, Call, FileOwes, CanBe, IsFileOf, CallOwes, Answers, IsValid, IsMissing, Put, FileEnds}
 
 -- a text, and then a front of another
 pub front_after : (a b c : Option (List ℕ)) (x y : List ℕ) → Appends a b x → TookFront b c y → TookFront a c (x ++ y)
@@ -45,12 +50,14 @@ answered s words text owed result o (inl h) =
     whole status.ReadFault k = (text, k, h.1)
     whole status.WriteFault k = absurd k
     whole status.NoMemory k = (text, k, h.1)
+    whole status.Stuck k = (text, k, h.1)
     whole status.Limit k = (text, k, h.1)
     whole status.TooLong k = (text, k, h.1)
 
 pub owes_file : (s : Call) (words : List (List ℕ)) (a : Invocation) (file text : List ℕ) (owed : Status) → IsInvocation words a → s.told a.name ≢ Missing → IsFileOf s a.name file
     → length file ≤ file_limit → FileOwes file a.limit owed text → CallOwes s words owed text
 owes_file s words a file text status.Done c m t l o = (a, c, file, t, l, o)
+owes_file s words a file text status.Stuck c m t l o = (a, c, file, t, l, o)
 owes_file s words a file text status.Limit c m t l o = (a, c, file, t, l, o)
 owes_file s words a file text status.Refused c m t l o = (a, c, file, t, l, o)
 owes_file s words a file text status.NoMemory c m t l o = (a, c, m, o)
@@ -94,17 +101,39 @@ pub file_answered : (s : Call) (words : List (List ℕ)) (a : Invocation) (bytes
 file_answered s words a bytes result c r l e =
     answered s words e.1 e.0 result (owes_file s words a bytes e.1 e.0 c (not_missing (s.told a.name) bytes r) (whole_file (s.told a.name) bytes r l) l e.2) e.3
 
-other_end : (kind : Ending) → (kind ≡ k.Done → ⊥) → (kind ≡ k.Limit → ⊥) → CanEnd kind → ⊥
-other_end kind done limit (inl h) = done h
-other_end kind done limit (inr h) = limit h
+-- A run without a stop test isn't stopped.
+never_ends_so : (p : Source) (limit : ℕ) (f : Front) (kind : Ending) → Ends (plain p limit) f kind → CanEnd kind
+never_ends_so p limit f k.Done h = tt
+never_ends_so p limit f k.Stuck h = tt
+never_ends_so p limit f k.Limit h = tt
+never_ends_so p limit f k.Stopped h = let no : false ≡ true = sym (never_stopped f.entries) ∙ h in cc
+
+lawful_ends : (p : Source) (limit : ℕ) (journal : List Entry) (h : IsLawful (plain p limit) journal) (kind : Ending) → IsFinished journal kind → CanEnd kind
+lawful_ends p limit journal h kind f = never_ends_so p limit (front_at (plain p limit) h.events f.front) kind (h.follows f.front (e.Finish kind) [] f.is).1.1.1
+
+-- A finished lawful journal is that of a run.
+pub lawful_run : (p : Source) (limit : ℕ) (journal : List Entry) (h : IsLawful (plain p limit) journal) (kind : Ending) → IsFinished journal kind → IsRunOf p limit kind journal
+lawful_run p limit journal h kind f = record {
+  lawful = h;
+  promises = always_promises (plain p limit) journal h;
+  ended = record { finished = f; ends = lawful_ends p limit journal h kind f };
+}
+
+-- That of a new world which has run to its end is that of a run of its program.
+pub world_run : (p : Source) (limit : ℕ) (a b : Book) → IsNew p limit a → IsOfSameRun a b → HasLawfulJournal b → IsWritten b → (kind : Ending) × IsRunOf p limit kind b.entries
+world_run p limit a b new same h w =
+    let program : b.program ≡ p = same.program ∙ new.program in
+    let most : b.limit ≡ limit = same.limit ∙ new.limit in
+    let lawful : IsLawful (plain p limit) b.entries = subst (λ (n : ℕ). IsLawful (plain p n) b.entries) most (subst (λ (q : Source). IsLawful (plain q b.limit) b.entries) program h.lawful) in
+    (w.0, lawful_run p limit b.entries lawful w.0 w.1)
 
 -- the run that was made is owed, with the status of its end
-pub run_owes : (file : List ℕ) (limit : ℕ) (p : Source) (journal : List Entry) (kind : Ending) → CanRun file p → IsRunOf p limit kind journal
+pub run_owes : (file : List ℕ) (limit : ℕ) (p : Source) (journal : List Entry) (kind : Ending) → IsProgram file p → IsRunOf p limit kind journal
     → FileOwes file limit (ended_as kind) (journal_text journal)
 run_owes file limit p journal k.Done c r = (p, c, journal, r, refl)
+run_owes file limit p journal k.Stuck c r = (p, c, journal, r, refl)
 run_owes file limit p journal k.Limit c r = (p, c, journal, r, refl)
-run_owes file limit p journal k.Stuck c r = absurd (other_end k.Stuck (λ e. cc) (λ e. cc) r.ends)
-run_owes file limit p journal k.Stopped c r = absurd (other_end k.Stopped (λ e. cc) (λ e. cc) r.ends)
+run_owes file limit p journal k.Stopped c r = absurd r.ended.ends
 
 -- Completeness
 
@@ -130,10 +159,11 @@ told_one s a b state file e is h = subst (λ (z : FileState). CanBe z file) (ap 
 none_told : (s : Call) (words : List (List ℕ)) → IsMissing s words → (c : Invocation) → IsInvocation words c → (file : List ℕ) → IsFileOf s c.name file → ⊥
 none_told s words v c asks file is = told_one s c.name v.invocation.name Missing file (one_name words c v.invocation asks v.asks) v.told is
 
-pub complete : (s : Call) (words : List (List ℕ)) (x : Status) → Answers s words x → IsValid s words → (code x ≡ 0) ⊎ ((code x ≡ 8) ⊎ (code x ≡ 6))
+pub complete : (s : Call) (words : List (List ℕ)) (x : Status) → Answers s words x → IsValid s words → (code x ≡ 0) ⊎ ((code x ≡ 7) ⊎ ((code x ≡ 8) ⊎ (code x ≡ 6)))
 complete s words status.Done h v = inl refl
-complete s words status.Limit h v = inr (inl refl)
-complete s words status.NoMemory h v = inr (inr refl)
+complete s words status.Stuck h v = inr (inl refl)
+complete s words status.Limit h v = inr (inr (inl refl))
+complete s words status.NoMemory h v = inr (inr (inr refl))
 complete s words status.Usage h v = absurd (h.1.0 v.invocation v.asks)
 complete s words status.ReadFault h v =
     let o = h.1 in
@@ -146,8 +176,8 @@ complete s words status.TooLong h v =
 complete s words status.Refused h v =
     let o = h.1 in
     let same = told_one s o.0.name v.invocation.name (Present v.file) o.2 (one_name words o.0 v.invocation o.1 v.asks) v.told o.3 in
-    let P : List ℕ → Type 0 = λ z. CanRun z v.program in
-    absurd (o.5.0 v.program (subst P same v.runs))
+    let P : List ℕ → Type 0 = λ z. IsProgram z v.program in
+    absurd (o.5.0 v.program (subst P same v.is))
 complete s words status.WriteFault h v = absurd (v.written h.0)
 
 -- a missing file is told as a read fault, or the sink fails
@@ -157,19 +187,10 @@ only_fault s words status.WriteFault h v = inr refl
 only_fault s words status.Usage h v = absurd (h.1.0 v.invocation v.asks)
 only_fault s words status.NoMemory h v = absurd (h.1.2 (ap s.told (one_name words h.1.0 v.invocation h.1.1 v.asks) ∙ v.told))
 only_fault s words status.Done h v = absurd (none_told s words v h.1.0 h.1.1 h.1.2 h.1.3)
+only_fault s words status.Stuck h v = absurd (none_told s words v h.1.0 h.1.1 h.1.2 h.1.3)
 only_fault s words status.Limit h v = absurd (none_told s words v h.1.0 h.1.1 h.1.2 h.1.3)
 only_fault s words status.Refused h v = absurd (none_told s words v h.1.0 h.1.1 h.1.2 h.1.3)
 only_fault s words status.TooLong h v = absurd (none_told s words v h.1.0 h.1.1 h.1.2 h.1.3)
-
--- a program that the bytes are is the only one
-pub not_built : (one : HasOneProgram) (file : List ℕ) (p q : Source) → IsProgram file p → is_runnable p ≡ false → CanRun file q → ⊥
-not_built one file p q h unbuilt c =
-    let same : p ≡ q = one file p q h c.program in
-    let e : is_runnable p ≡ true = ap is_runnable same ∙ c.runnable in
-    cc
-
-pub none_runs : (file : List ℕ) → ((p : Source) → IsProgram file p → ⊥) → (p : Source) → CanRun file p → ⊥
-none_runs file h p c = h p c.program
 
 pub on_err : {A E P : Type 0} (r : Result A E) → P → OnErr r P
 on_err (Ok x) h = tt

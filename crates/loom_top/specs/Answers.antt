@@ -12,39 +12,31 @@ use Rattle.loom_trace.specs.Text.{journal_text}
 use Rattle.loom_lang.specs.Limits.{file_limit}
 use Rattle.loom_lang.specs.Program.{IsProgram}
 use Rattle.loom_event.specs.Entries.{IsFinished}
-use Rattle.loom_law.specs.Lawful.{Setting, IsLawful}
+use Rattle.loom_law.specs.Lawful.{IsLawful}
 use Rattle.loom_law.specs.Promises.{Promises}
+use Rattle.loom_world.specs.Book.{plain}
 use Rattle.loom_top.specs.declared.status.Status.{Status}
 use Rattle.loom_top.specs.declared.status.Status.TheVariants as status
 use Rattle.loom_top.specs.Invocation.{Invocation, IsInvocation}
-use Rattle.loom_top.specs.Runnable.{is_runnable}
 
--- Files and programs
+-- Runs
 
--- The bytes are a program, of the forms that can be run so far.
-pub record CanRun (file : List ℕ) (p : Source) : Type 0 where
-  pub program : IsProgram file p
-  pub runnable : is_runnable p ≡ true
-
--- No stop test is given.
-abbrev pub never : List Entry → Bool
-never es = false
-
--- A run of the program without commands, of at most so many thread entries.
-abbrev pub plain : Source → ℕ → Setting
-plain p limit = record { program = p; commands = []; limit = limit; stop = never }
-
--- A run of one thread ends as done or at its limit.
+-- There is no stop test, so no run is stopped.
 abbrev pub CanEnd : Ending → Type 0
-CanEnd kind = (kind ≡ k.Done) ⊎ (kind ≡ k.Limit)
+CanEnd k.Stopped = ⊥
+CanEnd _ = Unit {0}
 
--- The journal of a run: finished in this way, and lawful for the program and the limit of thread entries. There are no commands, and there is no
--- stop test. So it keeps what is promised of every journal.
+-- The last entry is `Finish` of this kind, and a run can end so.
+pub record EndsIn (journal : List Entry) (kind : Ending) : Type 0 where
+  pub finished : IsFinished journal kind
+  pub ends : CanEnd kind
+
+-- The journal of a run that ended in this way, with any number of threads: it is lawful for the program and the limit of thread entries, without
+-- commands and without a stop test. So it keeps what is promised of every journal.
 pub record IsRunOf (p : Source) (limit : ℕ) (kind : Ending) (journal : List Entry) : Type 0 where
   pub lawful : IsLawful (plain p limit) journal
   pub promises : Promises (plain p limit) journal lawful
-  pub finished : IsFinished journal kind
-  pub ends : CanEnd kind
+  pub ended : EndsIn journal kind
 
 -- what a call saw and left
 pub record Call : Type 0 where
@@ -60,13 +52,14 @@ pub record Call : Type 0 where
 
 -- The text is that of the journal of a run of the program that the bytes are, which ended in this way.
 abbrev pub IsRunText : List ℕ → ℕ → Ending → List ℕ → Type 0
-IsRunText file limit kind text = (p : Source) × CanRun file p × (journal : List Entry) × IsRunOf p limit kind journal × (text ≡ journal_text journal)
+IsRunText file limit kind text = (p : Source) × IsProgram file p × (journal : List Entry) × IsRunOf p limit kind journal × (text ≡ journal_text journal)
 
 -- What is to be written for a program's bytes and a limit, and with which status.
 abbrev pub FileOwes : List ℕ → ℕ → Status → List ℕ → Type 0
 FileOwes file limit status.Done text = IsRunText file limit k.Done text
+FileOwes file limit status.Stuck text = IsRunText file limit k.Stuck text
 FileOwes file limit status.Limit text = IsRunText file limit k.Limit text
-FileOwes file limit status.Refused text = ((p : Source) → CanRun file p → ⊥) × (text ≡ codes "program refused\n")
+FileOwes file limit status.Refused text = ((p : Source) → IsProgram file p → ⊥) × (text ≡ codes "program refused\n")
 FileOwes file limit status.NoMemory text = text ≡ codes "no memory\n"
 FileOwes file limit _ text = ⊥
 
@@ -106,6 +99,7 @@ CallOwes s words status.TooLong text =
 CallOwes s words status.Refused text = InvocationOwes s words status.Refused text
 CallOwes s words status.NoMemory text = (c : Invocation) × IsInvocation words c × (s.told c.name ≢ Missing) × (text ≡ codes "no memory\n")
 CallOwes s words status.Done text = InvocationOwes s words status.Done text
+CallOwes s words status.Stuck text = InvocationOwes s words status.Stuck text
 CallOwes s words status.Limit text = InvocationOwes s words status.Limit text
 CallOwes s words status.WriteFault text = ⊥
 
@@ -122,7 +116,7 @@ pub record IsValid (s : Call) (words : List (List ℕ)) : Type 0 where
   pub told : s.told invocation.name ≡ Present file
   pub small : length file ≤ file_limit
   pub program : Source
-  pub runs : CanRun file program
+  pub is : IsProgram file program
   pub read : Rose (s.faults_before invocation.name) (s.faults_after invocation.name) → ⊥
   pub written : Rose s.sink_before s.sink_after → ⊥
 

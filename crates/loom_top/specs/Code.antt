@@ -12,10 +12,12 @@ code status.Refused = 2
 code status.ReadFault = 4
 code status.WriteFault = 5
 code status.NoMemory = 6
+code status.Stuck = 7
 code status.Limit = 8
 code status.TooLong = 10
 
--- the status where a run of one thread ends like this
+-- the status where a run ends like this
 abbrev pub ended_as : Ending → Status
+ended_as k.Stuck = status.Stuck
 ended_as k.Limit = status.Limit
 ended_as _ = status.Done

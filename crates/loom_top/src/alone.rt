@@ -3,28 +3,28 @@ ghost use Rattle.std.specs.Prelude.{◌≡◌, ◌≤◌, ◌++◌, ◌⊎◌, L
 ghost use Rattle.std.specs.Io.KnownBytes.{Appends};
 ghost use Rattle.loom_io.specs.FaultCount.{Rose};
 ghost use Rattle.loom_io.specs.Sink.{TookFront};
+ghost use Rattle.loom_trace.specs.declared.entry.Ending.{Ending};
 ghost use Rattle.loom_trace.specs.Text.{journal_text};
-ghost use Rattle.loom_tree.specs.Tree.{Source};
-ghost use Rattle.loom_top.specs.declared.status.Status.{Status};
-ghost use Rattle.loom_lang.specs.Limits.{file_limit};
-ghost use Rattle.loom_top.specs.Code.{code, ended_as};
 ghost use Rattle.loom_trace.specs.Limits.{entry_limit};
-ghost use Rattle.loom_top.specs.Answers.{CanEnd, CanRun, IsRunOf, Put, FileEnds, call_of, Answers, IsValid, IsMissing};
+ghost use Rattle.loom_tree.specs.Tree.{Source};
+ghost use Rattle.loom_lang.specs.Limits.{file_limit};
+ghost use Rattle.loom_lang.specs.Program.{IsProgram};
+ghost use Rattle.loom_top.specs.declared.status.Status.{Status};
+ghost use Rattle.loom_top.specs.Code.{code, ended_as};
+ghost use Rattle.loom_top.specs.Answers.{EndsIn, IsRunOf, Put, FileEnds, call_of, Answers, IsValid, IsMissing};
 
-use crate::code::{code_of, status_of};
+use crate::code::{code_of, ending_of, status_of};
 use crate::invocation::invocation_of;
-use crate::run::run;
-use crate::runnable::is_runnable;
 use crate::status::Status;
 use crate::write::put_journal;
-use loom_flow::lower::lower;
+use loom_crew::alone::run_alone;
 use loom_io::shelf::{Shelf, ShelfError};
 use loom_io::sink::{Sink, SinkFailed};
 use loom_io::whole::put_all;
 use loom_lang::limits::FILE_LIMIT;
 use loom_lang::parse::{LangError, parse_program};
-use loom_trace::entry::Ending;
 use loom_trace::journal::Journal;
+use loom_world::world::World;
 use std::alloc::Global;
 
 // Writes a text, and answers its status, or that of a fault.
@@ -60,37 +60,30 @@ fn put_named<K: Sink>(sink: &mut K, before: &[u8], name: &str, owed: Status) -> 
     }
 }
 
-// The same of the text of a run's journal.
-fn put_run<K: Sink>(sink: &mut K, journal: &Journal, ending: Ending) -> Status
-    requires { CanEnd ending }
+// The same of the text of a run's journal, with the status of how it ended.
+fn put_run<K: Sink>(sink: &mut K, journal: &Journal) -> Status
+    requires { (kind : Ending) × EndsIn journal.now.entries kind }
     ensures later { K.faults sink.old ≤ K.faults sink.new }
-    ensures put { Put (K.taken sink.old) (K.taken sink.new) (K.faults sink.old) (K.faults sink.new) (journal_text journal.now.entries) (ended_as ending) result }
+    ensures put { (kind : Ending) × EndsIn journal.now.entries kind × Put (K.taken sink.old) (K.taken sink.new) (K.faults sink.old) (K.faults sink.new) (journal_text journal.now.entries) (ended_as kind) result }
 {
     match put_journal(sink, journal) {
-        Ok(()) => status_of(ending),
+        Ok(()) => status_of(ending_of(journal)),
         Err(_) => Status::WriteFault,
     }
 }
 
-// The run of the program that the bytes are, with at most `limit` entries of its thread.
-fn run_of(alloc: Global, file: &[u8], limit: u32) -> Result<(Journal, Ending), LangError>
+// The run of the program that the bytes are, up to its end, in which threads make at most `limit` entries.
+fn run_of(alloc: Global, file: &[u8], limit: u32) -> Result<World, LangError>
     requires small { length file.now ≤ file_limit }
     requires least { 1 ≤ limit }
     requires limit { limit ≤ entry_limit }
-    ensures ran { IfOk result (λ r. (p : Source) × CanRun file.now p × IsRunOf p limit r.1 r.0.entries) }
-    ensures refused { result ≡ Err LangError.Refused → (p : Source) → CanRun file.now p → ⊥ }
+    ensures ran { IfOk result (λ w. (p : Source) × IsProgram file.now p × ((kind : Ending) × IsRunOf p limit kind w.entries)) }
+    ensures refused { result ≡ Err LangError.Refused → (p : Source) → IsProgram file.now p → ⊥ }
 {
-    match parse_program(alloc, file) {
-        Ok(program) => {
-            if is_runnable(&program) {
-                let flow = lower(alloc, &program)?;
-                Ok(run(alloc, &flow, limit)?)
-            } else {
-                Err(LangError::Refused)
-            }
-        }
-        Err(error) => Err(error),
-    }
+    let program = parse_program(alloc, file)?;
+    let mut world = World::make(alloc, &program, limit)?;
+    run_alone(&mut world);
+    Ok(world)
 }
 
 // Runs a program's bytes, and writes what its journal says.
@@ -102,7 +95,7 @@ fn run_file<K: Sink>(alloc: Global, file: &[u8], limit: u32, sink: &mut K) -> St
     ensures ends { FileEnds file.now limit (K.taken sink.old) (K.taken sink.new) (K.faults sink.old) (K.faults sink.new) result }
 {
     match run_of(alloc, file, limit) {
-        Ok((journal, ending)) => put_run(sink, &journal, ending),
+        Ok(world) => put_run(sink, world.journal()),
         Err(LangError::Refused) => put_text(sink, b"program refused\n", Status::Refused),
         Err(LangError::NoMemory) => put_text(sink, b"no memory\n", Status::NoMemory),
     }
@@ -135,14 +128,15 @@ fn answer<F: Shelf, K: Sink>(alloc: Global, words: &[&str], shelf: &mut F, sink:
 }
 
 /// All that the program does, but for its `main`: runs the program that the words name, and writes the text of its journal. The words are
-/// `run PROG` or `run PROG --steps B`, where B, from 1 to 1,000,000 in decimal, is how many thread entries the run has at most; without
-/// it they are 100,000. What it answers is the status with which the program ends:
+/// `run PROG` or `run PROG --steps B`, where B, from 1 to 1,000,000 in decimal, is how many entries threads make at most; without it they
+/// are 100,000. What it answers is the status with which the program ends:
 ///
-/// 0 the run is done and its text was written; 1 the words are no invocation; 2 the file is no program that can be run; 4 the shelf could not
-/// read the file; 5 the sink could not take the text, and took a front of it; 6 memory ran out before the run began; 8 the run has as many
-/// thread entries as it may have, and its text was written; 10 the file has more than 65,536 bytes.
+/// 0 the run is done, since all threads have ended, and its text was written; 1 the words are no invocation; 2 the file is no program; 4 the
+/// shelf could not read the file; 5 the sink could not take the text, and took a front of it; 6 memory ran out before the run began; 7 the run
+/// is stuck, since each thread that lives waits, and its text was written; 8 the run has as many thread entries as it may have, and its text
+/// was written; 10 the file has more than 65,536 bytes.
 ///
-/// They are tested in this order: the words, the read, the length, the program, the run, the writing.
+/// They are tested in this order: the words, the read, the length, the program, the run, the writing; of the run's ends the limit first.
 pub fn loom_alone<F: Shelf, K: Sink>(
     alloc: Global,
     words: &[&str],
@@ -151,8 +145,8 @@ pub fn loom_alone<F: Shelf, K: Sink>(
 ) -> u8
     // The status, its cause and what was written.
     ensures answers { (status : Status) × (result ≡ code status) × Answers (call_of F.told F.faults K.taken K.faults shelf.old shelf.new sink.old sink.new) (map (λ w. w.now) words.now) status }
-    // A program that can be run is run, unless memory runs out.
-    ensures complete { IsValid (call_of F.told F.faults K.taken K.faults shelf.old shelf.new sink.old sink.new) (map (λ w. w.now) words.now) → (result ≡ 0) ⊎ ((result ≡ 8) ⊎ (result ≡ 6)) }
+    // A program is run, unless memory runs out.
+    ensures complete { IsValid (call_of F.told F.faults K.taken K.faults shelf.old shelf.new sink.old sink.new) (map (λ w. w.now) words.now) → (result ≡ 0) ⊎ ((result ≡ 7) ⊎ ((result ≡ 8) ⊎ (result ≡ 6))) }
     // Where the shelf tells that there is no such file, that is a read fault, or its text can't be written.
     ensures missing { IsMissing (call_of F.told F.faults K.taken K.faults shelf.old shelf.new sink.old sink.new) (map (λ w. w.now) words.now) → (result ≡ 4) ⊎ (result ≡ 5) }
 {

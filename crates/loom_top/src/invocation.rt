@@ -8,13 +8,15 @@ use loom_trace::limits::ENTRY_LIMIT;
 use loom_trace::line::Line;
 use loom_trace::text::put_printed;
 
-/// How many thread entries a run has at most, where the words don't say it.
+/// How many entries threads make at most, where the words don't say it.
 const DEFAULT_LIMIT: u32 = 100_000;
 
-/// A run of the file of this name, of at most so many thread entries.
+/// A run of the file of this name, in which threads make at most so many entries.
 #[derive(Clone, Copy, Debug, Drop)]
 pub struct Invocation<'a> {
+    /// The file's name.
     pub name: &'a str,
+    /// How many entries threads make at most: 1 to 1,000,000.
     pub limit: u32,
 }
 

@@ -4,9 +4,6 @@
 pub mod alone;
 mod code;
 mod invocation;
-mod run;
-mod runnable;
-mod start;
 pub mod status;
 #[cfg(test)]
 mod tests;

@@ -3,11 +3,11 @@
 /// How a call ended.
 #[derive(Clone, Copy, Debug, Drop, PartialEq, Eq)]
 pub enum Status {
-    /// The program ran to its end, and the text of its journal was written.
+    /// All threads have ended, and the text of the run's journal was written.
     Done,
     /// The words are no invocation.
     Usage,
-    /// The file is no program that can be run.
+    /// The file is no program.
     Refused,
     /// The file could not be read.
     ReadFault,
@@ -15,6 +15,8 @@ pub enum Status {
     WriteFault,
     /// Memory ran out before the run began.
     NoMemory,
+    /// Each thread that lives waits for what none will do, and the text of the run's journal was written.
+    Stuck,
     /// The run has as many thread entries as it may have, and the text of its journal was written.
     Limit,
     /// The file has more bytes than a program may have.

@@ -1,13 +1,16 @@
 //! The top call on shelves and sinks in memory.
 
+mod limits;
 mod rows;
+mod threads;
 mod watch;
 
 use crate::alone::loom_alone;
 use loom_io::memory::{Calls, Files, MemShelf, MemSink};
 use loom_tree::name::{Name, NoMemory};
-use rows::{ROWS, SUM};
+use rows::{ROWS, Row, SUM};
 use std::alloc::Global;
+use std::process::Abort;
 use std::test::Fail;
 use watch::Watch;
 
@@ -30,41 +33,37 @@ fn answer_of(alloc: Global, bytes: &[u8], words: &[&str]) -> Result<(u8, Name), 
     Ok((status, Name::copied(alloc, sink.taken.bytes())?))
 }
 
-#[test]
-fn runs_the_rows(rt: HostRuntime) -> Result<(), Fail> {
-    for (i, row) in ROWS.iter().enumerate() {
+fn run_rows<R: Abort + AllocGlobal>(rt: &R, rows: &[Row]) -> Result<(), Fail> {
+    for row in rows {
         let (status, text) = answer_of(rt.alloc(), row.program, row.words)?;
-        assert_eq!(rt; status, row.status, "in row {i}");
-        assert_eq!(rt; text.bytes(), row.text, "in row {i}");
+        let name = row.name;
+        assert_eq!(rt; status, row.status, "in the row of {name}");
+        assert_eq!(rt; text.bytes(), row.text, "in the row of {name}");
     }
     Ok(())
+}
+
+#[test]
+fn runs_one_thread(rt: HostRuntime) -> Result<(), Fail> {
+    run_rows(&rt, &ROWS)
+}
+
+#[test]
+fn runs_several_threads(rt: HostRuntime) -> Result<(), Fail> {
+    run_rows(&rt, &threads::ROWS)
 }
 
 #[test]
 fn refuses_what_is_no_program(rt: HostRuntime) -> Result<(), Fail> {
     let spaces = vec![in rt.alloc(); b' '; 65536]?;
-    let texts: [&[u8]; 5] = [
+    let texts: [&[u8]; 7] = [
         b"",
         &spaces,
         b"fn main() { print 1 }",
         b"fn main() {\nx = 1;\n}\n",
         b"shared x;\nshared x;\nfn main() {\n}\n",
-    ];
-    for (i, bytes) in texts.iter().enumerate() {
-        let (status, text) = answer_of(rt.alloc(), *bytes, &["run", "p.lm"])?;
-        assert_eq!(rt; status, 2, "in row {i}");
-        assert_eq!(rt; text.bytes(), "program refused\n".as_bytes(), "in row {i}");
-    }
-    Ok(())
-}
-
-#[test]
-fn refuses_more_than_one_thread(rt: HostRuntime) -> Result<(), Fail> {
-    let texts: [&[u8]; 4] = [
-        b"sema s = 1;\nfn main() {\nskip;\n}\n",
-        b"mutex m;\nfn main() {\nlock m;\nunlock m;\n}\n",
-        b"fn f() {\nskip;\n}\nfn main() {\nlet t = spawn f();\njoin t;\n}\n",
-        b"fn main() {\njoin 1;\n}\n",
+        b"shared m;\nfn main() {\nlock m;\n}\n",
+        b"fn f(a) {\n}\nfn main() {\nlet t = spawn f();\n}\n",
     ];
     for (i, bytes) in texts.iter().enumerate() {
         let (status, text) = answer_of(rt.alloc(), *bytes, &["run", "p.lm"])?;

@@ -5,6 +5,7 @@ ghost use Rattle.loom_io.specs.FaultCount.{Rose};
 ghost use Rattle.loom_io.specs.Sink.{TookFront};
 ghost use Rattle.loom_io.specs.Page.{PageTook};
 ghost use Rattle.loom_tree.specs.Lines.{ended};
+ghost use Rattle.loom_trace.specs.Limits.{line_limit};
 ghost use Rattle.loom_trace.specs.Text.{entry_line, printed_line, printed_lines, journal_text};
 
 use loom_io::page::{Page, put_page, put_paged};
@@ -16,7 +17,7 @@ use loom_trace::text::{put_entry, put_printed};
 
 // Writes a line and what ends it.
 fn put_line<K: Sink>(sink: &mut K, page: &mut Page, line: &[u8]) -> Result<(), SinkFailed>
-    requires { length line.now ≤ 160 }
+    requires { length line.now ≤ line_limit }
     ensures later { K.faults sink.old ≤ K.faults sink.new }
     ensures ok { OnOk result (PageTook (K.taken sink.old) (K.taken sink.new) page.old page.new (line.now ++ 10 ∷ [])) }
     ensures calm { OnOk result (K.faults sink.new ≡ K.faults sink.old) }

@@ -1,14 +1,16 @@
-use Rattle.std.proofs.Common.{◌≡◌, ◌∙◌, sym, false}
-use Rattle.loom_lang.proofs.Texts.{one_program}
-use Rattle.loom_top.specs.Runnable.{is_runnable}
-use Rattle.loom_top.proofs.Top.{not_built, none_runs}
+use Rattle.std.proofs.Common.{◌≡◌}
+use Rattle.std.proofs.lemmas.Result.{err_from_is_err_and}
+use Rattle.loom_top.proofs.Top.{world_run}
 use Rattle.loom_top.proofs.alone.run_of.Goals as goal
 
-pub returns-in-Ok-clause-refused : goal.returns-in-Ok-clause-refused
-returns-in-Ok-clause-refused c same q runs =
-    let p = c.in-Ok.program in
-    let other : is_runnable p ≡ false = sym c.is_runnable.ensures ∙ c.if-is_runnable.false in
-    not_built one_program c.args.file.now p q c.in-Ok.ensures.program other runs
+pub returns-in_err-program-clause-refused : goal.returns-in_err-program-clause-refused
+returns-in_err-program-clause-refused c same =
+    let told = err_from_is_err_and c.from_residual.result c.from_residual.ensures.1 in
+    c.in_err-program.ensures.refused (cc (same, told.1, told.2, c.in_err-program.is))
 
-pub returns-clause-refused : goal.returns-clause-refused
-returns-clause-refused c same = none_runs c.args.file.now (c.in-Err.ensures.refused (cc (same)))
+pub returns-clause-ran : goal.returns-clause-ran
+returns-clause-ran c = (
+  _,
+  c.in_ok-program.ensures.program,
+  world_run _ c.args.limit _ c.run_alone.new.world c.in_ok-world.ensures.new c.run_alone.ensures.run c.run_alone.ensures.lawful c.run_alone.ensures.finished,
+)

@@ -1,0 +1,216 @@
+//! What runs of several threads write, row by row.
+
+use crate::tests::rows::{PLAIN, Row};
+
+// Thread 2 goes on when thread 1 has ended.
+const OUTLIVES: &[u8] = b"fn w() {\nprint 1;\nprint 2;\n}\nfn main() {\nlet t = spawn w();\n}\n";
+
+// A thread locks its own mutex again.
+const TWICE: &[u8] = b"mutex m;\nfn main() {\nlock m;\nlock m;\n}\n";
+
+/// Programs with other threads, mutexes or semaphores.
+pub const ROWS: [Row; 29] = [
+    Row {
+        name: "an update that is lost",
+        program: b"shared x;\nfn add() {\n  x = x + 1;\n}\nfn main() {\n  let a = spawn add();\n  x = x + 1;\n  join a;\n  print x;\n}\n",
+        words: PLAIN,
+        status: 0,
+        text: b"1\n---\n1:5 begin\n1:6 spawn 2 0\n2:2 begin\n1:7 read 0 0\n2:3 read 0 0\n1:7 write 0 1\n2:3 write 0 1\n1:8 blocked join 2\n2:2 end\n1:8 join 2\n1:9 read 0 1\n1:9 print 1\n1:5 end\nfinish done\n",
+    },
+    Row {
+        name: "both updates, under a mutex",
+        program: b"shared x;\nmutex m;\nfn add() {\nlock m;\nx = x + 1;\nunlock m;\n}\nfn main() {\nlet a = spawn add();\nadd();\njoin a;\nprint x;\n}\n",
+        words: PLAIN,
+        status: 0,
+        text: b"2\n---\n1:8 begin\n1:9 spawn 2 0\n2:3 begin\n1:4 lock 0\n2:4 blocked lock 0\n1:5 read 0 0\n1:5 write 0 1\n1:6 unlock 0\n2:4 lock 0\n1:11 blocked join 2\n2:5 read 0 1\n2:5 write 0 2\n2:6 unlock 0\n2:3 end\n1:11 join 2\n1:12 read 0 2\n1:12 print 2\n1:8 end\nfinish done\n",
+    },
+    Row {
+        name: "a word that another thread writes",
+        program: b"shared x;\nfn w() {\nx = 1;\n}\nfn main() {\nlet t = spawn w();\nwhile (x == 0) {\nw();\n}\njoin t;\n}\n",
+        words: PLAIN,
+        status: 0,
+        text: b"---\n1:5 begin\n1:6 spawn 2 0\n2:2 begin\n1:7 read 0 0\n2:3 write 0 1\n1:3 write 0 1\n2:2 end\n1:7 read 0 1\n1:10 join 2\n1:5 end\nfinish done\n",
+    },
+    Row {
+        name: "arguments",
+        program: b"fn w(a, b) {\nprint a - b;\n}\nfn main() {\nlet t = spawn w(3, 0 - 4);\njoin t;\n}\n",
+        words: PLAIN,
+        status: 0,
+        text: b"7\n---\n1:4 begin\n1:5 spawn 2 0 3 -4\n2:1 begin\n1:6 blocked join 2\n2:2 print 7\n2:1 end\n1:6 join 2\n1:4 end\nfinish done\n",
+    },
+    Row {
+        name: "a thread of a thread",
+        program: b"fn v() {\nskip;\n}\nfn w() {\nlet t = spawn v();\n}\nfn main() {\nlet t = spawn w();\njoin t;\njoin t + 1;\n}\n",
+        words: PLAIN,
+        status: 0,
+        text: b"---\n1:7 begin\n1:8 spawn 2 1\n2:4 begin\n1:9 blocked join 2\n2:5 spawn 3 0\n3:1 begin\n2:4 end\n3:1 end\n1:9 join 2\n1:10 join 3\n1:7 end\nfinish done\n",
+    },
+    Row {
+        name: "a thread that outlives thread 1",
+        program: OUTLIVES,
+        words: PLAIN,
+        status: 0,
+        text: b"1\n2\n---\n1:5 begin\n1:6 spawn 2 0\n2:1 begin\n1:5 end\n2:2 print 1\n2:3 print 2\n2:1 end\nfinish done\n",
+    },
+    Row {
+        name: "blocked at a mutex of its own",
+        program: TWICE,
+        words: PLAIN,
+        status: 7,
+        text: b"---\n1:2 begin\n1:3 lock 0\n1:4 blocked lock 0\nfinish stuck\n",
+    },
+    Row {
+        name: "blocked at a mutex of another thread",
+        program: b"mutex m;\nfn w() {\nlock m;\nunlock m;\n}\nfn main() {\nlock m;\nlet t = spawn w();\nprint 1;\nprint 2;\nunlock m;\n}\n",
+        words: PLAIN,
+        status: 0,
+        text: b"1\n2\n---\n1:6 begin\n1:7 lock 0\n1:8 spawn 2 0\n2:2 begin\n1:9 print 1\n2:3 blocked lock 0\n1:10 print 2\n1:11 unlock 0\n2:3 lock 0\n1:6 end\n2:4 unlock 0\n2:2 end\nfinish done\n",
+    },
+    Row {
+        name: "blocked at a semaphore",
+        program: b"sema s;\nfn w() {\nup s;\n}\nfn main() {\nlet t = spawn w();\ndown s;\n}\n",
+        words: PLAIN,
+        status: 0,
+        text: b"---\n1:5 begin\n1:6 spawn 2 0\n2:2 begin\n1:7 blocked down 0\n2:3 up 0\n1:7 down 0\n2:2 end\n1:5 end\nfinish done\n",
+    },
+    Row {
+        name: "blocked at a semaphore that begins with 2",
+        program: b"sema s = 2;\nfn main() {\ndown s;\ndown s;\ndown s;\n}\n",
+        words: PLAIN,
+        status: 7,
+        text: b"---\n1:2 begin\n1:3 down 0\n1:4 down 0\n1:5 blocked down 0\nfinish stuck\n",
+    },
+    Row {
+        name: "blocked at the end of another thread",
+        program: b"fn w() {\nprint 1;\n}\nfn main() {\nlet t = spawn w();\njoin t;\njoin t;\n}\n",
+        words: PLAIN,
+        status: 0,
+        text: b"1\n---\n1:4 begin\n1:5 spawn 2 0\n2:1 begin\n1:6 blocked join 2\n2:2 print 1\n2:1 end\n1:6 join 2\n1:7 join 2\n1:4 end\nfinish done\n",
+    },
+    Row {
+        name: "blocked at its own end",
+        program: b"fn main() {\njoin 1;\n}\n",
+        words: PLAIN,
+        status: 7,
+        text: b"---\n1:1 begin\n1:2 blocked join 1\nfinish stuck\n",
+    },
+    Row {
+        name: "two threads that wait for each other",
+        program: b"mutex m;\nmutex n;\nfn w() {\nlock n;\nlock m;\n}\nfn main() {\nlock m;\nlet t = spawn w();\nprint 1;\nlock n;\n}\n",
+        words: PLAIN,
+        status: 7,
+        text: b"1\n---\n1:7 begin\n1:8 lock 0\n1:9 spawn 2 0\n2:3 begin\n1:10 print 1\n2:4 lock 1\n1:11 blocked lock 1\n2:5 blocked lock 0\nfinish stuck\n",
+    },
+    Row {
+        name: "a mutex that thread 1 never gives back",
+        program: b"mutex m;\nfn w() {\nlock m;\n}\nfn main() {\nlock m;\nlet t = spawn w();\n}\n",
+        words: PLAIN,
+        status: 7,
+        text: b"---\n1:5 begin\n1:6 lock 0\n1:7 spawn 2 0\n2:2 begin\n1:5 end\n2:3 blocked lock 0\nfinish stuck\n",
+    },
+    Row {
+        name: "a mutex of a thread that trapped",
+        program: b"mutex m;\nfn w() {\nlock m;\nprint 1 / 0;\n}\nfn main() {\nlet t = spawn w();\njoin t;\nlock m;\n}\n",
+        words: PLAIN,
+        status: 7,
+        text: b"---\n1:6 begin\n1:7 spawn 2 0\n2:2 begin\n1:8 blocked join 2\n2:3 lock 0\n2:4 trap 1\n2:2 end\n1:8 join 2\n1:9 blocked lock 0\nfinish stuck\n",
+    },
+    Row {
+        name: "a limit with several threads",
+        program: OUTLIVES,
+        words: &["run", "p.lm", "--steps", "3"],
+        status: 8,
+        text: b"---\n1:5 begin\n1:6 spawn 2 0\n2:1 begin\nfinish limit\n",
+    },
+    Row {
+        name: "a limit where all threads have ended",
+        program: OUTLIVES,
+        words: &["run", "p.lm", "--steps", "7"],
+        status: 8,
+        text: b"1\n2\n---\n1:5 begin\n1:6 spawn 2 0\n2:1 begin\n1:5 end\n2:2 print 1\n2:3 print 2\n2:1 end\nfinish limit\n",
+    },
+    Row {
+        name: "a limit one entry later",
+        program: OUTLIVES,
+        words: &["run", "p.lm", "--steps", "8"],
+        status: 0,
+        text: b"1\n2\n---\n1:5 begin\n1:6 spawn 2 0\n2:1 begin\n1:5 end\n2:2 print 1\n2:3 print 2\n2:1 end\nfinish done\n",
+    },
+    Row {
+        name: "a limit where the run is stuck",
+        program: TWICE,
+        words: &["run", "p.lm", "--steps", "3"],
+        status: 8,
+        text: b"---\n1:2 begin\n1:3 lock 0\n1:4 blocked lock 0\nfinish limit\n",
+    },
+    Row {
+        name: "a loop with no end in another thread",
+        program: b"fn w() {\nwhile (1) {\nskip;\n}\n}\nfn main() {\nlet t = spawn w();\n}\n",
+        words: &["run", "p.lm", "--steps", "6"],
+        status: 8,
+        text: b"---\n1:6 begin\n1:7 spawn 2 0\n2:1 begin\n1:6 end\n2:2 tick 3\n2:2 tick 3\nfinish limit\n",
+    },
+    Row {
+        name: "a quotient by 0 in another thread",
+        program: b"shared p;\nfn user() {\n  print 10 / p;\n}\nfn main() {\n  let u = spawn user();\n  print 1;\n  p = 5;\n  join u;\n}\n",
+        words: PLAIN,
+        status: 0,
+        text: b"1\n---\n1:5 begin\n1:6 spawn 2 0\n2:2 begin\n1:7 print 1\n2:3 read 0 0\n1:8 write 0 5\n2:3 trap 1\n1:9 blocked join 2\n2:2 end\n1:9 join 2\n1:5 end\nfinish done\n",
+    },
+    Row {
+        name: "a frame too many in another thread",
+        program: b"fn w() {\nw();\n}\nfn main() {\nlet t = spawn w();\n}\n",
+        words: PLAIN,
+        status: 0,
+        text: b"---\n1:4 begin\n1:5 spawn 2 0\n2:1 begin\n1:4 end\n2:2 trap 6\n2:1 end\nfinish done\n",
+    },
+    Row {
+        name: "a mutex that nobody holds, unlocked",
+        program: b"mutex m;\nfn main() {\nunlock m;\n}\n",
+        words: PLAIN,
+        status: 0,
+        text: b"---\n1:2 begin\n1:3 trap 3\n1:2 end\nfinish done\n",
+    },
+    Row {
+        name: "a mutex of another thread, unlocked",
+        program: b"mutex m;\nfn w() {\nunlock m;\n}\nfn main() {\nlock m;\nlet t = spawn w();\njoin t;\nunlock m;\n}\n",
+        words: PLAIN,
+        status: 0,
+        text: b"---\n1:5 begin\n1:6 lock 0\n1:7 spawn 2 0\n2:2 begin\n1:8 blocked join 2\n2:3 trap 3\n2:2 end\n1:8 join 2\n1:9 unlock 0\n1:5 end\nfinish done\n",
+    },
+    Row {
+        name: "the end of no thread",
+        program: b"fn main() {\njoin 2;\n}\n",
+        words: PLAIN,
+        status: 0,
+        text: b"---\n1:1 begin\n1:2 trap 4\n1:1 end\nfinish done\n",
+    },
+    Row {
+        name: "the end of thread 0",
+        program: b"fn main() {\njoin 0;\n}\n",
+        words: PLAIN,
+        status: 0,
+        text: b"---\n1:1 begin\n1:2 trap 4\n1:1 end\nfinish done\n",
+    },
+    Row {
+        name: "the end of thread -1",
+        program: b"fn main() {\njoin 0 - 1;\n}\n",
+        words: PLAIN,
+        status: 0,
+        text: b"---\n1:1 begin\n1:2 trap 4\n1:1 end\nfinish done\n",
+    },
+    Row {
+        name: "a ninth thread",
+        program: b"fn w() {\n}\nfn main() {\nlet i = 0;\nwhile (i < 9) {\nlet t = spawn w();\ni = i + 1;\n}\n}\n",
+        words: PLAIN,
+        status: 0,
+        text: b"---\n1:3 begin\n1:6 spawn 2 0\n2:1 begin\n1:6 spawn 3 0\n2:1 end\n3:1 begin\n1:6 spawn 4 0\n3:1 end\n4:1 begin\n1:6 spawn 5 0\n4:1 end\n5:1 begin\n1:6 spawn 6 0\n5:1 end\n6:1 begin\n1:6 spawn 7 0\n6:1 end\n7:1 begin\n1:6 spawn 8 0\n7:1 end\n8:1 begin\n1:6 trap 5\n8:1 end\n1:3 end\nfinish done\n",
+    },
+    Row {
+        name: "a semaphore above its greatest value",
+        program: b"sema s = 2147483647;\nfn main() {\nup s;\n}\n",
+        words: PLAIN,
+        status: 0,
+        text: b"---\n1:2 begin\n1:3 trap 7\n1:2 end\nfinish done\n",
+    },
+];

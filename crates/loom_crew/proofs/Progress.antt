@@ -1,5 +1,5 @@
 -- A round of a run that isn't finished makes an entry.
-use Rattle.std.proofs.Common.{ℕ, zero, suc, ◌+◌, ◌<◌, ◌≤◌, ◌≡◌, ◌==◌, ◌⊎◌, inl, inr, Bool, true, false, List, [], ◌∷◌, ◌++◌, length, length-append, slice_get, Option, Some, None, refl, sym, ap, ◌∙◌, subst, arith}
+use Rattle.std.proofs.Common.{ℕ, zero, suc, ◌+◌, ◌<◌, ◌≤◌, ◌≡◌, ◌==◌, ◌⊎◌, inl, inr, Bool, true, false, List, [], ◌∷◌, length, length-append, slice_get, Some, None, refl, sym, ap, ◌∙◌, subst, arith}
 use Rattle.std.proofs.lemmas.Option.{slice_get_within}
 use Rattle.loom_trace.specs.Limits.{thread_limit}
 use Rattle.loom_trace.specs.declared.entry.Entry.{Entry}
@@ -11,7 +11,6 @@ use Rattle.loom_event.specs.Replay.{ThreadState, Store, thread_at, AllEnded}
 use Rattle.loom_law.specs.Lawful.{Lives, IsBlocked, Ends}
 use Rattle.loom_law.proofs.Earlier.{same_number}
 use Rattle.loom_world.specs.declared.choice.Choice.{Choice}
-use Rattle.loom_world.specs.declared.choice.Choice.TheVariants as c
 use Rattle.loom_world.specs.declared.choice.Why.{Why}
 use Rattle.loom_world.specs.declared.choice.Why.TheVariants as why
 use Rattle.loom_world.specs.declared.choice.Turned.{Turned}

@@ -1,4 +1,4 @@
-use Rattle.std.proofs.Common.{ℕ, suc, ◌<◌, ◌≤◌, ◌≡◌, ◌∙◌, length, refl, arith}
+use Rattle.std.proofs.Common.{suc, ◌∙◌, refl, arith}
 use Rattle.loom_world.proofs.FewEntries.{few_entries}
 use Rattle.loom_crew.specs.Round.{round, rounds}
 use Rattle.loom_crew.proofs.Progress.{progress}

@@ -1,4 +1,4 @@
-use Rattle.std.proofs.Common.{◌≡◌, ◌+◌, ◌-◌, ◌≤◌, ◌∙◌, refl, sym, arith, subst}
+use Rattle.std.proofs.Common.{◌+◌, ◌-◌, ◌∙◌, refl, sym, arith, subst}
 use Rattle.loom_trace.specs.Limits.{thread_limit}
 use Rattle.loom_world.specs.World.{Lead}
 use Rattle.loom_crew.proofs.Rounds.{threads_next, threads_end}

@@ -16,7 +16,7 @@ use Rattle.loom_world.specs.declared.choice.Why.TheVariants as why
 use Rattle.loom_world.specs.declared.choice.Turned.{Turned}
 use Rattle.loom_world.specs.declared.choice.Turned.TheVariants as r
 use Rattle.loom_world.specs.Book.{Book, setting, front, HasLawfulJournal}
-use Rattle.loom_world.specs.Idle.{IsWritten, IsClosed, IsIdle, IsIdleThread, IsIdleControl}
+use Rattle.loom_world.specs.Idle.{HasFinish, IsClosed, IsIdle, IsIdleThread, IsIdleControl}
 use Rattle.loom_world.specs.Turned.{Turns}
 use Rattle.loom_world.specs.World.{Lead}
 use Rattle.loom_world.proofs.Ends.{over_is, not_yes, ends_at_limit, ends_done, ends_stuck, may_finish}
@@ -34,7 +34,7 @@ turn_longer old new h (r.Idle w) turns = let same : length new.entries ≡ lengt
 lead_longer : (old new : Book) (hs : List Choice) → Lead old hs new → length old.entries ≤ length new.entries
 lead_longer old new [] lead = let same : length new.entries ≡ length old.entries = ap (λ (b : Book). length b.entries) lead in omega (arith, same)
 lead_longer old new (h ∷ hs) lead =
-    let one = turn_longer old lead.0 h lead.1.0 lead.1.1 in
+    let one = turn_longer old lead.0 h lead.1.told lead.1.turns in
     let others = lead_longer lead.0 new hs lead.2 in
     omega (arith, one, others)
 
@@ -58,7 +58,7 @@ one_moves old new h hs next (r.Idle w) turns lead others = join (others (subst (
 
 moves : (old new : Book) (hs : List Choice) → Lead old hs new → (length old.entries < length new.entries) ⊎ AreIdle old hs
 moves old new [] lead = inr tt
-moves old new (h ∷ hs) lead = one_moves old new h hs lead.0 lead.1.0 lead.1.1 lead.2 (λ again. moves old new hs again)
+moves old new (h ∷ hs) lead = one_moves old new h hs lead.0 lead.1.told lead.1.turns lead.2 (λ again. moves old new hs again)
 
 -- Idle threads
 
@@ -121,7 +121,7 @@ live_number b h (suc i) lives =
 
 -- The end
 
-control_idle : (b : Book) → HasLawfulJournal b → (IsWritten b → ⊥) → (w : Why) → IsIdleControl b w → (kind : Ending) → Ends (setting b) (front b) kind → ⊥
+control_idle : (b : Book) → HasLawfulJournal b → (HasFinish b → ⊥) → (w : Why) → IsIdleControl b w → (kind : Ending) → Ends (setting b) (front b) kind → ⊥
 control_idle b h unfinished why.Nothing (inl written) kind ends = unfinished written
 control_idle b h unfinished why.Nothing (inr none) kind ends = none (e.Finish kind) refl (may_finish b h kind ends)
 control_idle b h unfinished why.Over idle kind ends = idle
@@ -130,7 +130,7 @@ control_idle b h unfinished why.Unborn idle kind ends = idle
 control_idle b h unfinished why.Blocked idle kind ends = idle
 
 -- Where control and each thread are idle, the journal is finished.
-not_all_idle : (b : Book) → HasLawfulJournal b → (IsWritten b → ⊥) → AreIdle b round → ⊥
+not_all_idle : (b : Book) → HasLawfulJournal b → (HasFinish b → ⊥) → AreIdle b round → ⊥
 not_all_idle b h unfinished idle = by_threads (lives_or_ended b.store)
   where
     never : (kind : Ending) → Ends (setting b) (front b) kind → ⊥

@@ -2,7 +2,7 @@
 use Rattle.std.specs.Prelude.{ℕ, zero, suc, ◌<◌, List, [], ◌∷◌, ◌++◌, length}
 use Rattle.loom_trace.specs.Limits.{thread_limit}
 use Rattle.loom_world.specs.Book.{Book, HasLawfulJournal}
-use Rattle.loom_world.specs.Idle.{IsWritten}
+use Rattle.loom_world.specs.Idle.{HasFinish}
 use Rattle.loom_world.specs.World.{Lead}
 use Rattle.loom_world.specs.declared.choice.Choice.{Choice}
 use Rattle.loom_world.specs.declared.choice.Choice.TheVariants as c
@@ -23,4 +23,4 @@ rounds (suc n) = rounds n ++ round
 
 -- A round of a run that isn't finished makes an entry.
 abbrev pub HasProgress : Type 0
-HasProgress = (old new : Book) → HasLawfulJournal old → (IsWritten old → ⊥) → Lead old round new → length old.entries < length new.entries
+HasProgress = (old new : Book) → HasLawfulJournal old → (HasFinish old → ⊥) → Lead old round new → length old.entries < length new.entries

@@ -1,7 +1,7 @@
 //! The sequential driver.
 ghost use Rattle.std.specs.Prelude.{ℕ};
 ghost use Rattle.loom_world.specs.Book.{IsOfSameRun, HasLawfulJournal};
-ghost use Rattle.loom_world.specs.Idle.{IsWritten};
+ghost use Rattle.loom_world.specs.Idle.{HasFinish};
 ghost use Rattle.loom_world.specs.World.{Lead};
 ghost use Rattle.loom_crew.specs.Round.{round, rounds};
 
@@ -26,7 +26,7 @@ fn run_round(world: &mut World)
 /// Behind it the journal is lawful, and ends with `Finish`; a world that is finished already stays as it is.
 pub fn run_alone(world: &mut World)
     ensures run { IsOfSameRun world.old world.new }
-    ensures finished { IsWritten world.new }
+    ensures finished { HasFinish world.new }
     ensures lawful { HasLawfulJournal world.new }
     ensures rounds { (n : ℕ) × Lead world.old (rounds n) world.new }
 {

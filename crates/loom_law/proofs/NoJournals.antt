@@ -1,5 +1,5 @@
 -- Journals that are not lawful: each is a lawful one with one thing turned.
-use Rattle.std.proofs.Common.{ℕ, ◌≤◌, ◌<◌, ◌≡◌, true, false, pos, List, [], ◌∷◌, ◌++◌, map, Some, None, refl, ap, subst, ◌∙◌, codes, arith}
+use Rattle.std.proofs.Common.{ℕ, ◌≤◌, ◌<◌, ◌≡◌, ◌⊎◌, inl, inr, sym, true, false, pos, List, [], ◌∷◌, ◌++◌, map, Some, None, refl, ap, subst, ◌∙◌, codes, arith}
 use Rattle.loom_trace.specs.declared.entry.Entry.{Entry}
 use Rattle.loom_trace.specs.declared.entry.Entry.TheVariants as e
 use Rattle.loom_trace.specs.declared.entry.What.TheVariants as w
@@ -13,8 +13,8 @@ use Rattle.loom_event.proofs.Runs.{event_of, events_told}
 use Rattle.loom_event.proofs.Shown.{event, adds, changed_is_no_run}
 use Rattle.loom_law.specs.Filter.{plan_of}
 use Rattle.loom_law.specs.Walk.{place_number}
-use Rattle.loom_law.specs.Control.{means, install, remove}
-use Rattle.loom_law.specs.Lawful.{Setting, StandsAt, Ends, EndsSo, front_at, IsLawful}
+use Rattle.loom_law.specs.Control.{Command, means, install, remove}
+use Rattle.loom_law.specs.Lawful.{Setting, Front, IsBlocked, IsHeldOff, IsTriggered, StandsAt, Ends, EndsSo, front_at, IsLawful}
 use Rattle.loom_law.proofs.Lawful.{always_balanced}
 use Rattle.loom_law.proofs.Shown.{setting, fix}
 use Rattle.loom_law.proofs.InsideJournals.{alone_setting, back_setting, caught_setting}
@@ -141,6 +141,19 @@ pub unreached_forgotten_unlawful : IsLawful two_setting unreached_forgotten → 
 unreached_forgotten_unlawful h =
     let bad = h.follows (e.Begin 1 5 ∷ e.Read 1 3 0 (pos 0) ∷ e.Unreached 1 ∷ []) (e.Finish k.Limit) [] refl in
     let most : 2 < 2 = bad.1.1.0 in let no : ⊥ = omega arith in no
+
+-- a command is asked before as many entries stand as it waits for
+abbrev pub asked_early : List Entry
+asked_early = e.Asked 1 ∷ e.Refused 1 12 0 ∷ []
+
+trigger_of : (x : Command) → Some (record { trigger = script.at 9; name = codes "a"; action = remove }) ≡ Some x → script.at 9 ≡ x.trigger
+trigger_of x is = let command : record { trigger = script.at 9; name = codes "a"; action = remove } ≡ x = cc in ap (λ (y : Command). y.trigger) command
+
+pub asked_early_unlawful : IsLawful two_setting asked_early → ⊥
+asked_early_unlawful h =
+    let bad = h.follows [] (e.Asked 1) (e.Refused 1 12 0 ∷ []) refl in
+    let many : 9 ≤ 0 = subst (IsTriggered two_setting (front_at two_setting h.events [])) (sym (trigger_of bad.0.command bad.0.is)) bad.0.triggered in
+    let no : ⊥ = omega (arith, many) in no
 
 -- a command is cut though the run isn't over
 abbrev pub cut_early : List Entry
@@ -278,6 +291,39 @@ done_early_unlawful h =
     let ends : Ends lost_setting (front_at lost_setting (event 1 5 begin ∷ []) (e.Begin 1 5 ∷ [])) k.Done = subst P same bad.1.1.1 in
     let no : false ≡ true = ends.1.0 1 _ refl in
     cc
+
+-- the run is done at its limit, which is told first
+abbrev pub full_setting : Setting
+full_setting = record lost_setting { limit = 13 }
+
+abbrev pub done_at_limit : List Entry
+done_at_limit =
+    e.Begin 1 5 ∷ e.Spawn 1 6 2 0 [] ∷ e.Begin 2 2 ∷ e.Read 1 7 0 (pos 0) ∷ e.Read 2 3 0 (pos 0) ∷ e.Write 1 7 0 (pos 1) ∷ e.Write 2 3 0 (pos 1)
+    ∷ e.Blocked 1 8 (w.Join 2) ∷ e.End 2 2 ∷ e.Join 1 8 2 ∷ e.Read 1 9 0 (pos 1) ∷ e.Print 1 9 (pos 1) ∷ e.End 1 5 ∷ e.Finish k.Done ∷ []
+
+pub done_at_limit_unlawful : IsLawful full_setting done_at_limit → ⊥
+done_at_limit_unlawful h =
+    let bad = h.follows (e.Begin 1 5 ∷ e.Spawn 1 6 2 0 [] ∷ e.Begin 2 2 ∷ e.Read 1 7 0 (pos 0) ∷ e.Read 2 3 0 (pos 0) ∷ e.Write 1 7 0 (pos 1) ∷ e.Write 2 3 0 (pos 1) ∷ e.Blocked 1 8 (w.Join 2) ∷ e.End 2 2 ∷ e.Join 1 8 2 ∷ e.Read 1 9 0 (pos 1) ∷ e.Print 1 9 (pos 1) ∷ e.End 1 5 ∷ []) (e.Finish k.Done) [] refl in
+    let no : true ≡ false = bad.1.1.1.0 in cc
+
+-- the run is stuck though a thread can go on
+abbrev pub stuck_early : List Entry
+stuck_early = e.Begin 1 5 ∷ e.Finish k.Stuck ∷ []
+
+abbrev lost_front : Front
+lost_front = front_at lost_setting (event 1 5 begin ∷ []) (e.Begin 1 5 ∷ [])
+
+goes_on : IsBlocked lost_setting lost_front 1 ⊎ IsHeldOff lost_setting lost_front 1 → ⊥
+goes_on (inl h) = h
+goes_on (inr h) = let no : false ≡ true = h.held.holds in cc
+
+pub stuck_early_unlawful : IsLawful lost_setting stuck_early → ⊥
+stuck_early_unlawful h =
+    let same : h.events ≡ event 1 5 begin ∷ [] = events_told h.events (event 1 5 begin ∷ []) (ap (map event_of) h.tells) in
+    let P : List Event → Type 0 = λ xs. Ends lost_setting (front_at lost_setting xs (e.Begin 1 5 ∷ [])) k.Stuck in
+    let bad = h.follows (e.Begin 1 5 ∷ []) (e.Finish k.Stuck) [] refl in
+    let ends : Ends lost_setting lost_front k.Stuck = subst P same bad.1.1.1 in
+    goes_on (ends.1.0.stuck 1 (record { state = _; is = refl; not_ended = refl }))
 
 -- The run is stuck though a command is due.
 abbrev pub stuck_when_due : List Entry

@@ -1,5 +1,5 @@
 -- From what was owed and what was put to what the top call answers.
-use Rattle.std.proofs.Common.{ℕ, ◌+◌, ◌<◌, ◌≤◌, ◌≡◌, ◌≢◌, ◌⊎◌, inl, inr, true, false, List, [], ◌∷◌, ◌++◌, codes, Option, Result, Ok, Err, OnErr, take, length, refl, sym, ap, subst, ◌∙◌, append-nil, arith}
+use Rattle.std.proofs.Common.{ℕ, suc, ◌+◌, ◌<◌, ◌≤◌, ◌≡◌, ◌≢◌, ◌⊎◌, inl, inr, true, false, List, [], ◌∷◌, ◌++◌, codes, Option, Result, Ok, Err, OnErr, take, length, refl, sym, ap, subst, ◌∙◌, append-nil, arith}
 use Rattle.std.proofs.lemmas.List.{take_all, length-take}
 use Rattle.std.specs.Io.KnownBytes.{Appends}
 use Rattle.loom_io.specs.FaultCount.{Rose}
@@ -20,8 +20,8 @@ use Rattle.loom_event.specs.Entries.{IsFinished}
 use Rattle.loom_event.proofs.Stops.{never_stopped}
 use Rattle.loom_law.specs.Lawful.{Front, Ends, front_at, IsLawful}
 use Rattle.loom_law.proofs.Promises.{always_promises}
-use Rattle.loom_world.specs.Book.{Book, plain, IsNew, IsOfSameRun, HasLawfulJournal}
-use Rattle.loom_world.specs.Idle.{IsWritten}
+use Rattle.loom_world.specs.Book.{Book, plain, IsNewBook, IsOfSameRun, HasLawfulJournal}
+use Rattle.loom_world.specs.Idle.{HasFinish}
 use Rattle.loom_top.specs.declared.status.Status.{Status}
 use Rattle.loom_top.specs.declared.status.Status.TheVariants as status
 use Rattle.loom_top.specs.Code.{code, ended_as}
@@ -69,13 +69,13 @@ owes_file s words a file text status.TooLong c m t l o = absurd o
 pub whole_file : (told : FileState) (bytes : List ℕ) → IsRead told file_limit bytes → length bytes ≤ file_limit → CanBe told bytes
 whole_file Untold bytes h l = tt
 whole_file Missing bytes h l = absurd h
-whole_file (Present file) bytes h l = sym (h ∙ take_all 65537 file (omega (arith, ap length h, l, length-take 65537 file)))
+whole_file (Present file) bytes h l = sym (h ∙ take_all (suc file_limit) file (omega (arith, ap length h, l, length-take (suc file_limit) file)))
 
 -- A file with more bytes is told to be longer than a program.
 pub long_file : (told : FileState) (bytes : List ℕ) → IsRead told file_limit bytes → file_limit < length bytes → (file : List ℕ) × CanBe told file × (file_limit < length file)
 long_file Untold bytes h l = (bytes, tt, l)
 long_file Missing bytes h l = absurd h
-long_file (Present file) bytes h l = (file, refl, omega (arith, ap length h, l, length-take 65537 file))
+long_file (Present file) bytes h l = (file, refl, omega (arith, ap length h, l, length-take (suc file_limit) file))
 
 -- Where memory ran out, no file was missing.
 pub other_error : {T : Type 0} {told : FileState} {x : ShelfError} → x ≡ error.NoMemory → (told ≡ Missing → let failed : Result T ShelfError = Err x in failed ≡ Err error.Failed) → told ≢ Missing
@@ -120,7 +120,7 @@ lawful_run p limit journal h kind f = record {
 }
 
 -- That of a new world which has run to its end is that of a run of its program.
-pub world_run : (p : Source) (limit : ℕ) (a b : Book) → IsNew p limit a → IsOfSameRun a b → HasLawfulJournal b → IsWritten b → (kind : Ending) × IsRunOf p limit kind b.entries
+pub world_run : (p : Source) (limit : ℕ) (a b : Book) → IsNewBook p limit a → IsOfSameRun a b → HasLawfulJournal b → HasFinish b → (kind : Ending) × IsRunOf p limit kind b.entries
 world_run p limit a b new same h w =
     let program : b.program ≡ p = same.program ∙ new.program in
     let most : b.limit ≡ limit = same.limit ∙ new.limit in

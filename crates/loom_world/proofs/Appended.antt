@@ -2,7 +2,7 @@
 use Rattle.std.proofs.Common.{ℕ, zero, suc, ◌+◌, ◌-◌, ◌<◌, ◌≤◌, ◌≡◌, ◌⊎◌, inl, inr, ◌==◌, Bool, true, false, List, [], ◌∷◌, ◌++◌, ℤ, pos, negsuc, length, get_or, slice_get, Option, Some, None, refl, sym, ap, ◌∙◌, subst, arith, if◌then◌else◌}
 use Rattle.std.specs.Prelude.{slice_set}
 use Rattle.std.proofs.lemmas.Option.{slice_get-get_or}
-use Rattle.loom_trace.specs.Limits.{thread_limit}
+use Rattle.loom_trace.specs.Limits.{thread_limit, control_limit}
 use Rattle.loom_tree.specs.Tree.{Source}
 use Rattle.loom_lang.specs.Trace.{Cause, Act, begin, end, trap, read, write, lock, unlock, down, up, spawn, join, print}
 use Rattle.loom_lang.specs.Acts.{Deed}
@@ -35,7 +35,7 @@ use Rattle.loom_world.specs.Book.{Book, plain, setting, front}
 use Rattle.loom_world.specs.Idle.{IsClosed}
 use Rattle.loom_world.specs.Threads.{IsSameThread, KeepsThreads}
 use Rattle.loom_world.specs.Asking.{Asks, MakesAnswer}
-use Rattle.loom_world.specs.BookInvariant.{Notes, wait_in, wait_of, IsAtEnd, IsKept}
+use Rattle.loom_world.specs.BookInvariant.{Notes, wait_in, wait_of, IsAtEnd, BookInvariant}
 use Rattle.loom_world.specs.Entry.{line_in, IsGrantWith, IsEntryFor}
 use Rattle.loom_world.proofs.States.{IsSpawnedBy, fresh_state}
 use Rattle.loom_world.proofs.Going.{IsGoing}
@@ -92,7 +92,7 @@ last_what b t q last told k what is =
     last_is t None b.entries ∙ (ap (last_in None) l.is ∙ (last_last None l.front l.last ∙ ap Some named))
 
 -- A disabled request, where the thread isn't blocked: its last entry isn't `Blocked`.
-not_told : (b : Book) (n : Notes) (k : IsKept b n) (t : ℕ) (q : Request) → Asks b t q → (IsBlocked (setting b) (front b) t → ⊥) → (l : ℕ) (what : What) → request_for l what ≡ Some q → IsDisabled b.store what
+not_told : (b : Book) (n : Notes) (k : BookInvariant b n) (t : ℕ) (q : Request) → Asks b t q → (IsBlocked (setting b) (front b) t → ⊥) → (l : ℕ) (what : What) → request_for l what ≡ Some q → IsDisabled b.store what
     → ends_blocked (entries_of t b.entries) ≡ false
 not_told b n k t q asks free l what is disabled = by_last (ends_blocked (entries_of t b.entries)) refl
   where
@@ -191,7 +191,7 @@ next : (t : ℕ) → 1 ≤ t → suc (t - 1) ≡ t
 next t h = omega (arith, h)
 
 -- what it is blocked at, a thread can wait for
-can_still : (b : Book) (n : Notes) (k : IsKept b n) (t l : ℕ) (what : What) → 1 ≤ t → t ≤ thread_limit → last_of_thread t None b.entries ≡ Some (e.Blocked t l what) → CanWait b.store what
+can_still : (b : Book) (n : Notes) (k : BookInvariant b n) (t l : ℕ) (what : What) → 1 ≤ t → t ≤ thread_limit → last_of_thread t None b.entries ≡ Some (e.Blocked t l what) → CanWait b.store what
 can_still b n k t l what first last is =
     let there : t - 1 < length n.waits = omega (arith, first, last, k.waits.count) in
     let note : slice_get n.waits (t - 1) ≡ Some (get_or n.waits (t - 1) None) = slice_get-get_or n.waits (t - 1) None there in
@@ -200,7 +200,7 @@ can_still b n k t l what first last is =
     k.waits.can (t - 1) what (note ∙ ap Some says)
 
 -- Where it was told so, what it waits for isn't disabled now.
-enabled : (b : Book) (n : Notes) (k : IsKept b n) (t : ℕ) (l : ℕ) (what : What) → (IsBlocked (setting b) (front b) t → ⊥) → last_of_thread t None b.entries ≡ Some (e.Blocked t l what)
+enabled : (b : Book) (n : Notes) (k : BookInvariant b n) (t : ℕ) (l : ℕ) (what : What) → (IsBlocked (setting b) (front b) t → ⊥) → last_of_thread t None b.entries ≡ Some (e.Blocked t l what)
     → IsDisabled b.store what → ⊥
 enabled b n k t l what free last disabled =
     free (subst (λ z. IsBlockedBy (setting b) (front b) t z) (sym last) (disabled_for b t what (all_wait b.store what disabled) disabled, nothing_listed (setting b) b.entries k.journal.lawful refl t))
@@ -209,7 +209,7 @@ blocked_what : (t l m : ℕ) (what that : What) → e.Blocked t l what ≡ e.Blo
 blocked_what t l m what that h = cc
 
 -- The entry replies to the request.
-replies : (b : Book) (n : Notes) (k : IsKept b n) (t : ℕ) (q : Request) → 1 ≤ t → t ≤ thread_limit → Asks b t q → (IsBlocked (setting b) (front b) t → ⊥)
+replies : (b : Book) (n : Notes) (k : BookInvariant b n) (t : ℕ) (q : Request) → 1 ≤ t → t ≤ thread_limit → Asks b t q → (IsBlocked (setting b) (front b) t → ⊥)
     → (y : Answer) (x : Entry) (new : Store) → Answers b.store t q y new → IsEntryFor t q y x → IsReplyTo (ends_blocked (entries_of t b.entries)) t (Some q) x
 replies b n k t q first last asks free y x new answers tells = by_last (ends_blocked (entries_of t b.entries)) refl
   where
@@ -340,7 +340,7 @@ functions_more p st new t q (Some d) h g leads = subst (HaveFunctions p) (sym le
 
 -- The whole
 
-going : (b : Book) (n : Notes) (k : IsKept b n) → (IsClosed b → ⊥) → IsGoing b.program b.limit b.entries b.store
+going : (b : Book) (n : Notes) (k : BookInvariant b n) → (IsClosed b → ⊥) → IsGoing b.program b.limit b.entries b.store
 going b n k goes_on = record {
   lawful = k.journal.lawful;
   store = k.journal.store;
@@ -350,10 +350,10 @@ going b n k goes_on = record {
   few = k.few_threads;
 }
 
-less : (b : Book) (n : Notes) (k : IsKept b n) → (IsClosed b → ⊥) → (n.made == b.limit) ≡ false
+less : (b : Book) (n : Notes) (k : BookInvariant b n) → (IsClosed b → ⊥) → (n.made == b.limit) ≡ false
 less b n k goes_on = not_yes (n.made == b.limit) (λ full. goes_on (inl (full_over b n k full)))
 
-asking : (b : Book) (n : Notes) (k : IsKept b n) (goes_on : IsClosed b → ⊥) (t : ℕ) (q : Request) → Asks b t q → IsAsking b.program b.limit b.entries b.store t q
+asking : (b : Book) (n : Notes) (k : BookInvariant b n) (goes_on : IsClosed b → ⊥) (t : ℕ) (q : Request) → Asks b t q → IsAsking b.program b.limit b.entries b.store t q
 asking b n k goes_on t q asks = record {
   going = going b n k goes_on;
   runs = less_goes_on b n k (less b n k goes_on);
@@ -397,16 +397,16 @@ count_last (y ∷ es) x h = by_first (is_some_thread (thread_of y)) (count_last 
     by_first true i = ap suc i
     by_first false i = i
 
-unfinished_at_end : (b : Book) (f : Bool) (more : ℕ) → f ≡ false → IsUnfinished b.entries → more ≡ b.limit + 129 → IsAtEnd b f more
+unfinished_at_end : (b : Book) (f : Bool) (more : ℕ) → f ≡ false → IsUnfinished b.entries → more ≡ b.limit + control_limit → IsAtEnd b f more
 unfinished_at_end b f more is h g = subst (λ z. IsAtEnd b z more) (sym is) (h, g)
 
 abbrev pub book_with : Book → Entry → Store → Book
 book_with b x st = record { program = b.program; limit = b.limit; entries = b.entries ++ x ∷ []; store = st }
 
 -- A book keeps what it keeps with the entry that an answer makes.
-pub kept_more : (b : Book) (n : Notes) (k : IsKept b n) (goes_on : IsClosed b → ⊥) (t : ℕ) (q : Request) → 1 ≤ t → t ≤ thread_limit → Asks b t q → (IsBlocked (setting b) (front b) t → ⊥)
+pub kept_more : (b : Book) (n : Notes) (k : BookInvariant b n) (goes_on : IsClosed b → ⊥) (t : ℕ) (q : Request) → 1 ≤ t → t ≤ thread_limit → Asks b t q → (IsBlocked (setting b) (front b) t → ⊥)
     → (y : Answer) (x : Entry) (new : Store) (room : ℕ) → Answers b.store t q y new → IsEntryFor t q y x → room + 1 ≡ n.room
-    → IsKept (book_with b x new) (record { made = n.made + 1; finished = n.finished; room = room; waits = slice_set n.waits (t - 1) (wait_of y) })
+    → BookInvariant (book_with b x new) (record { made = n.made + 1; finished = n.finished; room = room; waits = slice_set n.waits (t - 1) (wait_of y) })
 kept_more b n k goes_on t q first last asks free y x new room answers tells left =
     let of : thread_of x ≡ Some t = entry_by_thread t q y x tells in
     let leads = deeds b.store t q y new answers in
@@ -433,7 +433,7 @@ kept_more b n k goes_on t q first last asks free y x new room answers tells left
     }
 
 -- And the answer is the one that was asked for.
-pub answered_so : (b : Book) (n : Notes) (k : IsKept b n) (goes_on : IsClosed b → ⊥) (t : ℕ) (q : Request) → 1 ≤ t → t ≤ thread_limit → Asks b t q → (IsBlocked (setting b) (front b) t → ⊥)
+pub answered_so : (b : Book) (n : Notes) (k : BookInvariant b n) (goes_on : IsClosed b → ⊥) (t : ℕ) (q : Request) → 1 ≤ t → t ≤ thread_limit → Asks b t q → (IsBlocked (setting b) (front b) t → ⊥)
     → (y : Answer) (x : Entry) (new : Store) → Answers b.store t q y new → IsEntryFor t q y x → MakesAnswer b t q x (book_with b x new)
 answered_so b n k goes_on t q first last asks free y x new answers tells = record {
   run = record { program = refl; limit = refl };

@@ -16,7 +16,7 @@ use Rattle.loom_law.specs.Laws.{IsUnfinished}
 use Rattle.loom_law.proofs.NoCommands.{nothing_controlled, nothing_listed, nothing_asked, nobody_held_off, is_open}
 use Rattle.loom_store.specs.Answer.{CanWait}
 use Rattle.loom_world.specs.Book.{Book, plain, setting, front, HasLawfulJournal}
-use Rattle.loom_world.specs.Idle.{IsWritten, IsClosed, CanGoOn}
+use Rattle.loom_world.specs.Idle.{HasFinish, IsClosed, CanGoOn}
 use Rattle.loom_world.specs.BookInvariant.{wait_in}
 use Rattle.loom_world.proofs.Notes.{blocked_entry}
 

@@ -9,7 +9,7 @@ use Rattle.loom_trace.specs.declared.entry.Ending.{Ending}
 use Rattle.loom_trace.specs.declared.entry.What.{What}
 use Rattle.loom_event.specs.Answer.{IsFunctionWith}
 use Rattle.loom_event.specs.Entries.{thread_of, is_thread, is_some_thread, thread_entries, last_of_thread, IsFinished}
-use Rattle.loom_trace.specs.Limits.{thread_limit}
+use Rattle.loom_trace.specs.Limits.{thread_limit, entry_limit, control_limit}
 use Rattle.loom_event.specs.Replay.{ThreadState, Store, new_thread, main_thread, start, thread_at, replay}
 use Rattle.loom_law.specs.Control.{versions_of, entries_of}
 use Rattle.loom_law.specs.Lawful.{Setting, front_of, Ends, MayControl, IsLawful}
@@ -21,9 +21,9 @@ use Rattle.loom_strand.specs.Life.{has_none, has_ended, versions_with}
 use Rattle.loom_lang.proofs.MainFunction.{main_found, main_function}
 use Rattle.loom_world.specs.declared.choice.Why.{Why}
 use Rattle.loom_world.specs.declared.choice.Why.TheVariants as why
-use Rattle.loom_world.specs.Book.{Book, IsNew, plain, setting, front, HasLawfulJournal}
-use Rattle.loom_world.specs.Idle.{IsWritten, IsIdleControl}
-use Rattle.loom_world.specs.BookInvariant.{Notes, IsAsFar, wait_in, HasWaits, AreNoWaits, IsKept}
+use Rattle.loom_world.specs.Book.{Book, IsNewBook, plain, setting, front, HasLawfulJournal}
+use Rattle.loom_world.specs.Idle.{HasFinish, IsIdleControl}
+use Rattle.loom_world.specs.BookInvariant.{Notes, IsAsFar, wait_in, HasWaits, AreNoWaits, BookInvariant}
 use Rattle.loom_world.proofs.Notes.{waits_kept}
 use Rattle.loom_world.proofs.Ends.{front_is, may_finish}
 use Rattle.loom_world.proofs.Kept.{not_written}
@@ -50,8 +50,8 @@ finished_journal b h kind goes_on ends =
     record { lawful = more.0; store = ap (replay (start b.program thread_limit)) more.1 ∙ h.store }
 
 -- A book keeps what it keeps when it is finished.
-pub finished_kept : (b : Book) (n : Notes) (k : IsKept b n) (kind : Ending) → n.finished ≡ false → Ends (setting b) (front b) kind → (room : ℕ)
-    → IsKept (finished_book b kind) (record { made = n.made; finished = true; room = room; waits = n.waits })
+pub finished_kept : (b : Book) (n : Notes) (k : BookInvariant b n) (kind : Ending) → n.finished ≡ false → Ends (setting b) (front b) kind → (room : ℕ)
+    → BookInvariant (finished_book b kind) (record { made = n.made; finished = true; room = room; waits = n.waits })
 finished_kept b n k kind unfinished ends room =
     let goes_on : IsUnfinished b.entries = λ a h. not_written b n k unfinished (a, h) in
     record {
@@ -69,7 +69,7 @@ finished_kept b n k kind unfinished ends room =
     }
 
 -- Where the run ends control isn't idle.
-pub not_idle : (b : Book) (n : Notes) (k : IsKept b n) (kind : Ending) → n.finished ≡ false → Ends (setting b) (front b) kind → (w : Why) → IsIdleControl b w → ⊥
+pub not_idle : (b : Book) (n : Notes) (k : BookInvariant b n) (kind : Ending) → n.finished ≡ false → Ends (setting b) (front b) kind → (w : Why) → IsIdleControl b w → ⊥
 not_idle b n k kind unfinished ends why.Nothing (inl written) = not_written b n k unfinished written
 not_idle b n k kind unfinished ends why.Nothing (inr none) = none (e.Finish kind) refl (may_finish b k.journal kind ends)
 not_idle b n k kind unfinished ends why.Over h = h
@@ -113,8 +113,8 @@ first_journal : (p : Source) (limit : ℕ) → HasLawfulJournal (record { progra
 first_journal p limit = let h = beginning (plain p limit) in record { lawful = h.0; store = ap (replay (start p thread_limit)) h.1 }
 
 -- A new book keeps all of it.
-pub new_kept : (p : Source) (limit room : ℕ) (ws : List (Option What)) → KeepsRules p → 1 ≤ limit → limit ≤ 1000000 → room ≡ limit + 129 → AreNoWaits ws
-    → IsKept (record { program = p; limit = limit; entries = []; store = start p thread_limit }) (record { made = 0; finished = false; room = room; waits = ws })
+pub new_kept : (p : Source) (limit room : ℕ) (ws : List (Option What)) → KeepsRules p → 1 ≤ limit → limit ≤ entry_limit → room ≡ limit + control_limit → AreNoWaits ws
+    → BookInvariant (record { program = p; limit = limit; entries = []; store = start p thread_limit }) (record { made = 0; finished = false; room = room; waits = ws })
 new_kept p limit room ws rules least most left none = record {
   journal = first_journal p limit;
   least = least;

@@ -1,7 +1,7 @@
 -- What a book keeps, as its calls read it.
 use Rattle.std.proofs.Common.{ℕ, zero, suc, ◌+◌, ◌-◌, ◌<◌, ◌≤◌, ◌≡◌, ◌⊎◌, inl, inr, ◌==◌, Bool, true, false, not, ◌||◌, List, [], ◌∷◌, ◌++◌, length, get_or, slice_get, Option, Some, None, refl, sym, ap, ◌∙◌, subst, arith}
 use Rattle.std.proofs.lemmas.Option.{slice_get_read, slice_get_within}
-use Rattle.loom_trace.specs.Limits.{thread_limit}
+use Rattle.loom_trace.specs.Limits.{thread_limit, control_limit}
 use Rattle.loom_trace.specs.declared.entry.What.{What}
 use Rattle.loom_trace.specs.declared.entry.Ending.{Ending}
 use Rattle.loom_event.specs.Entries.{thread_entries, last_of_thread}
@@ -11,37 +11,37 @@ use Rattle.loom_law.proofs.Earlier.{same_number}
 use Rattle.loom_law.proofs.Turns.{eq_same}
 use Rattle.loom_store.specs.Answer.{CanWait}
 use Rattle.loom_world.specs.Book.{Book, setting, front}
-use Rattle.loom_world.specs.Idle.{IsWritten, IsClosed, CanGoOn}
-use Rattle.loom_world.specs.BookInvariant.{Notes, wait_in, IsAtEnd, IsKept}
+use Rattle.loom_world.specs.Idle.{HasFinish, IsClosed, CanGoOn}
+use Rattle.loom_world.specs.BookInvariant.{Notes, wait_in, IsAtEnd, BookInvariant}
 use Rattle.loom_world.proofs.Ends.{over_is, blocked_by, free_by, free_without}
 
 end_if : (b : Book) (more : ℕ) (f c : Bool) → f ≡ c → IsAtEnd b f more → IsAtEnd b c more
 end_if b more f c is h = subst (λ z. IsAtEnd b z more) is h
 
-pub is_written : (b : Book) (n : Notes) → IsKept b n → n.finished ≡ true → IsWritten b
+pub is_written : (b : Book) (n : Notes) → BookInvariant b n → n.finished ≡ true → HasFinish b
 is_written b n k is = end_if b (n.made + n.room) n.finished true is k.end
 
-pub not_written : (b : Book) (n : Notes) → IsKept b n → n.finished ≡ false → IsWritten b → ⊥
+pub not_written : (b : Book) (n : Notes) → BookInvariant b n → n.finished ≡ false → HasFinish b → ⊥
 not_written b n k is h = (end_if b (n.made + n.room) n.finished false is k.end).0 h.0 h.1
 
-pub room_left : (b : Book) (n : Notes) → IsKept b n → n.finished ≡ false → n.made + n.room ≡ b.limit + 129
+pub room_left : (b : Book) (n : Notes) → BookInvariant b n → n.finished ≡ false → n.made + n.room ≡ b.limit + control_limit
 room_left b n k is = (end_if b (n.made + n.room) n.finished false is k.end).1
 
-pub count_is : (b : Book) (n : Notes) → IsKept b n → (n.made == b.limit) ≡ (thread_entries b.entries == b.limit)
+pub count_is : (b : Book) (n : Notes) → BookInvariant b n → (n.made == b.limit) ≡ (thread_entries b.entries == b.limit)
 count_is b n k = ap (λ z. z == b.limit) k.made
 
-pub full_over : (b : Book) (n : Notes) → IsKept b n → (n.made == b.limit) ≡ true → over (setting b) (front b) ≡ true
+pub full_over : (b : Book) (n : Notes) → BookInvariant b n → (n.made == b.limit) ≡ true → over (setting b) (front b) ≡ true
 full_over b n k full = over_is b ∙ (sym (count_is b n k) ∙ full)
 
-pub less_goes_on : (b : Book) (n : Notes) → IsKept b n → (n.made == b.limit) ≡ false → over (setting b) (front b) ≡ false
+pub less_goes_on : (b : Book) (n : Notes) → BookInvariant b n → (n.made == b.limit) ≡ false → over (setting b) (front b) ≡ false
 less_goes_on b n k less = over_is b ∙ (sym (count_is b n k) ∙ less)
 
-pub open_if : (b : Book) (n : Notes) → IsKept b n → n.finished ≡ false → (n.made == b.limit) ≡ false → IsClosed b → ⊥
+pub open_if : (b : Book) (n : Notes) → BookInvariant b n → n.finished ≡ false → (n.made == b.limit) ≡ false → IsClosed b → ⊥
 open_if b n k is less (inl over_so) = let same : true ≡ false = sym over_so ∙ less_goes_on b n k less in cc
 open_if b n k is less (inr h) = not_written b n k is h
 
 -- Where it goes on the limit isn't reached, and it isn't finished.
-pub not_full : (b : Book) (n : Notes) → IsKept b n → (IsClosed b → ⊥) → n.made < b.limit
+pub not_full : (b : Book) (n : Notes) → BookInvariant b n → (IsClosed b → ⊥) → n.made < b.limit
 not_full b n k goes_on = by_count (n.made == b.limit) refl
   where
     by_count : (c : Bool) → (n.made == b.limit) ≡ c → n.made < b.limit
@@ -50,7 +50,7 @@ not_full b n k goes_on = by_count (n.made == b.limit) refl
         let ne : n.made ≡ b.limit → ⊥ = λ g. (let same : true ≡ false = sym (eq_same b.limit) ∙ subst (λ z. (z == b.limit) ≡ false) g e in cc) in
         omega (arith, ne, k.few)
 
-pub not_finished : (b : Book) (n : Notes) → IsKept b n → (IsClosed b → ⊥) → n.finished ≡ false
+pub not_finished : (b : Book) (n : Notes) → BookInvariant b n → (IsClosed b → ⊥) → n.finished ≡ false
 not_finished b n k goes_on = by_end n.finished refl
   where
     by_end : (c : Bool) → n.finished ≡ c → n.finished ≡ false
@@ -59,38 +59,38 @@ not_finished b n k goes_on = by_end n.finished refl
 
 -- What a thread is blocked at
 
-note_at : (b : Book) (n : Notes) (k : IsKept b n) (t : ℕ) (o w : Option What) → 1 ≤ t → t ≤ thread_limit → o ≡ get_or n.waits (t - 1) o → o ≡ w → slice_get n.waits (t - 1) ≡ Some w
+note_at : (b : Book) (n : Notes) (k : BookInvariant b n) (t : ℕ) (o w : Option What) → 1 ≤ t → t ≤ thread_limit → o ≡ get_or n.waits (t - 1) o → o ≡ w → slice_get n.waits (t - 1) ≡ Some w
 note_at b n k t o w first last is same =
     slice_get_read n.waits (length n.waits) (t - 1) o refl (omega (arith, first, last, k.waits.count)) is ∙ ap Some same
 
 next : (t : ℕ) → 1 ≤ t → suc (t - 1) ≡ t
 next t h = omega (arith, h)
 
-pub note_says : (b : Book) (n : Notes) (k : IsKept b n) (t : ℕ) (o w : Option What) → 1 ≤ t → t ≤ thread_limit → o ≡ get_or n.waits (t - 1) o → o ≡ w
+pub note_says : (b : Book) (n : Notes) (k : BookInvariant b n) (t : ℕ) (o w : Option What) → 1 ≤ t → t ≤ thread_limit → o ≡ get_or n.waits (t - 1) o → o ≡ w
     → wait_in (last_of_thread t None b.entries) ≡ w
 note_says b n k t o w first last is same =
     let each = k.waits.each (t - 1) w (note_at b n k t o w first last is same) in
     ap (λ z. wait_in (last_of_thread z None b.entries)) (sym (next t first)) ∙ sym each
 
-pub note_can : (b : Book) (n : Notes) (k : IsKept b n) (t : ℕ) (o : Option What) (w : What) → 1 ≤ t → t ≤ thread_limit → o ≡ get_or n.waits (t - 1) o → o ≡ Some w → CanWait b.store w
+pub note_can : (b : Book) (n : Notes) (k : BookInvariant b n) (t : ℕ) (o : Option What) (w : What) → 1 ≤ t → t ≤ thread_limit → o ≡ get_or n.waits (t - 1) o → o ≡ Some w → CanWait b.store w
 note_can b n k t o w first last is same = k.waits.can (t - 1) w (note_at b n k t o (Some w) first last is same)
 
-pub is_blocked_at : (b : Book) (n : Notes) (k : IsKept b n) (t : ℕ) (o : Option What) (w : What) → 1 ≤ t → t ≤ thread_limit → o ≡ get_or n.waits (t - 1) o → o ≡ Some w → IsDisabled b.store w
+pub is_blocked_at : (b : Book) (n : Notes) (k : BookInvariant b n) (t : ℕ) (o : Option What) (w : What) → 1 ≤ t → t ≤ thread_limit → o ≡ get_or n.waits (t - 1) o → o ≡ Some w → IsDisabled b.store w
     → IsBlocked (setting b) (front b) t
 is_blocked_at b n k t o w first last is same disabled =
     blocked_by b k.journal t w (note_says b n k t o (Some w) first last is same) (note_can b n k t o w first last is same) disabled
 
-pub is_free_at : (b : Book) (n : Notes) (k : IsKept b n) (t : ℕ) (o : Option What) (w : What) → 1 ≤ t → t ≤ thread_limit → o ≡ get_or n.waits (t - 1) o → o ≡ Some w → (IsDisabled b.store w → ⊥)
+pub is_free_at : (b : Book) (n : Notes) (k : BookInvariant b n) (t : ℕ) (o : Option What) (w : What) → 1 ≤ t → t ≤ thread_limit → o ≡ get_or n.waits (t - 1) o → o ≡ Some w → (IsDisabled b.store w → ⊥)
     → IsBlocked (setting b) (front b) t → ⊥
 is_free_at b n k t o w first last is same enabled =
     free_by b t w (note_says b n k t o (Some w) first last is same) (note_can b n k t o w first last is same) enabled
 
-pub is_free_without : (b : Book) (n : Notes) (k : IsKept b n) (t : ℕ) (o : Option What) → 1 ≤ t → t ≤ thread_limit → o ≡ get_or n.waits (t - 1) o → o ≡ None
+pub is_free_without : (b : Book) (n : Notes) (k : BookInvariant b n) (t : ℕ) (o : Option What) → 1 ≤ t → t ≤ thread_limit → o ≡ get_or n.waits (t - 1) o → o ≡ None
     → IsBlocked (setting b) (front b) t → ⊥
 is_free_without b n k t o first last is same = free_without b t (last_of_thread t None b.entries) (note_says b n k t o None first last is same)
 
 -- Threads have the numbers that there may be.
-pub live_number : (b : Book) (n : Notes) → IsKept b n → (t : ℕ) → Lives b.store t → (1 ≤ t) × (t ≤ thread_limit)
+pub live_number : (b : Book) (n : Notes) → BookInvariant b n → (t : ℕ) → Lives b.store t → (1 ≤ t) × (t ≤ thread_limit)
 live_number b n k zero h = cc (h.is)
 live_number b n k (suc i) h =
     let there : i < length b.store.spawned = slice_get_within b.store.spawned i h.state h.is in
@@ -150,5 +150,5 @@ not_false true h = refl
 not_false false h = cc
 
 -- as many entries as there may be, or fewer
-pub entries_at : (b : Book) (n : Notes) → IsKept b n → (c : Bool) → (n.made == b.limit) ≡ c → (thread_entries b.entries == b.limit) ≡ c
+pub entries_at : (b : Book) (n : Notes) → BookInvariant b n → (c : Bool) → (n.made == b.limit) ≡ c → (thread_entries b.entries == b.limit) ≡ c
 entries_at b n k c h = sym (count_is b n k) ∙ h

@@ -34,7 +34,7 @@ pub record HasLawfulJournal (b : Book) : Type 0 where
   pub store : replay (start b.program thread_limit) lawful.events ≡ b.store
 
 -- Nothing has happened yet.
-pub record IsNew (p : Source) (n : ℕ) (b : Book) : Type 0 where
+pub record IsNewBook (p : Source) (n : ℕ) (b : Book) : Type 0 where
   pub program : b.program ≡ p
   pub limit : b.limit ≡ n
   pub entries : b.entries ≡ []

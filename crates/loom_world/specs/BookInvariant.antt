@@ -15,7 +15,7 @@ use Rattle.loom_store.specs.declared.answer.Answer.{Answer}
 use Rattle.loom_store.specs.declared.answer.Answer.TheVariants as a
 use Rattle.loom_store.specs.Answer.{CanWait}
 use Rattle.loom_world.specs.Book.{Book, HasLawfulJournal}
-use Rattle.loom_world.specs.Idle.{IsWritten}
+use Rattle.loom_world.specs.Idle.{HasFinish}
 
 -- What a book keeps beside its journal and its store.
 pub record Notes : Type 0 where
@@ -29,7 +29,7 @@ pub record Notes : Type 0 where
 
 -- The journal is finished; or it isn't, and has room for what is still to come.
 abbrev pub IsAtEnd : Book → Bool → ℕ → Type 0
-IsAtEnd b true more = IsWritten b
+IsAtEnd b true more = HasFinish b
 IsAtEnd b false more = IsUnfinished b.entries × (more ≡ b.limit + control_limit)
 
 -- How far a thread is, by its entries.
@@ -48,7 +48,7 @@ pub record HasWaits (b : Book) (waits : List (Option What)) : Type 0 where
   pub each : (i : ℕ) (w : Option What) → slice_get waits i ≡ Some w → w ≡ wait_in (last_of_thread (suc i) None b.entries)
   pub can : (i : ℕ) (w : What) → slice_get waits i ≡ Some (Some w) → CanWait b.store w
 
-pub record IsKept (b : Book) (n : Notes) : Type 0 where
+pub record BookInvariant (b : Book) (n : Notes) : Type 0 where
   pub journal : HasLawfulJournal b
   pub least : 1 ≤ b.limit
   pub most : b.limit ≤ entry_limit

@@ -16,12 +16,12 @@ use Rattle.loom_world.specs.declared.choice.Why.TheVariants as why
 use Rattle.loom_world.specs.Book.{Book, setting, front}
 
 -- The journal is finished.
-abbrev pub IsWritten : Book → Type 0
-IsWritten b = (kind : Ending) × IsFinished b.entries kind
+abbrev pub HasFinish : Book → Type 0
+HasFinish b = (kind : Ending) × IsFinished b.entries kind
 
 -- No thread makes an entry any more: there are as many as there may be, or the journal is finished.
 abbrev pub IsClosed : Book → Type 0
-IsClosed b = (over (setting b) (front b) ≡ true) ⊎ IsWritten b
+IsClosed b = (over (setting b) (front b) ≡ true) ⊎ HasFinish b
 
 -- Why thread t makes no entry now: the first of these that applies.
 abbrev pub IsIdleThread : Book → ℕ → Why → Type 0
@@ -33,7 +33,7 @@ IsIdleThread b t why.Nothing = ⊥
 
 -- No control entry stands next.
 abbrev pub IsIdleControl : Book → Why → Type 0
-IsIdleControl b why.Nothing = IsWritten b ⊎ ((x : Entry) → thread_of x ≡ None → MayControl (setting b) (front b) x [] → ⊥)
+IsIdleControl b why.Nothing = HasFinish b ⊎ ((x : Entry) → thread_of x ≡ None → MayControl (setting b) (front b) x [] → ⊥)
 IsIdleControl b _ = ⊥
 
 abbrev pub IsIdle : Book → Choice → Why → Type 0

@@ -6,8 +6,8 @@ ghost use Rattle.loom_law.specs.Lawful.{Ends, Lives, IsBlocked};
 ghost use Rattle.loom_trace.specs.declared.entry.Ending.{Ending as Kind};
 ghost use Rattle.loom_trace.specs.Limits.{thread_limit, entry_limit};
 ghost use Rattle.loom_world.specs.declared.choice.Choice.TheVariants as choice;
-ghost use Rattle.loom_world.specs.Book.{IsNew, IsOfSameRun, HasLawfulJournal, setting, front};
-ghost use Rattle.loom_world.specs.Idle.{IsWritten, IsClosed, IsIdleThread, CanGoOn, IsLive};
+ghost use Rattle.loom_world.specs.Book.{IsNewBook, IsOfSameRun, HasLawfulJournal, setting, front};
+ghost use Rattle.loom_world.specs.Idle.{HasFinish, IsClosed, IsIdleThread, CanGoOn, IsLive};
 ghost use Rattle.loom_world.specs.Turned.{Turns};
 ghost use Rattle.loom_world.specs.BookInvariant.{wait_of, AreNoWaits};
 ghost use Rattle.loom_world.specs.Asking.{Asks, MakesAnswer};
@@ -49,7 +49,7 @@ impl Model for Book {
     ghost use Rattle.std.specs.Coded.{codes};
     ghost use Rattle.loom_tree.specs.Code.{source_code};
     ghost use Rattle.loom_world.specs.Book.{Book};
-    ghost use Rattle.loom_world.specs.BookInvariant.{IsKept};
+    ghost use Rattle.loom_world.specs.BookInvariant.{BookInvariant};
 
     ghost Value = { Book };
 
@@ -57,7 +57,7 @@ impl Model for Book {
 
     ghost view = { λ b. record { program = arc_value b.program; limit = b.limit; entries = b.journal.entries; store = b.store } };
 
-    ghost invariant = { λ b. IsKept
+    ghost invariant = { λ b. BookInvariant
         (record { program = arc_value b.program; limit = b.limit; entries = b.journal.entries; store = b.store })
         (record { made = b.made; finished = b.finished; room = b.journal.room; waits = b.waits.items }) };
 }
@@ -90,7 +90,7 @@ impl Book {
     pub(crate) fn make(alloc: Global, program: Arc<Program>, limit: u32) -> Result<Book, NoMemory>
         requires least { 1 ≤ limit }
         requires most { limit ≤ entry_limit }
-        ensures new { IfOk result (λ b. IsNew (arc_value program) limit b) }
+        ensures new { IfOk result (λ b. IsNewBook (arc_value program) limit b) }
         ensures lawful { IfOk result (λ b. HasLawfulJournal b) }
     {
         let journal = Journal::make(alloc, limit)?;
@@ -119,8 +119,8 @@ impl Book {
 
     /// Whether the journal is finished.
     pub(crate) fn is_finished(&self) -> bool
-        ensures finished { result ≡ true → IsWritten self.now }
-        ensures unfinished { result ≡ false → IsWritten self.now → ⊥ }
+        ensures finished { result ≡ true → HasFinish self.now }
+        ensures unfinished { result ≡ false → HasFinish self.now → ⊥ }
     {
         self.finished
     }

@@ -5,8 +5,8 @@ ghost use Rattle.loom_trace.specs.Limits.{thread_limit, entry_limit};
 ghost use Rattle.loom_world.specs.declared.choice.Choice.TheVariants as choice;
 ghost use Rattle.loom_world.specs.declared.choice.Turned.TheVariants as turned;
 ghost use Rattle.loom_world.specs.declared.choice.Why.{Why as Reason};
-ghost use Rattle.loom_world.specs.Book.{IsNew, IsOfSameRun, HasLawfulJournal};
-ghost use Rattle.loom_world.specs.Idle.{IsWritten, IsLive};
+ghost use Rattle.loom_world.specs.Book.{IsNewBook, IsOfSameRun, HasLawfulJournal};
+ghost use Rattle.loom_world.specs.Idle.{HasFinish, IsLive};
 ghost use Rattle.loom_world.specs.Asking.{Asks};
 ghost use Rattle.loom_world.specs.Turned.{Turns};
 ghost use Rattle.loom_world.specs.Threads.{IsStrandOf, KeepsThreads, AreNew};
@@ -114,7 +114,7 @@ impl World {
     pub fn make(alloc: Global, p: &Program, limit: u32) -> Result<World, NoMemory>
         requires least { 1 ≤ limit }
         requires most { limit ≤ entry_limit }
-        ensures new { IfOk result (λ w. IsNew p.now limit w) }
+        ensures new { IfOk result (λ w. IsNewBook p.now limit w) }
     {
         let flow = lower(alloc, p)?;
         let book = Book::make(alloc, flow.share()?, limit)?;
@@ -179,8 +179,8 @@ impl World {
 
     /// Whether the journal is finished.
     pub fn finished(&self) -> bool
-        ensures finished { result ≡ true → IsWritten self.now }
-        ensures unfinished { result ≡ false → IsWritten self.now → ⊥ }
+        ensures finished { result ≡ true → HasFinish self.now }
+        ensures unfinished { result ≡ false → HasFinish self.now → ⊥ }
         ensures lawful { HasLawfulJournal self.now }
     {
         self.book.is_finished()

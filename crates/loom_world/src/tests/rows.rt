@@ -54,7 +54,7 @@ pub const ROWS: [Row; 9] = [
         limit: 100,
         text: "1:2 begin\n1:3 trap 7\n1:2 end\nfinish done\n",
     },
-    // A ninth thread is trap 5: the second thread spawns until it can't.
+    // A ninth thread is trap 5: each thread spawns the next one, as far as it can.
     Row {
         program: "fn w(n) {\nif (n > 0) {\nlet t = spawn w(n - 1);\n}\n}\nfn main() {\nlet t = spawn w(7);\n}\n",
         limit: 100,

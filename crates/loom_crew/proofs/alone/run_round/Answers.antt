@@ -7,7 +7,7 @@ use Rattle.loom_crew.proofs.alone.run_round.Goals as goal
 pub threads-init : goal.threads-init
 threads-init c = record {
   run = c.turn.ensures.run;
-  led = λ new h. (c.turn.new.self, (c.turn.result, c.turn.ensures.turns), h);
+  led = λ new h. (c.turn.new.self, record { run = c.turn.ensures.run; lawful = c.turn.ensures.lawful; told = c.turn.result; turns = c.turn.ensures.turns }, h);
   lawful = c.turn.ensures.lawful;
 }
 
@@ -17,7 +17,7 @@ threads-preserved c = record {
   led =
       λ new h.
       c.threads.invariant.led new
-      (subst (λ cs. Lead c.threads.world cs new) (sym (threads_next c.threads.t (omega (arith, c.threads-test.true)))) (c.turn-in-threads.new.self, (c.turn-in-threads.result, c.turn-in-threads.ensures.turns), h));
+      (subst (λ cs. Lead c.threads.world cs new) (sym (threads_next c.threads.t (omega (arith, c.threads-test.true)))) (c.turn-in-threads.new.self, record { run = c.turn-in-threads.ensures.run; lawful = c.turn-in-threads.ensures.lawful; told = c.turn-in-threads.result; turns = c.turn-in-threads.ensures.turns }, h));
   lawful = c.turn-in-threads.ensures.lawful;
 }
 

@@ -8,7 +8,7 @@ use Rattle.loom_world.specs.Book.{Book, setting, front}
 use Rattle.loom_world.specs.Idle.{IsClosed}
 use Rattle.loom_world.specs.Asking.{Asks, MakesAnswer}
 use Rattle.loom_world.specs.contracts.book.Book.{the_view}
-use Rattle.loom_world.specs.BookInvariant.{IsKept}
+use Rattle.loom_world.specs.BookInvariant.{BookInvariant}
 use Rattle.loom_world.proofs.States.{most_threads}
 use Rattle.loom_world.proofs.Appended.{kept_more, answered_so}
 use Rattle.loom_world.proofs.book.Book.answer.Goals as goal
@@ -57,4 +57,4 @@ returns-clause-ok c =
     subst (λ (z : Book). MakesAnswer z c.args.t c.args.request.now c.entry_for-entry.result new) c.self.view_is told
 
 pub returns-clause-lawful : goal.returns-clause-lawful
-returns-clause-lawful c = IsKept.journal (invariant_of-self c)
+returns-clause-lawful c = BookInvariant.journal (invariant_of-self c)

@@ -4,7 +4,7 @@ use Rattle.loom_trace.specs.declared.entry.Entry.TheVariants as e
 use Rattle.loom_world.specs.Book.{Book, HasLawfulJournal, setting, front}
 use Rattle.loom_world.specs.Idle.{IsIdleControl}
 use Rattle.loom_world.specs.contracts.book.Book.{the_view}
-use Rattle.loom_world.specs.BookInvariant.{IsKept}
+use Rattle.loom_world.specs.BookInvariant.{BookInvariant}
 use Rattle.loom_world.proofs.Ends.{no_control}
 use Rattle.loom_world.proofs.Finished.{finished_kept, not_idle}
 use Rattle.loom_world.proofs.book.Book.control.Goals as goal
@@ -32,4 +32,4 @@ returns-in-None-clause-turns c =
     (inr (no_control c.args.self.now (subst HasLawfulJournal c.self.view_is c.self.invariant.journal) c.in-None.ensures.none), refl)
 
 pub returns-in-Some-clause-lawful : goal.returns-in-Some-clause-lawful
-returns-in-Some-clause-lawful c = IsKept.journal (invariant_of-self c)
+returns-in-Some-clause-lawful c = BookInvariant.journal (invariant_of-self c)

@@ -4,7 +4,7 @@ use Rattle.loom_tree.specs.Tree.{Source}
 use Rattle.loom_lang.specs.Rules.{KeepsRules}
 use Rattle.loom_trace.specs.Limits.{thread_limit}
 use Rattle.loom_event.specs.Replay.{start}
-use Rattle.loom_world.specs.BookInvariant.{IsKept}
+use Rattle.loom_world.specs.BookInvariant.{BookInvariant}
 use Rattle.loom_world.proofs.Finished.{new_kept}
 use Rattle.loom_world.proofs.book.Book.make.Goals as goal
 
@@ -17,4 +17,4 @@ invariant_of-result c =
     (new_kept p c.args.limit c.in_ok-journal.journal.room c.in_ok-waits.waits.items rules c.requires.least c.requires.most c.in_ok-journal.ensures.room c.in_ok-waits.ensures)
 
 pub returns-clause-lawful : goal.returns-clause-lawful
-returns-clause-lawful c = IsKept.journal (invariant_of-result c)
+returns-clause-lawful c = BookInvariant.journal (invariant_of-result c)

@@ -18,7 +18,7 @@ turns-preserved c = record {
   led =
       λ new h.
       c.turns.invariant.led new
-      (subst (λ cs. Lead c.turns.self cs new) (sym (at_drop_more (λ cs. cs) c.args.cs.now c.turns.c-index (choice.Thread 0) c.turns-test.true)) (c.turn.new.self, (c.turn.result, c.turn.ensures.turns), h));
+      (subst (λ cs. Lead c.turns.self cs new) (sym (at_drop_more (λ cs. cs) c.args.cs.now c.turns.c-index (choice.Thread 0) c.turns-test.true)) (c.turn.new.self, record { run = c.turn.ensures.run; lawful = c.turn.ensures.lawful; told = c.turn.result; turns = c.turn.ensures.turns }, h));
   lawful = c.turn.ensures.lawful;
 }
 

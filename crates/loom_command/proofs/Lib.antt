@@ -6,4 +6,4 @@ pub mod Parentheses
 pub mod Pieces
 pub mod OneForm
 pub mod OneFault
-pub mod Written
+pub mod Examples

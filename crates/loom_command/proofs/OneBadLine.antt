@@ -3,7 +3,7 @@ use Rattle.std.proofs.Common.{ℕ, zero, suc, ◌+◌, ◌-◌, ◌<◌, ◌≤�
 use Rattle.std.specs.List.{slice_get}
 use Rattle.std.proofs.lemmas.Bool.{cases_order}
 use Rattle.std.proofs.lemmas.List.{take-take}
-use Rattle.loom_command.specs.Script.{ScriptCommand, lines, IsSkipped, IsCommandLine, most_commands, AreCommands, IsRefusedScript}
+use Rattle.loom_command.specs.Script.{ScriptCommand, script_lines, IsSkipped, IsCommandLine, most_commands, AreCommands, IsRefusedScript}
 use Rattle.loom_command.specs.Laws.{HasOneRefusedLine, HasNoRefusedScript}
 use Rattle.loom_command.proofs.OneScript.{not_skipped}
 
@@ -57,9 +57,9 @@ stops bytes n ds h k few = go h.bad.bad
 earlier : (bytes : List ℕ) (n m : ℕ) → n < m → IsRefusedScript bytes n → IsRefusedScript bytes m → ⊥
 earlier bytes n m l h k =
     let less : n - 1 < m - 1 = omega (arith, h.counted) in
-    let front = take (m - 1) (lines bytes) in
-    let before : AreCommands 1 (take (n - 1) front) h.commands = subst (λ z. AreCommands 1 z h.commands) (sym (take-take (n - 1) (m - 1) (lines bytes) (omega (arith, less)))) h.before in
-    let there : slice_get front (n - 1) ≡ Some h.line = get_front (lines bytes) (n - 1) (m - 1) less ∙ h.there in
+    let front = take (m - 1) (script_lines bytes) in
+    let before : AreCommands 1 (take (n - 1) front) h.commands = subst (λ z. AreCommands 1 z h.commands) (sym (take-take (n - 1) (m - 1) (script_lines bytes) (omega (arith, less)))) h.before in
+    let there : slice_get front (n - 1) ≡ Some h.line = get_front (script_lines bytes) (n - 1) (m - 1) less ∙ h.there in
     stops bytes n k.commands h (next_line 1 front (n - 1) h.line h.commands k.commands before k.before there h.bad.not_skipped) k.few
 
 pub one_refused_line : HasOneRefusedLine
@@ -69,4 +69,4 @@ one_refused_line bytes n m h k = elim (cases_order n m) [
 ]
 
 pub no_refused_script : HasNoRefusedScript
-no_refused_script bytes cs n k h = stops bytes n cs h (next_line 1 (lines bytes) (n - 1) h.line h.commands cs h.before k.commands h.there h.bad.not_skipped) k.few
+no_refused_script bytes cs n k h = stops bytes n cs h (next_line 1 (script_lines bytes) (n - 1) h.line h.commands cs h.before k.commands h.there h.bad.not_skipped) k.few

@@ -1,6 +1,6 @@
 -- A text is refused in one way, and what is refused is no filter.
 use Rattle.std.proofs.Common.{ℕ, ◌≤◌, ◌≡◌, inl, inr, List, ◌∷◌, refl, sym, ap, subst, ◌∙◌, arith}
-use Rattle.loom_command.specs.FilterFault.{FilterFault, IsNoLater, clause_behind, LeavesGrammar, IsFaultOf, IsFaulty}
+use Rattle.loom_command.specs.FilterFault.{FilterFault, IsNoLater, clause_behind, LeavesGrammar, IsFaultOf, IsFaultyFilter}
 use Rattle.loom_command.specs.Laws.{HasOneFault, HasNoFaultyFilter}
 use Rattle.loom_command.proofs.OneForm.{one_form}
 
@@ -25,10 +25,10 @@ one_place bytes a b h k =
     h.is ∙ ap clause_behind e ∙ sym k.is
 
 -- a text of the grammar isn't left
-in_grammar : (bytes : List ℕ) (clause : ℕ) (x : FilterFault) → LeavesGrammar bytes clause → IsFaulty bytes x → ⊥
+in_grammar : (bytes : List ℕ) (clause : ℕ) (x : FilterFault) → LeavesGrammar bytes clause → IsFaultyFilter bytes x → ⊥
 in_grammar bytes clause x h k = h.no_text (record { first = k.first; others = k.others; form = k.form })
 
-one_faulty : (bytes : List ℕ) (x y : FilterFault) → IsFaulty bytes x → IsFaulty bytes y → x ≡ y
+one_faulty : (bytes : List ℕ) (x y : FilterFault) → IsFaultyFilter bytes x → IsFaultyFilter bytes y → x ≡ y
 one_faulty bytes x y h k =
     let e : h.first ∷ h.others ≡ k.first ∷ k.others = one_form bytes h.first k.first h.others k.others h.form k.form in
     let there : IsFaultOf 1 0 (h.first ∷ h.others) y = subst (λ cs. IsFaultOf 1 0 cs y) (sym e) k.is in

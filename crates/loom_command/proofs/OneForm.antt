@@ -4,7 +4,7 @@ use Rattle.std.specs.List.{AllByRecursion}
 use Rattle.loom_lexer.specs.Lexeme.{is_among, is_part}
 use Rattle.loom_lexer.specs.Name.{IsName}
 use Rattle.loom_command.specs.FilterForm.{TestForm, EventForm, StepForm, RegionForm, between, whole, order, exclusive, unilateral, IsFileWord, IsNumber, IsTestIf, IsEvent, IsCountIf, IsStep, IsRegion, IsClause, filter_tree}
-use Rattle.loom_command.specs.FilterText.{is_blank, Piece, word, sign, test, AreWritten, joined, signed, test_pieces, event_pieces, count_pieces, step_pieces, events_pieces, region_pieces, clause_pieces}
+use Rattle.loom_command.specs.FilterText.{is_blank, Piece, word, sign, test, AreWritten, with_glue, sign_piece, test_pieces, event_pieces, count_pieces, step_pieces, events_pieces, region_pieces, clause_pieces}
 use Rattle.loom_command.specs.Laws.{HasOneForm, HasOneFilter}
 use Rattle.loom_command.proofs.Fields.{same_behind}
 use Rattle.loom_command.proofs.Parentheses.{one_test, one_end}
@@ -50,24 +50,24 @@ both_cons x y xs ys rest other e h = let f = h.same in record { same = cc; behin
 pub one_joined : {A : Type 0} (Is : A → Type 0) (pieces : A → List Piece) (p q : ℕ → Bool) (g : ℕ) (gs : List ℕ) → IsOne Is pieces p → is_blank g ≡ false → p g ≡ true → q g ≡ false
     → ((b : ℕ) → q b ≡ true → p b ≡ true) → (x : A) (xs : List A) (y : A) (ys : List A) (rest other bytes : List ℕ)
     → AllByRecursion Is (x ∷ xs) → AllByRecursion Is (y ∷ ys) → q (head rest) ≡ true → q (head other) ≡ true
-    → AreWritten (joined (signed (g ∷ gs)) (map pieces (x ∷ xs))) rest bytes → AreWritten (joined (signed (g ∷ gs)) (map pieces (y ∷ ys))) other bytes → Alike (x ∷ xs) (y ∷ ys) rest other
+    → AreWritten (with_glue (sign_piece (g ∷ gs)) (map pieces (x ∷ xs))) rest bytes → AreWritten (with_glue (sign_piece (g ∷ gs)) (map pieces (y ∷ ys))) other bytes → Alike (x ∷ xs) (y ∷ ys) rest other
 one_joined Is pieces p q g gs one dark pg qg more x [] y [] rest other bytes i j e f h k =
     let a = one x y rest other bytes i.0 j.0 (more (head rest) e) (more (head other) f) h k in
     let s = a.same in
     record { same = cc; behind = a.behind }
 one_joined Is pieces p q g gs one dark pg qg more x [] y (z ∷ ys) rest other bytes i j e f h k =
-    let c = cut (pieces y) (sign (g ∷ gs) ∷ joined (signed (g ∷ gs)) (map pieces (z ∷ ys))) other bytes k in
-    let there : head c.middle ≡ g = head_piece (sign (g ∷ gs)) (joined (signed (g ∷ gs)) (map pieces (z ∷ ys))) other c.middle dark c.back in
+    let c = cut (pieces y) (sign (g ∷ gs) ∷ with_glue (sign_piece (g ∷ gs)) (map pieces (z ∷ ys))) other bytes k in
+    let there : head c.middle ≡ g = head_piece (sign (g ∷ gs)) (with_glue (sign_piece (g ∷ gs)) (map pieces (z ∷ ys))) other c.middle dark c.back in
     let a = one x y rest c.middle bytes i.0 j.0 (more (head rest) e) (ap p there ∙ pg) h c.front in
     absurd (other_byte q (head rest) g e (ap head a.behind ∙ there) qg)
 one_joined Is pieces p q g gs one dark pg qg more x (z ∷ xs) y [] rest other bytes i j e f h k =
-    let c = cut (pieces x) (sign (g ∷ gs) ∷ joined (signed (g ∷ gs)) (map pieces (z ∷ xs))) rest bytes h in
-    let there : head c.middle ≡ g = head_piece (sign (g ∷ gs)) (joined (signed (g ∷ gs)) (map pieces (z ∷ xs))) rest c.middle dark c.back in
+    let c = cut (pieces x) (sign (g ∷ gs) ∷ with_glue (sign_piece (g ∷ gs)) (map pieces (z ∷ xs))) rest bytes h in
+    let there : head c.middle ≡ g = head_piece (sign (g ∷ gs)) (with_glue (sign_piece (g ∷ gs)) (map pieces (z ∷ xs))) rest c.middle dark c.back in
     let a = one x y c.middle other bytes i.0 j.0 (ap p there ∙ pg) (more (head other) f) c.front k in
     absurd (other_byte q (head other) g f (ap head (sym a.behind) ∙ there) qg)
 one_joined Is pieces p q g gs one dark pg qg more x (z ∷ xs) y (w ∷ ys) rest other bytes i j e f h k =
-    let left = joined (signed (g ∷ gs)) (map pieces (z ∷ xs)) in
-    let right = joined (signed (g ∷ gs)) (map pieces (w ∷ ys)) in
+    let left = with_glue (sign_piece (g ∷ gs)) (map pieces (z ∷ xs)) in
+    let right = with_glue (sign_piece (g ∷ gs)) (map pieces (w ∷ ys)) in
     let c = cut (pieces x) (sign (g ∷ gs) ∷ left) rest bytes h in
     let d = cut (pieces y) (sign (g ∷ gs) ∷ right) other bytes k in
     let c_there : head c.middle ≡ g = head_piece (sign (g ∷ gs)) left rest c.middle dark c.back in
@@ -171,7 +171,7 @@ exit_step : (b : ℕ) → ends_events 125 b ≡ true → ends_step b ≡ true
 exit_step b h = grind arith
 
 abbrev exit_pieces : StepForm → List StepForm → List Piece
-exit_pieces x xs = sign (codes ";") ∷ events_pieces (x ∷ xs) ++ signed (codes "}")
+exit_pieces x xs = sign (codes ";") ∷ events_pieces (x ∷ xs) ++ sign_piece (codes "}")
 
 record SameRegion (e d : StepForm) (es ds : List StepForm) (x y : StepForm) (xs ys : List StepForm) (rest other : List ℕ) : Type 0 where
   pub entries : e ∷ es ≡ d ∷ ds
@@ -184,19 +184,19 @@ one_between e d es ds x y xs ys rest other bytes i j h k =
     let begin = one_sign (codes "{") (events_pieces (e ∷ es) ++ exit_pieces x xs) (events_pieces (d ∷ ds) ++ exit_pieces y ys) rest other bytes refl h k in
     let a = cut (events_pieces (e ∷ es)) (exit_pieces x xs) rest begin.bytes begin.left in
     let b = cut (events_pieces (d ∷ ds)) (exit_pieces y ys) other begin.bytes begin.right in
-    let a_there : head a.middle ≡ 59 = head_piece (sign (codes ";")) (events_pieces (x ∷ xs) ++ signed (codes "}")) rest a.middle refl a.back in
-    let b_there : head b.middle ≡ 59 = head_piece (sign (codes ";")) (events_pieces (y ∷ ys) ++ signed (codes "}")) other b.middle refl b.back in
+    let a_there : head a.middle ≡ 59 = head_piece (sign (codes ";")) (events_pieces (x ∷ xs) ++ sign_piece (codes "}")) rest a.middle refl a.back in
+    let b_there : head b.middle ≡ 59 = head_piece (sign (codes ";")) (events_pieces (y ∷ ys) ++ sign_piece (codes "}")) other b.middle refl b.back in
     let entries = one_joined IsStep step_pieces ends_step (ends_events 59) 44 [] one_step refl refl refl entry_step e es d ds a.middle b.middle begin.bytes i.0 j.0
     (ap (ends_events 59) a_there) (ap (ends_events 59) b_there) a.front b.front in
-    let middle = one_sign (codes ";") (events_pieces (x ∷ xs) ++ signed (codes "}")) (events_pieces (y ∷ ys) ++ signed (codes "}")) rest other b.middle refl
+    let middle = one_sign (codes ";") (events_pieces (x ∷ xs) ++ sign_piece (codes "}")) (events_pieces (y ∷ ys) ++ sign_piece (codes "}")) rest other b.middle refl
     (subst (λ m. AreWritten (exit_pieces x xs) rest m) entries.behind a.back) b.back in
-    let l = cut (events_pieces (x ∷ xs)) (signed (codes "}")) rest middle.bytes middle.left in
-    let r = cut (events_pieces (y ∷ ys)) (signed (codes "}")) other middle.bytes middle.right in
+    let l = cut (events_pieces (x ∷ xs)) (sign_piece (codes "}")) rest middle.bytes middle.left in
+    let r = cut (events_pieces (y ∷ ys)) (sign_piece (codes "}")) other middle.bytes middle.right in
     let l_there : head l.middle ≡ 125 = head_piece (sign (codes "}")) [] rest l.middle refl l.back in
     let r_there : head r.middle ≡ 125 = head_piece (sign (codes "}")) [] other r.middle refl r.back in
     let exits = one_joined IsStep step_pieces ends_step (ends_events 125) 44 [] one_step refl refl refl exit_step x xs y ys l.middle r.middle middle.bytes i.1 j.1
     (ap (ends_events 125) l_there) (ap (ends_events 125) r_there) l.front r.front in
-    let last = one_sign (codes "}") [] [] rest other r.middle refl (subst (λ m. AreWritten (signed (codes "}")) rest m) exits.behind l.back) r.back in
+    let last = one_sign (codes "}") [] [] rest other r.middle refl (subst (λ m. AreWritten (sign_piece (codes "}")) rest m) exits.behind l.back) r.back in
     record { entries = entries.same; exits = exits.same; behind = sym last.left ∙ last.right }
 
 same_between : (e d : StepForm) (es ds : List StepForm) (x y : StepForm) (xs ys : List StepForm) → e ∷ es ≡ d ∷ ds → x ∷ xs ≡ y ∷ ys → between e es x xs ≡ between d ds y ys
@@ -259,20 +259,20 @@ no_star (whole f t) ps rest other bytes i h k =
 -- the first of things that are joined
 abbrev joined_behind : List Piece → List (List Piece) → List Piece
 joined_behind glue [] = []
-joined_behind glue (x ∷ xs) = glue ++ joined glue (x ∷ xs)
+joined_behind glue (x ∷ xs) = glue ++ with_glue glue (x ∷ xs)
 
-first_cut : (glue x : List Piece) (xs : List (List Piece)) (rest bytes : List ℕ) → AreWritten (joined glue (x ∷ xs)) rest bytes → Cut x (joined_behind glue xs) rest bytes
+first_cut : (glue x : List Piece) (xs : List (List Piece)) (rest bytes : List ℕ) → AreWritten (with_glue glue (x ∷ xs)) rest bytes → Cut x (joined_behind glue xs) rest bytes
 first_cut glue x [] rest bytes h = record { middle = rest; front = h; back = refl }
-first_cut glue x (y ∷ xs) rest bytes h = cut x (glue ++ joined glue (y ∷ xs)) rest bytes h
+first_cut glue x (y ∷ xs) rest bytes h = cut x (glue ++ with_glue glue (y ∷ xs)) rest bytes h
 
 abbrev later_steps : StepForm → List StepForm → List Piece
-later_steps b ss = sign (codes ">") ∷ joined (signed (codes ">")) (map step_pieces (b ∷ ss))
+later_steps b ss = sign (codes ">") ∷ with_glue (sign_piece (codes ">")) (map step_pieces (b ∷ ss))
 
 abbrev later_regions : List RegionForm → List Piece
-later_regions rs = joined_behind (signed (codes "<>")) (map region_pieces rs)
+later_regions rs = joined_behind (sign_piece (codes "<>")) (map region_pieces rs)
 
 abbrev all_others : List Piece
-all_others = sign (codes "<>") ∷ signed (codes "*")
+all_others = sign (codes "<>") ∷ sign_piece (codes "*")
 
 -- an order is no clause of regions
 no_regions : (a b : StepForm) (ss : List StepForm) (r : RegionForm) (rest other bytes : List ℕ) → IsStep a → IsRegion r → AreWritten (clause_pieces (order a b ss)) rest bytes → AreWritten (region_pieces r) other bytes → ⊥
@@ -286,18 +286,18 @@ no_exclusive : (r : RegionForm) (rs : List RegionForm) (s : RegionForm) (rest ot
     → AreWritten (clause_pieces (exclusive r rs)) rest bytes → AreWritten (clause_pieces (unilateral s)) other bytes → ⊥
 no_exclusive r [] s rest other bytes i j e h k =
     let d = cut (region_pieces s) all_others other bytes k in
-    let there : head d.middle ≡ 60 = head_piece (sign (codes "<>")) (signed (codes "*")) other d.middle refl d.back in
+    let there : head d.middle ≡ 60 = head_piece (sign (codes "<>")) (sign_piece (codes "*")) other d.middle refl d.back in
     let a = one_region r s rest d.middle bytes i.0 j (clause_region (head rest) e) (ap ends_region there) h d.front in
     other_byte ends_clause (head rest) 60 e (ap head a.behind ∙ there) refl
 no_exclusive r (t ∷ rs) s rest other bytes i j e h k =
-    let right = joined (signed (codes "<>")) (map region_pieces (t ∷ rs)) in
+    let right = with_glue (sign_piece (codes "<>")) (map region_pieces (t ∷ rs)) in
     let c = cut (region_pieces r) (sign (codes "<>") ∷ right) rest bytes h in
     let d = cut (region_pieces s) all_others other bytes k in
     let c_there : head c.middle ≡ 60 = head_piece (sign (codes "<>")) right rest c.middle refl c.back in
-    let d_there : head d.middle ≡ 60 = head_piece (sign (codes "<>")) (signed (codes "*")) other d.middle refl d.back in
+    let d_there : head d.middle ≡ 60 = head_piece (sign (codes "<>")) (sign_piece (codes "*")) other d.middle refl d.back in
     let a = one_region r s c.middle d.middle bytes i.0 j (ap ends_region c_there) (ap ends_region d_there) c.front d.front in
-    let b = one_sign (codes "<>") right (signed (codes "*")) rest other d.middle refl (subst (λ m. AreWritten (sign (codes "<>") ∷ right) rest m) a.behind c.back) d.back in
-    let f = first_cut (signed (codes "<>")) (region_pieces t) (map region_pieces rs) rest b.bytes b.left in
+    let b = one_sign (codes "<>") right (sign_piece (codes "*")) rest other d.middle refl (subst (λ m. AreWritten (sign (codes "<>") ∷ right) rest m) a.behind c.back) d.back in
+    let f = first_cut (sign_piece (codes "<>")) (region_pieces t) (map region_pieces rs) rest b.bytes b.left in
     no_star t [] f.middle other b.bytes i.1.0 f.front b.right
 
 same_order : (a b c d : StepForm) (ss ts : List StepForm) → a ∷ b ∷ ss ≡ c ∷ d ∷ ts → order a b ss ≡ order c d ts
@@ -311,10 +311,10 @@ one_unilateral : (r s : RegionForm) (rest other bytes : List ℕ) → IsRegion r
 one_unilateral r s rest other bytes i j h k =
     let c = cut (region_pieces r) all_others rest bytes h in
     let d = cut (region_pieces s) all_others other bytes k in
-    let c_there : head c.middle ≡ 60 = head_piece (sign (codes "<>")) (signed (codes "*")) rest c.middle refl c.back in
-    let d_there : head d.middle ≡ 60 = head_piece (sign (codes "<>")) (signed (codes "*")) other d.middle refl d.back in
+    let c_there : head c.middle ≡ 60 = head_piece (sign (codes "<>")) (sign_piece (codes "*")) rest c.middle refl c.back in
+    let d_there : head d.middle ≡ 60 = head_piece (sign (codes "<>")) (sign_piece (codes "*")) other d.middle refl d.back in
     let a = one_region r s c.middle d.middle bytes i j (ap ends_region c_there) (ap ends_region d_there) c.front d.front in
-    let b = one_sign (codes "<>") (signed (codes "*")) (signed (codes "*")) rest other d.middle refl (subst (λ m. AreWritten all_others rest m) a.behind c.back) d.back in
+    let b = one_sign (codes "<>") (sign_piece (codes "*")) (sign_piece (codes "*")) rest other d.middle refl (subst (λ m. AreWritten all_others rest m) a.behind c.back) d.back in
     let l = one_sign (codes "*") [] [] rest other b.bytes refl b.left b.right in
     record { same = ap unilateral a.same; behind = sym l.left ∙ l.right }
 
@@ -323,13 +323,13 @@ one_clause (order a b ss) (order c d ts) rest other bytes i j e f h k =
     let s = one_joined IsStep step_pieces ends_step ends_clause 62 [] one_step refl refl refl clause_step a (b ∷ ss) c (d ∷ ts) rest other bytes (i.0, (i.1, i.2)) (j.0, (j.1, j.2)) e f h k in
     record { same = same_order a b c d ss ts s.same; behind = s.behind }
 one_clause (order a b ss) (exclusive r rs) rest other bytes i j e f h k =
-    let m = first_cut (signed (codes "<>")) (region_pieces r) (map region_pieces rs) other bytes k in
+    let m = first_cut (sign_piece (codes "<>")) (region_pieces r) (map region_pieces rs) other bytes k in
     absurd (no_regions a b ss r rest m.middle bytes i.0 j.0 h m.front)
 one_clause (order a b ss) (unilateral r) rest other bytes i j e f h k =
     let m = cut (region_pieces r) all_others other bytes k in
     absurd (no_regions a b ss r rest m.middle bytes i.0 j h m.front)
 one_clause (exclusive r rs) (order a b ss) rest other bytes i j e f h k =
-    let m = first_cut (signed (codes "<>")) (region_pieces r) (map region_pieces rs) rest bytes h in
+    let m = first_cut (sign_piece (codes "<>")) (region_pieces r) (map region_pieces rs) rest bytes h in
     absurd (no_regions a b ss r other m.middle bytes j.0 i.0 k m.front)
 one_clause (exclusive r rs) (exclusive s ss) rest other bytes i j e f h k =
     let a = one_joined IsRegion region_pieces ends_region ends_clause 60 (62 ∷ []) one_region refl refl refl clause_region r rs s ss rest other bytes i j e f h k in

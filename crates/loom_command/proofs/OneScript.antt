@@ -2,7 +2,7 @@
 use Rattle.std.proofs.Common.{ℕ, suc, ◌≡◌, inl, inr, Bool, false, List, [], ◌∷◌, ◌++◌, refl, sym, ap, subst, ◌∙◌, arith}
 use Rattle.loom_lexer.specs.Lexeme.{Each}
 use Rattle.loom_command.specs.FilterText.{is_blank}
-use Rattle.loom_command.specs.Script.{Trigger, at, stall, ScriptAction, install, remove, ScriptCommand, HasFields, IsSkipped, EndsDark, IsTrimmed, WhenFields, ActionFields, IsCommandLine, AreCommands, lines}
+use Rattle.loom_command.specs.Script.{Trigger, at, stall, ScriptAction, install, remove, ScriptCommand, HasFields, IsSkipped, EndsDark, IsTrimmed, WhenFields, ActionFields, IsCommandLine, AreCommands, script_lines}
 use Rattle.loom_command.specs.Laws.{HasOneScript}
 use Rattle.loom_command.proofs.Digits.{one_decimal}
 use Rattle.loom_lexer.proofs.Unique.{one_cut}
@@ -138,4 +138,4 @@ one_list n (l ∷ ls) cs ds (inr h) (inr k) =
     h.2 ∙ ap (λ z. z ∷ h.1) first ∙ ap (λ z. k.0 ∷ z) others ∙ sym k.2
 
 pub one_script : HasOneScript
-one_script bytes cs ds h k = one_list 1 (lines bytes) cs ds h.commands k.commands
+one_script bytes cs ds h k = one_list 1 (script_lines bytes) cs ds h.commands k.commands

@@ -198,7 +198,7 @@ balanced (Text.paren a) n ms =
     ap (λ z. level (suc n) (z ++ ms)) (tokens_append (tokens a) (Token.sign sign.ParenClose ∷ [])) ∙ ap (level (suc n)) (append_assoc (tokens_marks (tokens a)) (closer ∷ []) ms)
     ∙ balanced a (suc n) (closer ∷ ms)
 
-test_level : (x : TestForm) → IsTest x → level 0 (marks x.bytes) ≡ Some 0
+pub test_level : (x : TestForm) → IsTest x → level 0 (marks x.bytes) ≡ Some 0
 test_level x h =
     let spelled : tokens h.is.written ≡ plain_tokens 1 h.lexemes = h.is.spelled in
     let e : marks x.bytes ≡ tokens_marks (tokens h.is.written) ++ [] = lexed_marked h.lexemes x.bytes 1 h.lexed h.no_comment ∙ ap tokens_marks (sym spelled) ∙ sym (append-nil (tokens_marks (tokens h.is.written))) in
@@ -208,11 +208,11 @@ test_level x h =
 
 -- how many are open behind these marks, whatever follows
 
-record Next (n : ℕ) (qs : List Mark) : Type 0 where
+pub record Next (n : ℕ) (qs : List Mark) : Type 0 where
   pub count : ℕ
   pub is : (ms : List Mark) → level n (qs ++ ms) ≡ level count ms
 
-next : (n k : ℕ) (qs ms : List Mark) → level n (qs ++ ms) ≡ Some k → Next n qs
+pub next : (n k : ℕ) (qs ms : List Mark) → level n (qs ++ ms) ≡ Some k → Next n qs
 next n k [] ms h = record { count = n; is = λ ms. refl }
 next n k (opener ∷ qs) ms h = let m = next (suc n) k qs ms h in record { count = m.count; is = m.is }
 next zero k (closer ∷ qs) ms h = let e : None ≡ Some k = h in cc
@@ -228,7 +228,7 @@ no_shorter n d ds z e h =
     let none : ◌≡◌ {A = Option ℕ} None (Some 0) = subst Q n_is closed in
     cc
 
-one_close : (n : ℕ) (bs ds xs ys : List ℕ) → level n (marks bs) ≡ Some 0 → level n (marks ds) ≡ Some 0 → bs ++ (41 ∷ xs) ≡ ds ++ (41 ∷ ys) → bs ≡ ds
+pub one_close : (n : ℕ) (bs ds xs ys : List ℕ) → level n (marks bs) ≡ Some 0 → level n (marks ds) ≡ Some 0 → bs ++ (41 ∷ xs) ≡ ds ++ (41 ∷ ys) → bs ≡ ds
 one_close n [] [] xs ys h k e = refl
 one_close n [] (d ∷ ds) xs ys h k e = absurd (no_shorter n d ds h (let f : 41 ≡ d = cc in f) k)
 one_close n (b ∷ bs) [] xs ys h k e = absurd (no_shorter n b bs k (let f : 41 ≡ b = cc in f) h)

@@ -4,7 +4,7 @@ use Rattle.std.proofs.lemmas.Bool.{eqb-true}
 use Rattle.loom_lexer.specs.Lexeme.{Each, BeginsWithout, is_letter, is_digit, is_part}
 use Rattle.loom_lexer.proofs.Unique.{one_cut}
 use Rattle.loom_command.specs.FilterForm.{is_file_part}
-use Rattle.loom_command.specs.FilterText.{is_blank, Piece, word, sign, bytes_of, AreWritten}
+use Rattle.loom_command.specs.FilterText.{is_blank, Piece, word, sign, piece_bytes, AreWritten}
 use Rattle.loom_command.proofs.Fields.{same_behind}
 
 -- the first byte that isn't blank; 0 where there is none
@@ -38,16 +38,16 @@ dark_stops [] rest h = absurd h
 dark_stops (b ∷ bs) rest h = h
 
 -- the piece that comes first tells the first byte
-pub head_piece : (x : Piece) (ps : List Piece) (rest bytes : List ℕ) → IsDark (bytes_of x) → AreWritten (x ∷ ps) rest bytes → head bytes ≡ first_of (bytes_of x)
-head_piece x ps rest bytes d h = ap head h.2 ∙ head_blank h.0 (bytes_of x ++ h.1) h.3 ∙ head_dark (bytes_of x) h.1 d
+pub head_piece : (x : Piece) (ps : List Piece) (rest bytes : List ℕ) → IsDark (piece_bytes x) → AreWritten (x ∷ ps) rest bytes → head bytes ≡ first_of (piece_bytes x)
+head_piece x ps rest bytes d h = ap head h.2 ∙ head_blank h.0 (piece_bytes x ++ h.1) h.3 ∙ head_dark (piece_bytes x) h.1 d
 
 -- the blanks before a piece are determined
-pub one_begin : (x y : Piece) (ps qs : List Piece) (rest other bytes : List ℕ) → IsDark (bytes_of x) → IsDark (bytes_of y) → (h : AreWritten (x ∷ ps) rest bytes) (k : AreWritten (y ∷ qs) other bytes)
-    → bytes_of x ++ h.1 ≡ bytes_of y ++ k.1
+pub one_begin : (x y : Piece) (ps qs : List Piece) (rest other bytes : List ℕ) → IsDark (piece_bytes x) → IsDark (piece_bytes y) → (h : AreWritten (x ∷ ps) rest bytes) (k : AreWritten (y ∷ qs) other bytes)
+    → piece_bytes x ++ h.1 ≡ piece_bytes y ++ k.1
 one_begin x y ps qs rest other bytes d e h k =
-    let whole : h.0 ++ (bytes_of x ++ h.1) ≡ k.0 ++ (bytes_of y ++ k.1) = sym h.2 ∙ k.2 in
-    let blanks : h.0 ≡ k.0 = one_cut is_blank h.0 k.0 (bytes_of x ++ h.1) (bytes_of y ++ k.1) h.3 k.3 (dark_stops (bytes_of x) h.1 d) (dark_stops (bytes_of y) k.1 e) whole in
-    same_behind k.0 (bytes_of x ++ h.1) (bytes_of y ++ k.1) (ap (λ z. z ++ (bytes_of x ++ h.1)) (sym blanks) ∙ whole)
+    let whole : h.0 ++ (piece_bytes x ++ h.1) ≡ k.0 ++ (piece_bytes y ++ k.1) = sym h.2 ∙ k.2 in
+    let blanks : h.0 ≡ k.0 = one_cut is_blank h.0 k.0 (piece_bytes x ++ h.1) (piece_bytes y ++ k.1) h.3 k.3 (dark_stops (piece_bytes x) h.1 d) (dark_stops (piece_bytes y) k.1 e) whole in
+    same_behind k.0 (piece_bytes x ++ h.1) (piece_bytes y ++ k.1) (ap (λ z. z ++ (piece_bytes x ++ h.1)) (sym blanks) ∙ whole)
 
 -- the same bytes are these pieces and those, each with its own rest
 pub record Both (ps qs : List Piece) (rest other : List ℕ) : Type 0 where

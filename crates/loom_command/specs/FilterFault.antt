@@ -4,7 +4,7 @@ use Rattle.std.specs.List.{list_any}
 use Rattle.loom_lexer.specs.Tokens.{value_from}
 use Rattle.loom_command.specs.Filter as tree
 use Rattle.loom_command.specs.FilterForm.{EventForm, StepForm, RegionForm, between, whole, ClauseForm, order, exclusive, unilateral, test_tree, filter_tree}
-use Rattle.loom_command.specs.FilterText.{IsText, IsForm, BeginsWith}
+use Rattle.loom_command.specs.FilterText.{IsTextOfFilter, IsForm, BeginsWith}
 
 -- A fault stands in a clause, counted from 1, and has a number.
 pub record FilterFault : Type 0 where
@@ -26,7 +26,7 @@ clause_behind n = if nat_lt n last_clause then suc n else last_clause
 
 -- No filter has this text. The clause is the one behind the most whole clauses with which it begins.
 pub record LeavesGrammar (bytes : List ℕ) (clause : ℕ) : Type 0 where
-  pub no_text : IsText bytes → ⊥
+  pub no_text : IsTextOfFilter bytes → ⊥
   pub whole : ℕ
   pub begins : BeginsWith bytes whole
   pub most : (n : ℕ) → BeginsWith bytes n → n ≤ whole
@@ -56,18 +56,18 @@ is_miscounted (unilateral r) = is_region_counted r
 
 -- two events of an order are one: the same file, line and test, the tests being compared as trees
 
-pub record IsSame (a b : EventForm) : Type 0 where
+pub record IsSameEvent (a b : EventForm) : Type 0 where
   pub file : a.file ≡ b.file
   pub line : value_from 0 a.line ≡ value_from 0 b.line
   pub test : test_tree a.test ≡ test_tree b.test
 
-abbrev pub IsAmong : EventForm → List StepForm → Type 0
-IsAmong a [] = ⊥
-IsAmong a (s ∷ ss) = IsSame a s.event ⊎ IsAmong a ss
+abbrev pub IsEventAmong : EventForm → List StepForm → Type 0
+IsEventAmong a [] = ⊥
+IsEventAmong a (s ∷ ss) = IsSameEvent a s.event ⊎ IsEventAmong a ss
 
 abbrev pub HasTwins : List StepForm → Type 0
 HasTwins [] = ⊥
-HasTwins (s ∷ ss) = IsAmong s.event ss ⊎ HasTwins ss
+HasTwins (s ∷ ss) = IsEventAmong s.event ss ⊎ HasTwins ss
 
 abbrev pub Repeats : ClauseForm → Type 0
 Repeats (order a b ss) = HasTwins (a ∷ b ∷ ss)
@@ -110,7 +110,7 @@ IsFaultOf n before [] x = ⊥
 IsFaultOf n before (c ∷ cs) x = ((x.clause ≡ n) × HasFault n before c x.number) ⊎ IsFaultOf (suc n) (before + clause_events c) cs x
 
 -- The text is refused so: the grammar goes before all, then the first fault.
-pub record IsFaulty (bytes : List ℕ) (x : FilterFault) : Type 0 where
+pub record IsFaultyFilter (bytes : List ℕ) (x : FilterFault) : Type 0 where
   pub first : ClauseForm
   pub others : List ClauseForm
   pub form : IsForm bytes first others
@@ -118,7 +118,7 @@ pub record IsFaulty (bytes : List ℕ) (x : FilterFault) : Type 0 where
   pub least : (y : FilterFault) → IsFaultOf 1 0 (first ∷ others) y → IsNoLater x y
 
 abbrev pub IsRefusedText : List ℕ → FilterFault → Type 0
-IsRefusedText bytes x = ((x.number ≡ 1) × LeavesGrammar bytes x.clause) ⊎ IsFaulty bytes x
+IsRefusedText bytes x = ((x.number ≡ 1) × LeavesGrammar bytes x.clause) ⊎ IsFaultyFilter bytes x
 
 -- The text is that of a filter, which nothing in it refuses.
 pub record IsFilter (bytes : List ℕ) (f : tree.Filter) : Type 0 where

@@ -15,10 +15,10 @@ pub data Piece : Type 0 where
   -- a test with its parentheses: all that stands between them is the test's, white space too
   test : List ℕ → Piece
 
-abbrev pub bytes_of : Piece → List ℕ
-bytes_of (word bs) = bs
-bytes_of (sign bs) = bs
-bytes_of (test bs) = codes "(" ++ (bs ++ codes ")")
+abbrev pub piece_bytes : Piece → List ℕ
+piece_bytes (word bs) = bs
+piece_bytes (sign bs) = bs
+piece_bytes (test bs) = codes "(" ++ (bs ++ codes ")")
 
 -- with this behind it
 abbrev pub Stands : Piece → List ℕ → Type 0
@@ -29,17 +29,17 @@ Stands _ rest = Unit {0}
 abbrev pub AreWritten : List Piece → List ℕ → List ℕ → Type 0
 AreWritten [] rest bytes = bytes ≡ rest
 AreWritten (x ∷ xs) rest bytes =
-    (blanks : List ℕ) × (more : List ℕ) × (bytes ≡ blanks ++ (bytes_of x ++ more)) × Each is_blank blanks × Stands x more × AreWritten xs rest more
+    (blanks : List ℕ) × (more : List ℕ) × (bytes ≡ blanks ++ (piece_bytes x ++ more)) × Each is_blank blanks × Stands x more × AreWritten xs rest more
 
 -- The pieces of a filter, in the order of its grammar
 
-abbrev pub joined : List Piece → List (List Piece) → List Piece
-joined glue [] = []
-joined glue (x ∷ []) = x
-joined glue (x ∷ y ∷ xs) = x ++ (glue ++ joined glue (y ∷ xs))
+abbrev pub with_glue : List Piece → List (List Piece) → List Piece
+with_glue glue [] = []
+with_glue glue (x ∷ []) = x
+with_glue glue (x ∷ y ∷ xs) = x ++ (glue ++ with_glue glue (y ∷ xs))
 
-abbrev pub signed : List ℕ → List Piece
-signed bs = sign bs ∷ []
+abbrev pub sign_piece : List ℕ → List Piece
+sign_piece bs = sign bs ∷ []
 
 abbrev pub test_pieces : Option TestForm → List Piece
 test_pieces None = []
@@ -56,19 +56,19 @@ abbrev pub step_pieces : StepForm → List Piece
 step_pieces x = event_pieces x.event ++ count_pieces x.count
 
 abbrev pub events_pieces : List StepForm → List Piece
-events_pieces ss = joined (signed (codes ",")) (map step_pieces ss)
+events_pieces ss = with_glue (sign_piece (codes ",")) (map step_pieces ss)
 
 abbrev pub region_pieces : RegionForm → List Piece
-region_pieces (between e es x xs) = sign (codes "{") ∷ events_pieces (e ∷ es) ++ (sign (codes ";") ∷ events_pieces (x ∷ xs) ++ signed (codes "}"))
+region_pieces (between e es x xs) = sign (codes "{") ∷ events_pieces (e ∷ es) ++ (sign (codes ";") ∷ events_pieces (x ∷ xs) ++ sign_piece (codes "}"))
 region_pieces (whole f x) = word f ∷ sign (codes "(") ∷ sign (codes ")") ∷ test_pieces x
 
 abbrev pub clause_pieces : ClauseForm → List Piece
-clause_pieces (order a b ss) = joined (signed (codes ">")) (map step_pieces (a ∷ b ∷ ss))
-clause_pieces (exclusive r rs) = joined (signed (codes "<>")) (map region_pieces (r ∷ rs))
-clause_pieces (unilateral r) = region_pieces r ++ (sign (codes "<>") ∷ signed (codes "*"))
+clause_pieces (order a b ss) = with_glue (sign_piece (codes ">")) (map step_pieces (a ∷ b ∷ ss))
+clause_pieces (exclusive r rs) = with_glue (sign_piece (codes "<>")) (map region_pieces (r ∷ rs))
+clause_pieces (unilateral r) = region_pieces r ++ (sign (codes "<>") ∷ sign_piece (codes "*"))
 
 abbrev pub filter_pieces : List ClauseForm → List Piece
-filter_pieces cs = joined (signed (codes ";")) (map clause_pieces cs)
+filter_pieces cs = with_glue (sign_piece (codes ";")) (map clause_pieces cs)
 
 -- clauses, each with its `;`
 abbrev pub whole_pieces : List ClauseForm → List Piece
@@ -83,7 +83,7 @@ pub record IsForm (bytes : List ℕ) (c : ClauseForm) (cs : List ClauseForm) : T
   pub blank : Each is_blank blanks
 
 -- They are a text of the grammar.
-pub record IsText (bytes : List ℕ) : Type 0 where
+pub record IsTextOfFilter (bytes : List ℕ) : Type 0 where
   pub first : ClauseForm
   pub others : List ClauseForm
   pub form : IsForm bytes first others

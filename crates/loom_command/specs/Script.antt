@@ -34,8 +34,8 @@ abbrev pub lines_from : List ℕ → List ℕ → List (List ℕ)
 lines_from so_far [] = so_far ∷ []
 lines_from so_far (b ∷ bs) = if nat_eq b 10 then without_return so_far ∷ lines_from [] bs else lines_from (so_far ++ b ∷ []) bs
 
-abbrev pub lines : List ℕ → List (List ℕ)
-lines bytes = lines_from [] bytes
+abbrev pub script_lines : List ℕ → List (List ℕ)
+script_lines bytes = lines_from [] bytes
 
 -- Fields: what stands between blanks
 
@@ -123,7 +123,7 @@ AreCommands n (l ∷ ls) cs =
     ⊎ ((c : ScriptCommand) × (rest : List ScriptCommand) × (cs ≡ c ∷ rest) × IsCommandLine n l c × AreCommands (suc n) ls rest)
 
 pub record IsScript (bytes : List ℕ) (cs : List ScriptCommand) : Type 0 where
-  pub commands : AreCommands 1 (lines bytes) cs
+  pub commands : AreCommands 1 (script_lines bytes) cs
   pub few : length cs ≤ most_commands
 
 -- The line can't stand behind so many commands: it is no command and isn't skipped, or it is one too many.
@@ -134,9 +134,9 @@ pub record IsBadLine (number : ℕ) (line : List ℕ) (before : ℕ) : Type 0 wh
 -- Where a script leaves its rules: the first such line, counted from 1.
 pub record IsRefusedScript (bytes : List ℕ) (number : ℕ) : Type 0 where
   pub commands : List ScriptCommand
-  pub before : AreCommands 1 (take (number - 1) (lines bytes)) commands
+  pub before : AreCommands 1 (take (number - 1) (script_lines bytes)) commands
   pub few : length commands ≤ most_commands
   pub line : List ℕ
-  pub there : slice_get (lines bytes) (number - 1) ≡ Some line
+  pub there : slice_get (script_lines bytes) (number - 1) ≡ Some line
   pub counted : 1 ≤ number
   pub bad : IsBadLine number line (length commands)

@@ -21,7 +21,7 @@ const TEXT: &str =
 fn world_of(alloc: Global, text: &str) -> Result<World, LangError> {
     let bytes = text.as_bytes();
     if bytes.len() > FILE_LIMIT {
-        return Err(LangError::Refused);
+        return Err(LangError::NoMemory);
     }
     Ok(World::make(alloc, &parse_program(alloc, bytes)?, 100)?)
 }

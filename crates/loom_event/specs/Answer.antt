@@ -20,22 +20,22 @@ abbrev pub deed : ℕ → Act → Option Deed
 deed line a = Some (record { line = line; act = a })
 
 -- What grants a request, and gives it this value: what was read, or the number of the new thread; it is of no account for the others.
-abbrev pub granted : Request → ℤ → Option Deed
-granted (r.Begin l) v = deed l begin
-granted (r.End l) v = deed l end
-granted (r.Trap l n) v = None
-granted (r.Read l w) v = deed l (read w v)
-granted (r.Write l w u) v = deed l (write w u)
-granted (r.Lock l m) v = deed l (lock m)
-granted (r.Unlock l m) v = deed l (unlock m)
-granted (r.Down l s) v = deed l (down s)
-granted (r.Up l s) v = deed l (up s)
-granted (r.Spawn l f vs) (pos c) = deed l (spawn c f vs)
-granted (r.Spawn l f vs) (negsuc c) = None
-granted (r.Join l (pos c)) v = deed l (join c)
-granted (r.Join l (negsuc c)) v = None
-granted (r.Print l u) v = deed l (print u)
-granted (r.Tick l k) v = None
+abbrev pub grant_deed : Request → ℤ → Option Deed
+grant_deed (r.Begin l) v = deed l begin
+grant_deed (r.End l) v = deed l end
+grant_deed (r.Trap l n) v = None
+grant_deed (r.Read l w) v = deed l (read w v)
+grant_deed (r.Write l w u) v = deed l (write w u)
+grant_deed (r.Lock l m) v = deed l (lock m)
+grant_deed (r.Unlock l m) v = deed l (unlock m)
+grant_deed (r.Down l s) v = deed l (down s)
+grant_deed (r.Up l s) v = deed l (up s)
+grant_deed (r.Spawn l f vs) (pos c) = deed l (spawn c f vs)
+grant_deed (r.Spawn l f vs) (negsuc c) = None
+grant_deed (r.Join l (pos c)) v = deed l (join c)
+grant_deed (r.Join l (negsuc c)) v = None
+grant_deed (r.Print l u) v = deed l (print u)
+grant_deed (r.Tick l k) v = None
 
 -- the traps that a thread finds by itself
 abbrev pub cause_of : ℕ → Option Cause
@@ -46,24 +46,24 @@ trap_at line None = None
 trap_at line (Some c) = deed line (trap c)
 
 -- The trap that stands in a request's place: the thread's own, or one of the store.
-abbrev pub trapped : Request → Option Deed
-trapped (r.Begin l) = None
-trapped (r.End l) = None
-trapped (r.Trap l n) = trap_at l (cause_of n)
-trapped (r.Read l w) = None
-trapped (r.Write l w u) = None
-trapped (r.Lock l m) = None
-trapped (r.Unlock l m) = deed l (trap (not_held m))
-trapped (r.Down l s) = None
-trapped (r.Up l s) = deed l (trap (overflow s))
-trapped (r.Spawn l f vs) = deed l (trap threads)
-trapped (r.Join l u) = deed l (trap (not_spawned u))
-trapped (r.Print l u) = None
-trapped (r.Tick l k) = None
+abbrev pub trap_deed : Request → Option Deed
+trap_deed (r.Begin l) = None
+trap_deed (r.End l) = None
+trap_deed (r.Trap l n) = trap_at l (cause_of n)
+trap_deed (r.Read l w) = None
+trap_deed (r.Write l w u) = None
+trap_deed (r.Lock l m) = None
+trap_deed (r.Unlock l m) = deed l (trap (not_held m))
+trap_deed (r.Down l s) = None
+trap_deed (r.Up l s) = deed l (trap (overflow s))
+trap_deed (r.Spawn l f vs) = deed l (trap threads)
+trap_deed (r.Join l u) = deed l (trap (not_spawned u))
+trap_deed (r.Print l u) = None
+trap_deed (r.Tick l k) = None
 
 -- The deed grants the request, with some value, or it is the trap that may stand in its place.
 abbrev pub IsAnswered : Request → Deed → Type 0
-IsAnswered q d = ((v : ℤ) × (granted q v ≡ Some d)) ⊎ (trapped q ≡ Some d)
+IsAnswered q d = ((v : ℤ) × (grant_deed q v ≡ Some d)) ⊎ (trap_deed q ≡ Some d)
 
 -- the request on a line for which a thread may be blocked, where no filter makes it ask
 abbrev pub request_for : ℕ → What → Option Request
@@ -80,12 +80,12 @@ IsEntryOf t (Some d) x = x ≡ entry_by t d.line d.act
 
 -- The entry grants the request of thread `t`, with some value.
 abbrev pub IsGrantOf : ℕ → Request → Entry → Type 0
-IsGrantOf t q x = (v : ℤ) × IsEntryOf t (granted q v) x
+IsGrantOf t q x = (v : ℤ) × IsEntryOf t (grant_deed q v) x
 
 -- The entry answers the request of thread `t`: it grants the request, or it is the trap that may stand in its place.
 abbrev pub IsAnswerTo : ℕ → Request → Entry → Type 0
 IsAnswerTo t (r.Tick l k) x = x ≡ e.Tick t l k
-IsAnswerTo t q x = IsGrantOf t q x ⊎ IsEntryOf t (trapped q) x
+IsAnswerTo t q x = IsGrantOf t q x ⊎ IsEntryOf t (trap_deed q) x
 
 -- The entry tells thread `t` that its request is disabled. Only what waits for a mutex, a semaphore or a thread can be.
 abbrev pub IsBlockedFor : ℕ → Request → Entry → Type 0

@@ -92,7 +92,7 @@ Good (Open ∷ k) = Good k
 Good (Index x ∷ k) = Good k
 
 -- The size is that of what was begun and of an operand with n nodes and the depth d, and within the limits.
-pub record Sized (z : Size) (k : List (Prefix Text)) (n d : ℕ) : Type 0 where
+pub record HasSize (z : Size) (k : List (Prefix Text)) (n d : ℕ) : Type 0 where
   pub nodes : z.nodes ≡ n + count k
   pub unary : z.unary ≡ unaries_in k
   pub brackets : z.brackets ≡ brackets_in k
@@ -101,13 +101,13 @@ pub record Sized (z : Size) (k : List (Prefix Text)) (n d : ℕ) : Type 0 where
 
 pub record GoodWant (z : Size) (k : List (Prefix Text)) : Type 0 where
   pub stack : Good k
-  pub sized : Sized z k 1 0
+  pub sized : HasSize z k 1 0
 
 pub record GoodHave (e : Text) (z : Size) (k : List (Prefix Text)) : Type 0 where
   pub level : HasLevel 6 e
   pub calm : Calm k
   pub stack : Good k
-  pub sized : Sized z k (nodes e) (depth e)
+  pub sized : HasSize z k (nodes e) (depth e)
 
 abbrev pub GoodOperand : Phrase Text → Type 0
 GoodOperand (Over e z k) = GoodHave e z k
@@ -124,7 +124,7 @@ pub record ReducedTo (l : ℕ) (e : Text) (z : Size) (k : List (Prefix Text)) : 
   pub calm : Calm k
   pub looser : Looser l k
   pub stack : Good k
-  pub sized : Sized z k (nodes e) (depth e)
+  pub sized : HasSize z k (nodes e) (depth e)
 
 abbrev pub Reduced : ℕ → Phrase Text → Type 0
 Reduced l (Over e z k) = ReducedTo l e z k
@@ -207,7 +207,7 @@ room_true z is = omega (arith, leb-true z.nodes (node_limit - 2) is)
 
 -- have and reduce
 
-pub have_good : (e : Text) (z : Size) (k : List (Prefix Text)) → HasLevel 6 e → Good k → Sized z k (nodes e) (depth e) → GoodOperand (have written e z k)
+pub have_good : (e : Text) (z : Size) (k : List (Prefix Text)) → HasLevel 6 e → Good k → HasSize z k (nodes e) (depth e) → GoodOperand (have written e z k)
 have_good e z [] p g h = record { level = p; calm = tt; stack = g; sized = h }
 have_good e z (Left o a ∷ k) p g h = record { level = p; calm = tt; stack = g; sized = h }
 have_good e z (Minus ∷ k) p g h =
@@ -247,7 +247,7 @@ reduce_size l e z (Bang ∷ k) = refl
 reduce_size l e z (Open ∷ k) = refl
 reduce_size l e z (Index x ∷ k) = refl
 
-pub reduce_good : (l : ℕ) (e : Text) (z : Size) (k : List (Prefix Text)) → HasLevel l e → HasLevel (right k) e → Calm k → Good k → Sized z k (nodes e) (depth e) → Reduced l (reduce written l e z k)
+pub reduce_good : (l : ℕ) (e : Text) (z : Size) (k : List (Prefix Text)) → HasLevel l e → HasLevel (right k) e → Calm k → Good k → HasSize z k (nodes e) (depth e) → Reduced l (reduce written l e z k)
 reduce_good l e z [] p q c g h = record { level = p; fits = q; calm = tt; looser = tt; stack = g; sized = h }
 reduce_good l e z (Left o a ∷ k) p q c g h =
     go (nat_le l (prec o)) refl (λ le. reduce_good l (Text.bin o a e) z k (le, g.0, q) (omega (arith, right_looser (prec o) k g.1), g.0, q) (calm_of (prec o) k g.1) g.2

@@ -4,7 +4,7 @@ use Rattle.std.proofs.lemmas.List.{length-reverse, reverse-append, reverse-rever
 use Rattle.std.proofs.Math.Seq.{take-append_seam, drop-append_seam}
 use mathlib.Core.Path.{fun_ext}
 use Rattle.loom_tree.specs.Tree.{Expression, Source}
-use Rattle.loom_lang.specs.Trace.{Lists, Thread, Locals, expression, arguments}
+use Rattle.loom_lang.specs.Trace.{Lists, Thread, Locals, expression, each_argument}
 use Rattle.loom_flow.specs.declared.code.Target.TheVariants as target
 use Rattle.loom_flow.specs.declared.code.Step.{Step}
 use Rattle.loom_flow.specs.Flow.{Flow}
@@ -27,7 +27,7 @@ twice v vs ws = sym (ap (λ us. us ++ ws) (reverse-append (v ∷ []) vs) ∙ app
 pub arguments_are : (c : Flow) (t : Thread) (l k : ℕ) (xs : List (List ℕ)) (es : List Expression) (next : State → Lists) (z : State) (at : ℕ)
     → length xs ≤ length z.locals → AllKnown t.program xs es
     → straight c t l k (argument_steps t.program xs es) next (jumped z at)
-    ≡ arguments t l (named xs z.locals) es (λ vs. next (jumped (topped vs z) (skip at (argument_steps t.program xs es))))
+    ≡ each_argument t l (named xs z.locals) es (λ vs. next (jumped (topped vs z) (skip at (argument_steps t.program xs es))))
 arguments_are c t l k xs [] next z at h g = refl
 arguments_are c t l k xs (e ∷ es) next z at h g =
     let env : Locals = named xs z.locals in
@@ -38,8 +38,8 @@ arguments_are c t l k xs (e ∷ es) next z at h g =
     ∙ steps_are c t l k xs target.Push e (straight c t l k rest next) z at h g.0
     ∙ ap {B = Lists} (λ (m : ℤ → Lists). expression t l env e m) (fun_ext (λ v.
     arguments_are c t l k xs es next (given z target.Push v) one h g.1
-    ∙ ap {B = Lists} (λ (m : List ℤ → Lists). arguments t l env es m) (fun_ext (λ vs. ap {B = Lists} (λ ws. next (jumped (record z { values = ws }) (skip one rest))) (twice v vs z.values)))))
-    ∙ ap {B = Lists} (λ n. expression t l env e (λ v. arguments t l env es (λ vs. next (jumped (topped (v ∷ vs) z) n)))) (sym (skip_append at first rest))
+    ∙ ap {B = Lists} (λ (m : List ℤ → Lists). each_argument t l env es m) (fun_ext (λ vs. ap {B = Lists} (λ ws. next (jumped (record z { values = ws }) (skip one rest))) (twice v vs z.values)))))
+    ∙ ap {B = Lists} (λ n. expression t l env e (λ v. each_argument t l env es (λ vs. next (jumped (topped (v ∷ vs) z) n)))) (sym (skip_append at first rest))
 
 -- a call takes them off
 

@@ -12,25 +12,25 @@ use Rattle.loom_flow.specs.declared.code.Instr.{Instr}
 use Rattle.loom_flow.specs.declared.code.Site.{Site}
 use Rattle.loom_flow.specs.declared.code.Step.TheVariants as s
 use Rattle.loom_flow.specs.declared.code.Control.TheVariants.{Begin, Done, Edge, Jump, JumpIfZero}
-use Rattle.loom_flow.specs.FlatCode.{operand_of, operand_steps, simple_steps, instr, instrs, site, size, place_count, body_code, body_sites}
+use Rattle.loom_flow.specs.FlatCode.{operand_of, operand_steps, simple_steps, instr, instrs, site, size, place_count, flat_body, body_sites}
 use Rattle.loom_flow.proofs.Truths.{both, first_of, second_of}
 use Rattle.loom_flow.proofs.Sizes.{code_length, sites_length}
 
 -- The statements are a first one and a rest.
 pub record Splits (p : Source) (names : List (List ℕ)) (first rest whole : Body) : Type 0 where
-  pub code : (at place : ℕ) → body_code p names at place whole ≡ body_code p names at place first ++ body_code p names (at + size p names first) (place + place_count first) rest
+  pub code : (at place : ℕ) → flat_body p names at place whole ≡ flat_body p names at place first ++ flat_body p names (at + size p names first) (place + place_count first) rest
   pub sites : (at : ℕ) → body_sites p names at whole ≡ body_sites p names at first ++ body_sites p names (at + size p names first) rest
   pub count : place_count whole ≡ place_count first + place_count rest
   pub some : 1 ≤ place_count first
 
-pub moved_code : (p : Source) (names : List (List ℕ)) (b : Body) (at at' place place' : ℕ) → at ≡ at' → place ≡ place' → body_code p names at place b ≡ body_code p names at' place' b
-moved_code p names b at at' place place' h g = ap (λ n. body_code p names n place b) h ∙ ap (λ n. body_code p names at' n b) g
+pub moved_code : (p : Source) (names : List (List ℕ)) (b : Body) (at at' place place' : ℕ) → at ≡ at' → place ≡ place' → flat_body p names at place b ≡ flat_body p names at' place' b
+moved_code p names b at at' place place' h g = ap (λ n. flat_body p names n place b) h ∙ ap (λ n. flat_body p names at' n b) g
 
 simple_splits : (p : Source) (names : List (List ℕ)) (l : ℕ) (x : Simple Expression) (rest : Body) → Splits p names (simple l x end) rest (simple l x rest)
 simple_splits p names l x rest = record {
   code = λ at place.
       ap (λ z. instrs l place (simple_steps p names x) ++ z) (moved_code p names rest (at + length (simple_steps p names x)) (at + (length (simple_steps p names x) + 0)) (suc place) (place + 1) (omega arith) (omega arith))
-      ∙ ap (λ z. z ++ body_code p names (at + (length (simple_steps p names x) + 0)) (place + 1) rest) (sym (append-nil (instrs l place (simple_steps p names x))));
+      ∙ ap (λ z. z ++ flat_body p names (at + (length (simple_steps p names x) + 0)) (place + 1) rest) (sym (append-nil (instrs l place (simple_steps p names x))));
   sites = λ at. ap (λ n. body_sites p names at (simple l x end) ++ body_sites p names n rest) (let P : at + length (simple_steps p names x) ≡ at + (length (simple_steps p names x) + 0) = omega arith in P);
   count = omega arith;
   some = omega arith;
@@ -63,12 +63,12 @@ if_splits p names l e a b rest = record {
       let second : ℕ = first + (1 + size p names a) in
       let done : ℕ = second + size p names b in
       let test : List Instr = instrs l place (s.Control Begin ∷ (operand_steps p names e ++ s.Control (JumpIfZero (operand_of names e) second) ∷ [])) in
-      let cs : List Instr = body_code p names first (suc place) a in
-      let bs : List Instr = body_code p names second (suc place + place_count a) b in
+      let cs : List Instr = flat_body p names first (suc place) a in
+      let bs : List Instr = flat_body p names second (suc place + place_count a) b in
       let many = if_count l e a b end in
       let places : suc place + place_count a + place_count b ≡ place + place_count (if_ l e a b end) = omega arith in
       ap (λ z. test ++ (cs ++ instr l place (s.Control (Jump done)) ∷ (bs ++ instr l place (s.Control Done) ∷ z))) (moved_code p names rest (suc done) (at + size p names (if_ l e a b end)) _ _ (omega arith) places)
-      ∙ choice_split test cs bs (body_code p names (at + size p names (if_ l e a b end)) (place + place_count (if_ l e a b end)) rest) (instr l place (s.Control (Jump done))) (instr l place (s.Control Done));
+      ∙ choice_split test cs bs (flat_body p names (at + size p names (if_ l e a b end)) (place + place_count (if_ l e a b end)) rest) (instr l place (s.Control (Jump done))) (instr l place (s.Control Done));
   sites = λ at.
       let first : ℕ = at + (2 + length (operand_steps p names e)) in
       let second : ℕ = first + (1 + size p names a) in
@@ -87,11 +87,11 @@ while_splits p names l e a rest = record {
       let first : ℕ = head + (1 + length (operand_steps p names e)) in
       let done : ℕ = first + (1 + size p names a) in
       let test : List Instr = instrs l place (s.Control Begin ∷ (operand_steps p names e ++ s.Control (JumpIfZero (operand_of names e) done) ∷ [])) in
-      let cs : List Instr = body_code p names first (suc (suc place)) a in
+      let cs : List Instr = flat_body p names first (suc (suc place)) a in
       let many = while_count l e a end in
       let places : suc (suc place) + place_count a ≡ place + place_count (while_ l e a end) = omega arith in
       ap (λ z. test ++ (cs ++ instr l (suc place) (s.Control (Edge head)) ∷ instr l place (s.Control Done) ∷ z)) (moved_code p names rest (suc done) (at + size p names (while_ l e a end)) _ _ (omega arith) places)
-      ∙ loop_split test cs (body_code p names (at + size p names (while_ l e a end)) (place + place_count (while_ l e a end)) rest) (instr l (suc place) (s.Control (Edge head))) (instr l place (s.Control Done));
+      ∙ loop_split test cs (flat_body p names (at + size p names (while_ l e a end)) (place + place_count (while_ l e a end)) rest) (instr l (suc place) (s.Control (Edge head))) (instr l place (s.Control Done));
   sites = λ at.
       let first : ℕ = at + (2 + length (operand_steps p names e)) in
       let done : ℕ = first + (1 + size p names a) in
@@ -151,10 +151,10 @@ count_first p names l kind all rest e = ap place_count e ∙ (splits p names l k
 pub some_first : (p : Source) (names : List (List ℕ)) (l : ℕ) (kind : Kind) → 1 ≤ place_count (behind l kind end)
 some_first p names l kind = (splits p names l kind end).some
 
-pub code_more : (p : Source) (names : List (List ℕ)) (b : Body) (code more : List Instr) (at place : ℕ) → more ≡ code ++ body_code p names at place b → length more ≡ length code + size p names b
+pub code_more : (p : Source) (names : List (List ℕ)) (b : Body) (code more : List Instr) (at place : ℕ) → more ≡ code ++ flat_body p names at place b → length more ≡ length code + size p names b
 code_more p names b code more at place h =
     let many = ap length h in
-    let both = length-append code (body_code p names at place b) in
+    let both = length-append code (flat_body p names at place b) in
     let is = code_length p names b at place in
     omega arith
 
@@ -167,23 +167,23 @@ sites_more p names b sites more at h =
 
 pub code_step : (p : Source) (names : List (List ℕ)) (l : ℕ) (kind : Kind) (all rest : Body) (code more : List Instr) (sites sites' : List Site) →
     all ≡ behind l kind rest →
-    more ≡ code ++ body_code p names (length code) (length sites) (behind l kind end) →
+    more ≡ code ++ flat_body p names (length code) (length sites) (behind l kind end) →
     sites' ≡ sites ++ body_sites p names (length code) (behind l kind end) →
-    more ++ body_code p names (length more) (length sites') rest ≡ code ++ body_code p names (length code) (length sites) all
+    more ++ flat_body p names (length more) (length sites') rest ≡ code ++ flat_body p names (length code) (length sites) all
 code_step p names l kind all rest code more sites sites' e h g =
     let first : Body = behind l kind end in
-    let begun : List Instr = body_code p names (length code) (length sites) first in
+    let begun : List Instr = flat_body p names (length code) (length sites) first in
     let at : length more ≡ length code + size p names first = code_more p names first code more (length code) (length sites) h in
     let place : length sites' ≡ length sites + place_count first = sites_more p names first sites sites' (length code) g in
-    ap (λ z. z ++ body_code p names (length more) (length sites') rest) h
+    ap (λ z. z ++ flat_body p names (length more) (length sites') rest) h
     ∙ ap (λ z. (code ++ begun) ++ z) (moved_code p names rest _ _ _ _ at place)
-    ∙ append_assoc code begun (body_code p names (length code + size p names first) (length sites + place_count first) rest)
+    ∙ append_assoc code begun (flat_body p names (length code + size p names first) (length sites + place_count first) rest)
     ∙ ap (λ z. code ++ z) (sym ((splits p names l kind rest).code (length code) (length sites)))
-    ∙ ap (λ z. code ++ body_code p names (length code) (length sites) z) (sym e)
+    ∙ ap (λ z. code ++ flat_body p names (length code) (length sites) z) (sym e)
 
 pub sites_step : (p : Source) (names : List (List ℕ)) (l place : ℕ) (kind : Kind) (all rest : Body) (code more : List Instr) (sites sites' : List Site) →
     all ≡ behind l kind rest →
-    more ≡ code ++ body_code p names (length code) place (behind l kind end) →
+    more ≡ code ++ flat_body p names (length code) place (behind l kind end) →
     sites' ≡ sites ++ body_sites p names (length code) (behind l kind end) →
     sites' ++ body_sites p names (length more) rest ≡ sites ++ body_sites p names (length code) all
 sites_step p names l place kind all rest code more sites sites' e h g =

@@ -14,7 +14,7 @@ use Rattle.loom_flow.specs.declared.code.Instr.{Instr}
 use Rattle.loom_flow.specs.Flow.{Flow, resume}
 use Rattle.loom_flow.specs.Position as position
 use Rattle.loom_flow.specs.State.{State, jumped, named, names, locals_now}
-use Rattle.loom_flow.specs.FlatCode.{operand_of, operand_steps, simple_steps, instr, instrs, size, place_count, body_code, body_sites}
+use Rattle.loom_flow.specs.FlatCode.{operand_of, operand_steps, simple_steps, instr, instrs, size, place_count, flat_body, body_sites}
 use Rattle.loom_flow.proofs.Relations.{Within, Meets, meets_same, meets_on, meets_emit, meets_choice, breaks, choice_open}
 use Rattle.loom_flow.proofs.Steps.{performed, fetched, jump_gives, meets_performed}
 use Rattle.loom_flow.proofs.Runs.{runs_from, ever_from, runs_next, runs_fetched, ever_fetched, ever_open}
@@ -150,7 +150,7 @@ second_is head steps = let e : skip head steps ≡ head + length steps = skip_le
 
 pub body_meets : (b : Bool) (c : Flow) (t : Thread) (m : ℕ → State → Lists) → Runner b c t m → (most n : ℕ) → n ≤ most → (calls : Calls) (xs : List (List ℕ)) (z : State) (a : Body) (k at : ℕ) (ret : ℤ → Lists) (more : Locals → Lists)
     → ((j : ℕ) → j ≤ n → CallsMeet b c t m j (length z.below) calls) → names (slice_get c.program.funcs z.func) ≡ xs → length xs ≤ length z.locals
-    → IsKnownBody t.program xs a → Lies c.code at (body_code t.program xs at k a) → Lies c.sites k (body_sites t.program xs at a)
+    → IsKnownBody t.program xs a → Lies c.code at (flat_body t.program xs at k a) → Lies c.sites k (body_sites t.program xs at a)
     → Returns b c t m n z ret → Ends b m n xs z (at + size t.program xs a) more
     → Meets b (m n (jumped z at)) (body t calls most (named xs z.locals) a ret more)
 body_meets b c t m runner most n le calls xs z end k at ret more meets names_are h known lies sites returns ends =
@@ -158,9 +158,9 @@ body_meets b c t m runner most n le calls xs z end k at ret more meets names_are
 body_meets b c t m runner most n le calls xs z (simple l x rest) k at ret more meets names_are h known lies sites returns ends =
     let steps : List Step = simple_steps t.program xs x in
     let next : ℕ = at + length steps in
-    let first : Lies c.code at (instrs l k steps) = lies_first c.code at (instrs l k steps) (body_code t.program xs next (suc k) rest) lies in
-    let second : Lies c.code next (body_code t.program xs next (suc k) rest) =
-    subst (λ i. Lies c.code i (body_code t.program xs next (suc k) rest)) (ap (λ i. at + i) (instrs_length l k steps)) (lies_second c.code at (instrs l k steps) (body_code t.program xs next (suc k) rest) lies) in
+    let first : Lies c.code at (instrs l k steps) = lies_first c.code at (instrs l k steps) (flat_body t.program xs next (suc k) rest) lies in
+    let second : Lies c.code next (flat_body t.program xs next (suc k) rest) =
+    subst (λ i. Lies c.code i (flat_body t.program xs next (suc k) rest)) (ap (λ i. at + i) (instrs_length l k steps)) (lies_second c.code at (instrs l k steps) (flat_body t.program xs next (suc k) rest) lies) in
     simple_meets b c t m n l k at xs z calls x ret (λ env. body t calls most env rest ret more) runner.fetches (meets n (omega arith)) names_are h known.0 first (ap resume sites.0) returns
     (λ j below vs g. subst (λ i. Meets b (m j (jumped (record z { locals = vs }) i)) (body t calls most (named xs vs) rest ret more)) (sym (skip_length at steps))
     (body_meets b c t m runner most j (omega (arith, below, le)) calls xs (record z { locals = vs }) rest (suc k) next ret more
@@ -174,9 +174,9 @@ body_meets b c t m runner most n le calls xs z (if_ l e x y rest) k at ret more 
     let last : ℕ = second + size p xs y in
     let jump : Step = s.Control (JumpIfZero (operand_of xs e) second) in
     let head : List Step = s.Control Begin ∷ (before ++ jump ∷ []) in
-    let code_x : List Instr = body_code p xs first (suc k) x in
-    let code_y : List Instr = body_code p xs second (suc k + place_count x) y in
-    let code_rest : List Instr = body_code p xs (suc last) (suc k + place_count x + place_count y) rest in
+    let code_x : List Instr = flat_body p xs first (suc k) x in
+    let code_y : List Instr = flat_body p xs second (suc k + place_count x) y in
+    let code_rest : List Instr = flat_body p xs (suc last) (suc k + place_count x + place_count y) rest in
     let lies_head : Lies c.code at (instrs l k head) = lies_first c.code at (instrs l k head) (code_x ++ instr l k (s.Control (Jump last)) ∷ (code_y ++ instr l k (s.Control Done) ∷ code_rest)) lies in
     let lies_from_x : Lies c.code first (code_x ++ instr l k (s.Control (Jump last)) ∷ (code_y ++ instr l k (s.Control Done) ∷ code_rest)) =
     subst (λ i. Lies c.code i (code_x ++ instr l k (s.Control (Jump last)) ∷ (code_y ++ instr l k (s.Control Done) ∷ code_rest))) (ap (λ i. at + i) (condition_length l k before (s.Control Begin) jump))
@@ -223,8 +223,8 @@ body_meets b c t m runner most n le calls xs z (while_ l e x rest) k at ret more
     let last : ℕ = first + (1 + size p xs x) in
     let jump : Step = s.Control (JumpIfZero (operand_of xs e) last) in
     let begin : List Step = s.Control Begin ∷ (before ++ jump ∷ []) in
-    let code_x : List Instr = body_code p xs first (suc (suc k)) x in
-    let code_rest : List Instr = body_code p xs (suc last) (suc (suc k) + place_count x) rest in
+    let code_x : List Instr = flat_body p xs first (suc (suc k)) x in
+    let code_rest : List Instr = flat_body p xs (suc last) (suc (suc k) + place_count x) rest in
     let lies_begin : Lies c.code at (instrs l k begin) = lies_first c.code at (instrs l k begin) (code_x ++ instr l (suc k) (s.Control (Edge head)) ∷ instr l k (s.Control Done) ∷ code_rest) lies in
     let lies_from_x : Lies c.code first (code_x ++ instr l (suc k) (s.Control (Edge head)) ∷ instr l k (s.Control Done) ∷ code_rest) =
     subst (λ i. Lies c.code i (code_x ++ instr l (suc k) (s.Control (Edge head)) ∷ instr l k (s.Control Done) ∷ code_rest)) (ap (λ i. at + i) (condition_length l k before (s.Control Begin) jump) ∙ first_again at (length before))

@@ -13,8 +13,8 @@ use Rattle.loom_flow.specs.declared.code.Control.TheVariants.{Begin, Done, Edge,
 use Rattle.loom_flow.specs.declared.code.Instr.{Instr}
 use Rattle.loom_flow.specs.declared.code.Entrance.{Entrance}
 use Rattle.loom_flow.specs.Flow.{Flow}
-use Rattle.loom_flow.specs.FlatCode.{operand_of, operand_steps, simple_steps, instr, instrs, size, place_count, body_code, functions_code, entrances, lowered}
-use Rattle.loom_flow.specs.Depth.{pops, takes_off, puts_on, depth_after, depth_before, IsSmallBody, AreSmallFunctions, IsSmall}
+use Rattle.loom_flow.specs.FlatCode.{operand_of, operand_steps, simple_steps, instr, instrs, size, place_count, flat_body, functions_code, entrances, lowered}
+use Rattle.loom_flow.specs.Depth.{pops, takes_off, puts_on, depth_after, depth_before, IsSmallBody, AreSmallFunctions, HasSmallBodies}
 use Rattle.loom_flow.specs.Laws.{KeepsDepth, HasOperands}
 use Rattle.loom_flow.proofs.Sublist.{Lies, lies_first, lies_second, lies_whole}
 use Rattle.loom_flow.proofs.Each.{AllOf, all_append, Each, each_append, each_at, same_element}
@@ -122,19 +122,19 @@ condition_depth c l k at m to xs e small h lies =
 -- Statements: each of their instructions, and the number behind them
 
 body_keeps : (c : Flow) (m n : ℕ) (xs : List (List ℕ)) → KeepsRules c.program → n + param_limit ≤ m → (at k : ℕ) (a : Body) → takes_body c.program a ≡ true → IsSmallBody n a
-    → Lies c.code at (body_code c.program xs at k a) → depth_before c at ≡ Some 0
-    → Each (Keeps c m) at (body_code c.program xs at k a) × (depth_before c (at + size c.program xs a) ≡ Some 0)
+    → Lies c.code at (flat_body c.program xs at k a) → depth_before c at ≡ Some 0
+    → Each (Keeps c m) at (flat_body c.program xs at k a) × (depth_before c (at + size c.program xs a) ≡ Some 0)
 body_keeps c m n xs law room at k end known small lies h = (tt, depth_at c at (at + 0) 0 (omega arith) h)
 body_keeps c m n xs law room at k (simple l x rest) known small lies h =
     let p : Source = c.program in
     let steps : List Step = simple_steps p xs x in
     let next : ℕ = at + length steps in
     let both_known : (takes_simple p x ≡ true) × (takes_body p rest ≡ true) = both _ _ known in
-    let lies_first_is : Lies c.code at (instrs l k steps) = lies_first c.code at (instrs l k steps) (body_code p xs next (suc k) rest) lies in
-    let lies_rest : Lies c.code next (body_code p xs next (suc k) rest) =
-    subst (λ i. Lies c.code i (body_code p xs next (suc k) rest)) (ap (λ i. at + i) (instrs_length l k steps)) (lies_second c.code at (instrs l k steps) (body_code p xs next (suc k) rest) lies) in
+    let lies_first_is : Lies c.code at (instrs l k steps) = lies_first c.code at (instrs l k steps) (flat_body p xs next (suc k) rest) lies in
+    let lies_rest : Lies c.code next (flat_body p xs next (suc k) rest) =
+    subst (λ i. Lies c.code i (flat_body p xs next (suc k) rest)) (ap (λ i. at + i) (instrs_length l k steps)) (lies_second c.code at (instrs l k steps) (flat_body p xs next (suc k) rest) lies) in
     let balanced : Balanced m 0 steps 0 = simple_balanced p xs m n x law room both_known.0 small.0 in
-    let others : Each (Keeps c m) next (body_code p xs next (suc k) rest) × (depth_before c (next + size p xs rest) ≡ Some 0) =
+    let others : Each (Keeps c m) next (flat_body p xs next (suc k) rest) × (depth_before c (next + size p xs rest) ≡ Some 0) =
     body_keeps c m n xs law room next (suc k) rest both_known.1 small.1 lies_rest (depth_over c l k at m 0 0 steps h balanced lies_first_is) in (
       each_append (Keeps c m) at next (instrs l k steps) _ (ap (λ i. at + i) (instrs_length l k steps))
           (steps_keep c l k at m 0 0 steps h balanced lies_first_is
@@ -150,9 +150,9 @@ body_keeps c m n xs law room at k (if_ l e x y rest) known small lies h =
     let last : ℕ = second + size p xs y in
     let jump : Step = s.Control (JumpIfZero (operand_of xs e) second) in
     let head : List Step = s.Control Begin ∷ (before ++ jump ∷ []) in
-    let code_x : List Instr = body_code p xs first (suc k) x in
-    let code_y : List Instr = body_code p xs second (suc k + place_count x) y in
-    let code_rest : List Instr = body_code p xs (suc last) (suc k + place_count x + place_count y) rest in
+    let code_x : List Instr = flat_body p xs first (suc k) x in
+    let code_y : List Instr = flat_body p xs second (suc k + place_count x) y in
+    let code_rest : List Instr = flat_body p xs (suc last) (suc k + place_count x + place_count y) rest in
     let known_x : (takes_body p x ≡ true) × ((takes_body p y && takes_body p rest) ≡ true) = both _ _ known in
     let known_y : (takes_body p y ≡ true) × (takes_body p rest ≡ true) = both _ _ known_x.1 in
     let lies_head : Lies c.code at (instrs l k head) = lies_first c.code at (instrs l k head) (code_x ++ instr l k (s.Control (Jump last)) ∷ (code_y ++ instr l k (s.Control Done) ∷ code_rest)) lies in
@@ -197,8 +197,8 @@ body_keeps c m n xs law room at k (while_ l e x rest) known small lies h =
     let begin : List Step = s.Control Begin ∷ (before ++ jump ∷ []) in
     let place : ℕ = at + (2 + length before) in
     let same : place ≡ first = omega arith in
-    let code_x : List Instr = body_code p xs first (suc (suc k)) x in
-    let code_rest : List Instr = body_code p xs (suc last) (suc (suc k) + place_count x) rest in
+    let code_x : List Instr = flat_body p xs first (suc (suc k)) x in
+    let code_rest : List Instr = flat_body p xs (suc last) (suc (suc k) + place_count x) rest in
     let known_x : (takes_body p x ≡ true) × (takes_body p rest ≡ true) = both _ _ known in
     let lies_begin : Lies c.code at (instrs l k begin) = lies_first c.code at (instrs l k begin) (code_x ++ instr l (suc k) (s.Control (Edge head)) ∷ instr l k (s.Control Done) ∷ code_rest) lies in
     let lies_from_x : Lies c.code first (code_x ++ instr l (suc k) (s.Control (Edge head)) ∷ instr l k (s.Control Done) ∷ code_rest) =
@@ -246,7 +246,7 @@ functions_keep c m n law room (g ∷ gs) at place l small code h =
     let xs : List (List ℕ) = locals_of g in
     let last : ℕ = at + size p xs g.body in
     let later : ℕ = suc (suc (place + place_count g.body)) in
-    let body : List Instr = body_code p xs at (suc place) g.body in
+    let body : List Instr = flat_body p xs at (suc place) g.body in
     let out : Instr = instr g.line (suc place + place_count g.body) (s.Control Out) in
     let more : List Instr = functions_code p (suc last) later gs in
     let length_is : at + length body ≡ last = ap (λ i. at + i) (code_length p xs g.body at (suc place)) in
@@ -261,7 +261,7 @@ functions_keep c m n law room (g ∷ gs) at place l small code h =
     )
 
 -- where each expression of the program has at most `n` nodes
-pub lowered_operands : (p : Source) → KeepsRules p → (n : ℕ) → IsSmall n p → HasOperands (lowered p) (n + param_limit)
+pub lowered_operands : (p : Source) → KeepsRules p → (n : ℕ) → HasSmallBodies n p → HasOperands (lowered p) (n + param_limit)
 lowered_operands p l n small =
     let c : Flow = lowered p in
     let code : List Instr = functions_code p 0 1 p.funcs in

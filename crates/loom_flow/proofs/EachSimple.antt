@@ -4,7 +4,7 @@ use Rattle.loom_tree.specs.Tree.{Expression, Right, Simple, let_, set, set_cell,
 use Rattle.loom_tree.specs.Tree as tree
 use Rattle.loom_lang.specs.Numbers.{index_of, mutex_number, sema_number, function_number}
 use Rattle.loom_lang.specs.Trace as trace
-use Rattle.loom_lang.specs.Trace.{Item, Lists, Thread, Locals, Calls, made, begins, done, out, broken, emit, any, either, trapped, value_in, updated, expression, arguments, indexed, writing_word, stored, effect, right, joined, numbered}
+use Rattle.loom_lang.specs.Trace.{Item, Lists, Thread, Locals, Calls, made, begins, done, out, broken, emit, any, either, trap_lists, value_in, updated, expression, each_argument, at_index, writing_word, stored, effect, right, join_of, numbered}
 use Rattle.loom_flow.specs.declared.code.Operand.{Operand}
 use Rattle.loom_flow.specs.declared.code.Operand.TheVariants as operand
 use Rattle.loom_flow.specs.declared.code.Target.TheVariants as target
@@ -130,7 +130,7 @@ numbered_step b c t m l k at xs z number n x y q taken grows e ends =
     (meets_same b _ _ (ap {B = Lists} (λ o. numbered o (λ i. y i (emit (done l) q))) (sym e)))
 
 join_is : (c : Flow) (t : Thread) (l k : ℕ) (z : State) (a : Operand) (next : State → Lists) (n : ℕ) (v : ℤ)
-    → straight c t l k (s.Ask (Join a) ∷ []) next (jumped (left a v z) n) ≡ joined t l (settled a z.locals v) (next (jumped z (suc n)))
+    → straight c t l k (s.Ask (Join a) ∷ []) next (jumped (left a v z) n) ≡ join_of t l (settled a z.locals v) (next (jumped z (suc n)))
 join_is c t l k z operand.Top next n v = refl
 join_is c t l k z (operand.Local j) next n v = refl
 join_is c t l k z (operand.Number i) next n v = refl
@@ -184,20 +184,20 @@ simple_meets b c t m n l k at xs z calls (tree.lock x) ret more fetches meets na
     (λ i next z'. refl) (λ i p r q. meets_emit b _ p r q) known.1 (ends n (omega arith) z.locals refl))
 simple_meets b c t m n l k at xs z calls (tree.unlock x) ret more fetches meets names_are h known lies site returns ends =
     meets_begin b c t (m n) l k at xs z (s.Ask (Unlock (or_zero (mutex_number t.program x))) ∷ s.Control Done ∷ []) _ (fetches n) names_are (refl, (refl, tt)) lies
-    (numbered_step b c t (m n) l k (suc at) xs z (mutex_number t.program x) known.0 (λ i. s.Ask (Unlock i)) (λ i q. either (trapped t l (trace.not_held i)) (emit (made l (trace.unlock i)) q)) (more (named xs z.locals))
-    (λ i next z'. refl) (λ i p r q. meets_either b _ _ _ _ (meets_itself b (trapped t l (trace.not_held i))) (meets_emit b _ p r q)) known.1 (ends n (omega arith) z.locals refl))
+    (numbered_step b c t (m n) l k (suc at) xs z (mutex_number t.program x) known.0 (λ i. s.Ask (Unlock i)) (λ i q. either (trap_lists t l (trace.not_held i)) (emit (made l (trace.unlock i)) q)) (more (named xs z.locals))
+    (λ i next z'. refl) (λ i p r q. meets_either b _ _ _ _ (meets_itself b (trap_lists t l (trace.not_held i))) (meets_emit b _ p r q)) known.1 (ends n (omega arith) z.locals refl))
 simple_meets b c t m n l k at xs z calls (tree.down x) ret more fetches meets names_are h known lies site returns ends =
     meets_begin b c t (m n) l k at xs z (s.Ask (Down (or_zero (sema_number t.program x))) ∷ s.Control Done ∷ []) _ (fetches n) names_are (refl, (refl, tt)) lies
     (numbered_step b c t (m n) l k (suc at) xs z (sema_number t.program x) known.0 (λ i. s.Ask (Down i)) (λ i q. emit (made l (trace.down i)) q) (more (named xs z.locals))
     (λ i next z'. refl) (λ i p r q. meets_emit b _ p r q) known.1 (ends n (omega arith) z.locals refl))
 simple_meets b c t m n l k at xs z calls (tree.up x) ret more fetches meets names_are h known lies site returns ends =
     meets_begin b c t (m n) l k at xs z (s.Ask (Up (or_zero (sema_number t.program x))) ∷ s.Control Done ∷ []) _ (fetches n) names_are (refl, (refl, tt)) lies
-    (numbered_step b c t (m n) l k (suc at) xs z (sema_number t.program x) known.0 (λ i. s.Ask (Up i)) (λ i q. either (trapped t l (trace.overflow i)) (emit (made l (trace.up i)) q)) (more (named xs z.locals))
-    (λ i next z'. refl) (λ i p r q. meets_either b _ _ _ _ (meets_itself b (trapped t l (trace.overflow i))) (meets_emit b _ p r q)) known.1 (ends n (omega arith) z.locals refl))
+    (numbered_step b c t (m n) l k (suc at) xs z (sema_number t.program x) known.0 (λ i. s.Ask (Up i)) (λ i q. either (trap_lists t l (trace.overflow i)) (emit (made l (trace.up i)) q)) (more (named xs z.locals))
+    (λ i next z'. refl) (λ i p r q. meets_either b _ _ _ _ (meets_itself b (trap_lists t l (trace.overflow i))) (meets_emit b _ p r q)) known.1 (ends n (omega arith) z.locals refl))
 simple_meets b c t m n l k at xs z calls (tree.join e) ret more fetches meets names_are h known lies site returns ends =
     meets_begin b c t (m n) l k at xs z (operand_steps t.program xs e ++ s.Ask (Join (operand_of xs e)) ∷ s.Control Done ∷ []) _ (fetches n) names_are
     (all_straight_append (operand_steps t.program xs e) _ (operand_straight t.program xs e) (refl, (refl, tt))) lies
-    (one_operand b c t (m n) l k (suc at) xs z e (λ i. s.Ask (Join i)) (joined t l) (more (named xs z.locals)) (join_is c t l k z) (λ v p r q. meets_joined b t l v p r q) h known (ends n (omega arith) z.locals refl))
+    (one_operand b c t (m n) l k (suc at) xs z e (λ i. s.Ask (Join i)) (join_of t l) (more (named xs z.locals)) (join_is c t l k z) (λ v p r q. meets_joined b t l v p r q) h known (ends n (omega arith) z.locals refl))
 simple_meets b c t m n l k at xs z calls (tree.print e) ret more fetches meets names_are h known lies site returns ends =
     meets_begin b c t (m n) l k at xs z (operand_steps t.program xs e ++ s.Ask (Print (operand_of xs e)) ∷ s.Control Done ∷ []) _ (fetches n) names_are
     (all_straight_append (operand_steps t.program xs e) _ (operand_straight t.program xs e) (refl, (refl, tt))) lies

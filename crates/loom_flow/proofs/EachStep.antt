@@ -18,7 +18,7 @@ use Rattle.loom_flow.specs.declared.code.Instr.{Instr}
 use Rattle.loom_flow.specs.Arguments.{takes_right, takes_simple, takes_body}
 use Rattle.loom_flow.specs.State.{frame_room}
 use Rattle.loom_flow.specs.Laws.{HasLocal, HasLocalFor, HasLocals}
-use Rattle.loom_flow.specs.FlatCode.{or_zero, array_named, word_named, local_operand, operand_of, unless_there, variable_step, steps_to, operand_steps, argument_steps, call_steps, spawn_steps, store_step, value_steps, set_steps, simple_steps, instr, instrs, size, place_count, body_code, functions_code, lowered}
+use Rattle.loom_flow.specs.FlatCode.{or_zero, array_named, word_named, local_operand, operand_of, unless_there, variable_step, steps_to, operand_steps, argument_steps, call_steps, spawn_steps, store_step, value_steps, set_steps, simple_steps, instr, instrs, size, place_count, flat_body, functions_code, lowered}
 use Rattle.loom_flow.proofs.Counts.{function_takes}
 use Rattle.loom_flow.proofs.Each.{AllOf, all_append, same_element}
 use Rattle.loom_flow.proofs.Roles.{not_in}
@@ -192,7 +192,7 @@ condition_each : (p : Source) (P : Step → Type 0) (xs : List (List ℕ)) (l n 
     → AllSteps P (instrs l n (s.Control Begin ∷ (operand_steps p xs e ++ s.Control (JumpIfZero (operand_of xs e) to) ∷ [])))
 condition_each p P xs l n to e h few k = (h.other _ refl tt, instrs_each P l n _ (all_append P (operand_steps p xs e) _ (operand_each p P xs e h few k) (h.other _ refl (operand_local xs e few), tt)))
 
-body_each : (p : Source) (P : Step → Type 0) (xs : List (List ℕ)) (at n : ℕ) (a : Body) → HoldsOf p P → Fits xs → knows_body p xs a ≡ true → takes_body p a ≡ true → AllSteps P (body_code p xs at n a)
+body_each : (p : Source) (P : Step → Type 0) (xs : List (List ℕ)) (at n : ℕ) (a : Body) → HoldsOf p P → Fits xs → knows_body p xs a ≡ true → takes_body p a ≡ true → AllSteps P (flat_body p xs at n a)
 body_each p P xs at n end h few k t = tt
 body_each p P xs at n (simple l x rest) h few k t =
     let g : (knows_simple p xs x ≡ true) × (knows_body p xs rest ≡ true) = both _ _ k in
@@ -202,29 +202,29 @@ body_each p P xs at n (if_ l e a b rest) h few k t =
     let first : ℕ = at + (2 + length (operand_steps p xs e)) in
     let second : ℕ = first + (1 + size p xs a) in
     let last : ℕ = second + size p xs b in
-    let from_done : List Instr = instr l n (s.Control Done) ∷ body_code p xs (suc last) (suc n + place_count a + place_count b) rest in
-    let from_jump : List Instr = instr l n (s.Control (Jump last)) ∷ (body_code p xs second (suc n + place_count a) b ++ from_done) in
+    let from_done : List Instr = instr l n (s.Control Done) ∷ flat_body p xs (suc last) (suc n + place_count a + place_count b) rest in
+    let from_jump : List Instr = instr l n (s.Control (Jump last)) ∷ (flat_body p xs second (suc n + place_count a) b ++ from_done) in
     let g : (knows p xs e ≡ true) × ((knows_body p xs a && (knows_body p xs b && knows_body p xs rest)) ≡ true) = both _ _ k in
     let g_in : (knows_body p xs a ≡ true) × ((knows_body p xs b && knows_body p xs rest) ≡ true) = both _ _ g.1 in
     let g_behind : (knows_body p xs b ≡ true) × (knows_body p xs rest ≡ true) = both _ _ g_in.1 in
     let u : (takes_body p a ≡ true) × ((takes_body p b && takes_body p rest) ≡ true) = both _ _ t in
     let u_behind : (takes_body p b ≡ true) × (takes_body p rest ≡ true) = both _ _ u.1 in
     both_each P (instrs l n (s.Control Begin ∷ (operand_steps p xs e ++ s.Control (JumpIfZero (operand_of xs e) second) ∷ []))) _ (condition_each p P xs l n second e h few g.0)
-    (both_each P (body_code p xs first (suc n) a) from_jump (body_each p P xs first (suc n) a h few g_in.0 u.0) (
+    (both_each P (flat_body p xs first (suc n) a) from_jump (body_each p P xs first (suc n) a h few g_in.0 u.0) (
       h.other _ refl tt,
-      both_each P (body_code p xs second (suc n + place_count a) b) from_done (body_each p P xs second (suc n + place_count a) b h few g_behind.0 u_behind.0)
+      both_each P (flat_body p xs second (suc n + place_count a) b) from_done (body_each p P xs second (suc n + place_count a) b h few g_behind.0 u_behind.0)
           (h.other _ refl tt, body_each p P xs (suc last) (suc n + place_count a + place_count b) rest h few g_behind.1 u_behind.1),
     ))
 body_each p P xs at n (while_ l e a rest) h few k t =
     let head : ℕ = at + 1 in
     let first : ℕ = head + (1 + length (operand_steps p xs e)) in
     let last : ℕ = first + (1 + size p xs a) in
-    let from_edge : List Instr = instr l (suc n) (s.Control (Edge head)) ∷ instr l n (s.Control Done) ∷ body_code p xs (suc last) (suc (suc n) + place_count a) rest in
+    let from_edge : List Instr = instr l (suc n) (s.Control (Edge head)) ∷ instr l n (s.Control Done) ∷ flat_body p xs (suc last) (suc (suc n) + place_count a) rest in
     let g : (knows p xs e ≡ true) × ((knows_body p xs a && knows_body p xs rest) ≡ true) = both _ _ k in
     let g_in : (knows_body p xs a ≡ true) × (knows_body p xs rest ≡ true) = both _ _ g.1 in
     let u : (takes_body p a ≡ true) × (takes_body p rest ≡ true) = both _ _ t in
     both_each P (instrs l n (s.Control Begin ∷ (operand_steps p xs e ++ s.Control (JumpIfZero (operand_of xs e) last) ∷ []))) _ (condition_each p P xs l n last e h few g.0)
-    (both_each P (body_code p xs first (suc (suc n)) a) from_edge (body_each p P xs first (suc (suc n)) a h few g_in.0 u.0)
+    (both_each P (flat_body p xs first (suc (suc n)) a) from_edge (body_each p P xs first (suc (suc n)) a h few g_in.0 u.0)
     (h.other _ refl tt, (h.other _ refl tt, body_each p P xs (suc last) (suc (suc n) + place_count a) rest h few g_in.1 u.1)))
 
 -- Functions
@@ -232,7 +232,7 @@ body_each p P xs at n (while_ l e a rest) h few k t =
 functions_each : (p : Source) (P : Step → Type 0) (at n : ℕ) (fs : List Function) → HoldsOf p P → FunctionsKeepRules p fs → AllSteps P (functions_code p at n fs)
 functions_each p P at n [] h l = tt
 functions_each p P at n (f ∷ fs) h l =
-    both_each P (body_code p (locals_of f) at (suc n) f.body) _ (body_each p P (locals_of f) at (suc n) f.body h l.0.locals l.0.known (function_takes p f l.0))
+    both_each P (flat_body p (locals_of f) at (suc n) f.body) _ (body_each p P (locals_of f) at (suc n) f.body h l.0.locals l.0.known (function_takes p f l.0))
     (h.other _ refl tt, functions_each p P (suc (at + size p (locals_of f) f.body)) (suc (suc (n + place_count f.body))) fs h l.1)
 
 all_at : {A : Type 0} (P : A → Type 0) (xs : List A) (at : ℕ) (x : A) → AllOf P xs → slice_get xs at ≡ Some x → P x

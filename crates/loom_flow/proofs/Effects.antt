@@ -4,7 +4,7 @@ use mathlib.Core.Path.{fun_ext}
 use Rattle.loom_tree.specs.Tree.{Expression}
 use Rattle.loom_lang.specs.Numbers.{Cells, cells_named, function_number}
 use Rattle.loom_lang.specs.Trace as trace
-use Rattle.loom_lang.specs.Trace.{Item, Lists, Thread, Locals, Calls, made, begins, done, out, broken, emit, any, either, trapped, value_in, updated, expression, arguments, indexed, writing_word, stored, effect, right, joined, numbered}
+use Rattle.loom_lang.specs.Trace.{Item, Lists, Thread, Locals, Calls, made, begins, done, out, broken, emit, any, either, trap_lists, value_in, updated, expression, each_argument, at_index, writing_word, stored, effect, right, join_of, numbered}
 use Rattle.loom_flow.specs.declared.code.Operand.{Operand}
 use Rattle.loom_flow.specs.declared.code.Operand.TheVariants as operand
 use Rattle.loom_flow.specs.declared.code.Target.TheVariants as target
@@ -31,7 +31,7 @@ pub spawn_is : (b : Bool) (c : Flow) (t : Thread) (m : State → Lists) (l k at 
     → length xs ≤ length z.locals → IsFunction t.program f → AllKnown t.program xs es
     → ((v : ℤ) → Meets b (straight c t l k rest m (jumped (record z { values = v ∷ z.values }) (suc (skip at (argument_steps t.program xs es))))) (more v))
     → Meets b (straight c t l k (argument_steps t.program xs es ++ s.Ask (Spawn (or_zero (function_number t.program f)) (length es) target.Push) ∷ rest) m (jumped z at))
-    (arguments t l (named xs z.locals) es (λ vs. numbered (function_number t.program f) (λ g. either (trapped t l trace.threads) (any (λ n. emit (made l (trace.spawn n g vs)) (more (pos n)))))))
+    (each_argument t l (named xs z.locals) es (λ vs. numbered (function_number t.program f) (λ g. either (trap_lists t l trace.threads) (any (λ n. emit (made l (trace.spawn n g vs)) (more (pos n)))))))
 spawn_is b c t m l k at xs z f es rest more h function known goes_on =
     let env : Locals = named xs z.locals in
     let before : List Step = argument_steps t.program xs es in
@@ -40,7 +40,7 @@ spawn_is b c t m l k at xs z f es rest more h function known goes_on =
     let a : ℕ = skip at before in
     let found : g ≡ function.0 = ap or_zero function.1 in
     let behind : ℤ → Lists = λ v. straight c t l k rest m (jumped (record z { values = v ∷ z.values }) (suc a)) in
-    let spawned : ℕ → List ℤ → (ℤ → Lists) → Lists = λ g' vs k'. either (trapped t l trace.threads) (any (λ n. emit (made l (trace.spawn n g' vs)) (k' (pos n)))) in
+    let spawned : ℕ → List ℤ → (ℤ → Lists) → Lists = λ g' vs k'. either (trap_lists t l trace.threads) (any (λ n. emit (made l (trace.spawn n g' vs)) (k' (pos n)))) in
     let at_spawn : (vs : List ℤ) → length vs ≡ length es → Meets b (straight c t l k (x ∷ rest) m (jumped (topped vs z) a)) (numbered (function_number t.program f) (λ g'. spawned g' vs more)) = λ vs e.
     meets_on b _ (spawned function.0 vs behind) _
     (meets_same b _ _ (
@@ -48,11 +48,11 @@ spawn_is b c t m l k at xs z f es rest more h function known goes_on =
     ∙ ap {B = Lists} (λ us. spawned g us behind) (taken_arguments (length es) vs z.values e)
     ∙ ap {B = Lists} (λ (g' : ℕ). spawned g' vs behind) found))
     (meets_on b _ (spawned function.0 vs more) _
-    (meets_either b _ _ _ _ (meets_itself b (trapped t l trace.threads))
+    (meets_either b _ _ _ _ (meets_itself b (trap_lists t l trace.threads))
     (meets_any b (λ (n : ℕ). emit (made l (trace.spawn n function.0 vs)) (behind (pos n))) (λ n. emit (made l (trace.spawn n function.0 vs)) (more (pos n))) (λ n.
     meets_emit b _ (behind (pos n)) (more (pos n)) (goes_on (pos n)))))
     (meets_same b _ _ (ap {B = Lists} (λ o. numbered o (λ g'. spawned g' vs more)) (sym function.1)))) in
-    meets_on b _ (arguments t l env es (λ vs. straight c t l k (x ∷ rest) m (jumped (topped vs z) a))) _
+    meets_on b _ (each_argument t l env es (λ vs. straight c t l k (x ∷ rest) m (jumped (topped vs z) a))) _
     (meets_same b _ _ (
     ap {B = Lists} (λ (k' : State → Lists). k' (jumped z at)) (straight_append c t l k before (x ∷ rest) m)
     ∙ arguments_are c t l k xs es (straight c t l k (x ∷ rest) m) z at h known))
@@ -62,17 +62,17 @@ spawn_is b c t m l k at xs z f es rest more h function known goes_on =
 
 write_cell_is : (c : Flow) (t : Thread) (l k : ℕ) (x : List ℕ) (a b : Operand) (next : State → Lists) (z : State) (n : ℕ) (v w : ℤ) → IsArray t.program x
     → straight c t l k (s.Ask (WriteCell (array_named t.program x) a b) ∷ []) next (jumped (left b w (left a v z)) n)
-    ≡ indexed t l (cells_named t.program x) (settled a z.locals v) (λ i. emit (made l (trace.write i (settled b z.locals w))) (next (jumped z (suc n))))
+    ≡ at_index t l (cells_named t.program x) (settled a z.locals v) (λ i. emit (made l (trace.write i (settled b z.locals w))) (next (jumped z (suc n))))
 write_cell_is c t l k x a b next z n v w h =
     ap {B = Lists} (λ cells. straight c t l k (s.Ask (WriteCell (array_of cells) a b) ∷ []) next (jumped (left b w (left a v z)) n)) h.2
     ∙ by a b
-    ∙ ap {B = Lists} (λ cells. indexed t l cells (settled a z.locals v) (λ i. emit (made l (trace.write i (settled b z.locals w))) (next (jumped z (suc n))))) (sym h.2)
+    ∙ ap {B = Lists} (λ cells. at_index t l cells (settled a z.locals v) (λ i. emit (made l (trace.write i (settled b z.locals w))) (next (jumped z (suc n))))) (sym h.2)
   where
     here : Option Cells
     here = Some (record { first = h.0; count = Some h.1 })
 
     by : (a' b' : Operand) → straight c t l k (s.Ask (WriteCell (array_of here) a' b') ∷ []) next (jumped (left b' w (left a' v z)) n)
-        ≡ indexed t l here (settled a' z.locals v) (λ i. emit (made l (trace.write i (settled b' z.locals w))) (next (jumped z (suc n))))
+        ≡ at_index t l here (settled a' z.locals v) (λ i. emit (made l (trace.write i (settled b' z.locals w))) (next (jumped z (suc n))))
     by operand.Top operand.Top = write_cell_gives c t next (jumped (left operand.Top w (left operand.Top v z)) n) (instr l k (s.Ask (WriteCell (array_of here) operand.Top operand.Top))) (array_of here) operand.Top operand.Top
     by operand.Top (operand.Local j) = write_cell_gives c t next (jumped (left (operand.Local j) w (left operand.Top v z)) n) (instr l k (s.Ask (WriteCell (array_of here) operand.Top (operand.Local j)))) (array_of here) operand.Top (operand.Local j)
     by operand.Top (operand.Number j) = write_cell_gives c t next (jumped (left (operand.Number j) w (left operand.Top v z)) n) (instr l k (s.Ask (WriteCell (array_of here) operand.Top (operand.Number j)))) (array_of here) operand.Top (operand.Number j)
@@ -87,7 +87,7 @@ pub meets_cell : (b : Bool) (c : Flow) (t : Thread) (m : State → Lists) (l k a
     → length xs ≤ length z.locals → IsArray t.program x → IsKnown t.program xs e → IsKnown t.program xs f
     → Meets b (m (jumped z (skip at (operand_steps t.program xs e ++ (operand_steps t.program xs f ++ s.Ask (WriteCell (array_named t.program x) (operand_of xs e) (operand_of xs f)) ∷ s.Control Done ∷ []))))) q
     → Meets b (straight c t l k (operand_steps t.program xs e ++ (operand_steps t.program xs f ++ s.Ask (WriteCell (array_named t.program x) (operand_of xs e) (operand_of xs f)) ∷ s.Control Done ∷ [])) m (jumped z at))
-    (expression t l (named xs z.locals) e (λ v. expression t l (named xs z.locals) f (λ w. indexed t l (cells_named t.program x) v (λ i. emit (made l (trace.write i w)) (emit (done l) q)))))
+    (expression t l (named xs z.locals) e (λ v. expression t l (named xs z.locals) f (λ w. at_index t l (cells_named t.program x) v (λ i. emit (made l (trace.write i w)) (emit (done l) q)))))
 meets_cell way c t m l k at x xs z e f q h array known_e known_f ends =
     let env : Locals = named xs z.locals in
     let a : Operand = operand_of xs e in
@@ -98,7 +98,7 @@ meets_cell way c t m l k at x xs z e f q h array known_e known_f ends =
     let behind : State → Lists = straight c t l k (s.Control Done ∷ []) m in
     let one : ℕ = skip at first in
     let two : ℕ = skip one second in
-    let cell : ℤ → ℤ → Lists → Lists = λ v w r. indexed t l (cells_named t.program x) v (λ i. emit (made l (trace.write i w)) r) in
+    let cell : ℤ → ℤ → Lists → Lists = λ v w r. at_index t l (cells_named t.program x) v (λ i. emit (made l (trace.write i w)) r) in
     let end : Meets way (m (jumped z (suc (suc two)))) q = subst (λ n. Meets way (m (jumped z n)) q) (skip_append at first (second ++ last) ∙ skip_append one second last) ends in
     meets_on way _ (expression t l env e (λ v. expression t l env f (λ w. cell v w (behind (jumped z (suc two)))))) _
     (meets_same way _ _ (

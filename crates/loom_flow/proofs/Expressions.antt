@@ -5,7 +5,7 @@ use Rattle.loom_tree.specs.declared.expression.Op.{Op}
 use Rattle.loom_tree.specs.Tree.{Expression, num, var, cell, neg, inverse, bin, Source}
 use Rattle.loom_lang.specs.Numbers.{index_of, Cells, cells_named}
 use Rattle.loom_lang.specs.Values.{negated, inverted}
-use Rattle.loom_lang.specs.Trace.{Lists, Thread, Locals, value_in, reading, reading_word, variable, indexed, operated, expression}
+use Rattle.loom_lang.specs.Trace.{Lists, Thread, Locals, value_in, reading, reading_word, variable, at_index, operated, expression}
 use Rattle.loom_flow.specs.declared.code.Operand.{Operand}
 use Rattle.loom_flow.specs.declared.code.Operand.TheVariants as operand
 use Rattle.loom_flow.specs.declared.code.Target.{Target}
@@ -130,17 +130,17 @@ apply_is c t l k d o (operand.Number i) (operand.Number m) next z n v w = apply_
 -- a cell is read where its array has a number
 read_cell_is : (c : Flow) (t : Thread) (l k : ℕ) (d : Target) (x : List ℕ) (a : Operand) (next : State → Lists) (z : State) (n : ℕ) (v : ℤ) → IsArray t.program x
     → straight c t l k (s.Ask (ReadCell (array_named t.program x) a d) ∷ []) next (jumped (left a v z) n)
-    ≡ indexed t l (cells_named t.program x) (settled a z.locals v) (λ w. reading l w (λ u. next (jumped (given z d u) (suc n))))
+    ≡ at_index t l (cells_named t.program x) (settled a z.locals v) (λ w. reading l w (λ u. next (jumped (given z d u) (suc n))))
 read_cell_is c t l k d x a next z n v h =
     ap {B = Lists} (λ cells. straight c t l k (s.Ask (ReadCell (array_of cells) a d) ∷ []) next (jumped (left a v z) n)) h.2
     ∙ by a
-    ∙ ap {B = Lists} (λ cells. indexed t l cells (settled a z.locals v) (λ w. reading l w (λ u. next (jumped (given z d u) (suc n))))) (sym h.2)
+    ∙ ap {B = Lists} (λ cells. at_index t l cells (settled a z.locals v) (λ w. reading l w (λ u. next (jumped (given z d u) (suc n))))) (sym h.2)
   where
     here : Option Cells
     here = Some (record { first = h.0; count = Some h.1 })
 
     by : (b : Operand) → straight c t l k (s.Ask (ReadCell (array_of here) b d) ∷ []) next (jumped (left b v z) n)
-        ≡ indexed t l here (settled b z.locals v) (λ w. reading l w (λ u. next (jumped (given z d u) (suc n))))
+        ≡ at_index t l here (settled b z.locals v) (λ w. reading l w (λ u. next (jumped (given z d u) (suc n))))
     by operand.Top = read_cell_gives c t next (jumped (left operand.Top v z) n) (instr l k (s.Ask (ReadCell (array_of here) operand.Top d))) (array_of here) operand.Top d
     by (operand.Local j) = read_cell_gives c t next (jumped (left (operand.Local j) v z) n) (instr l k (s.Ask (ReadCell (array_of here) (operand.Local j) d))) (array_of here) (operand.Local j) d
     by (operand.Number m) = read_cell_gives c t next (jumped (left (operand.Number m) v z) n) (instr l k (s.Ask (ReadCell (array_of here) (operand.Number m) d))) (array_of here) (operand.Number m) d
@@ -171,8 +171,8 @@ steps_are c t l k xs d (cell x i) next z at h g =
     ap {B = Lists} (λ (m : State → Lists). m (jumped z at)) (straight_append c t l k before last next)
     ∙ operand_are c t l k xs i (straight c t l k last next) z at h (steps_are c t l k xs target.Push i (straight c t l k last next) z at h g.1)
     ∙ ap {B = Lists} (λ (m : ℤ → Lists). expression t l env i m) (fun_ext (λ v. read_cell_is c t l k d x a next z (skip at before) v g.0))
-    ∙ sym (settled_is t l xs z.locals i (λ v. indexed t l (cells_named t.program x) v (λ w. reading l w (λ u. next (jumped (given z d u) (suc (skip at before)))))) h)
-    ∙ ap {B = Lists} (λ n. expression t l env i (λ v. indexed t l (cells_named t.program x) v (λ w. reading l w (λ u. next (jumped (given z d u) n))))) (sym (skip_append at before last))
+    ∙ sym (settled_is t l xs z.locals i (λ v. at_index t l (cells_named t.program x) v (λ w. reading l w (λ u. next (jumped (given z d u) (suc (skip at before)))))) h)
+    ∙ ap {B = Lists} (λ n. expression t l env i (λ v. at_index t l (cells_named t.program x) v (λ w. reading l w (λ u. next (jumped (given z d u) n))))) (sym (skip_append at before last))
 steps_are c t l k xs d (neg e) next z at h g =
     let env : Locals = named xs z.locals in
     let a : Operand = operand_of xs e in

@@ -16,7 +16,7 @@ use Rattle.loom_flow.specs.declared.code.Step.TheVariants as s
 use Rattle.loom_flow.specs.Flow.{Flow}
 use Rattle.loom_flow.specs.Depth.{depth_before, most_values}
 use Rattle.loom_flow.specs.Laws.{HasTraces, HasPlaces, HasInstructionPlaces, HasCalls, HasOperands, KeepsDepth}
-use Rattle.loom_flow.specs.FlatCode.{or_zero, calls_body, set_of, instr, place_count, size, body_code, functions_code}
+use Rattle.loom_flow.specs.FlatCode.{or_zero, calls_body, set_of, instr, place_count, size, flat_body, functions_code}
 use Rattle.loom_flow.specs.Code.{IsLowered}
 use Rattle.loom_flow.proofs.Places.{lowered_places, few_places}
 use Rattle.loom_flow.proofs.CallSets.{lowered_calls}
@@ -88,7 +88,7 @@ has_operands c h =
 some_functions : (p : Source) (fs : List Function) (x : List ℕ) (n at place : ℕ) → takes fs x n ≡ true → 0 < length (functions_code p at place fs)
 some_functions p [] x n at place h = cc
 some_functions p (f ∷ fs) x n at place h =
-    let body : List Instr = body_code p (locals_of f) at (suc place) f.body in
+    let body : List Instr = flat_body p (locals_of f) at (suc place) f.body in
     let rest : List Instr =
     instr f.line (suc place + place_count f.body) (s.Control Out) ∷ functions_code p (suc (at + size p (locals_of f) f.body)) (suc (suc (place + place_count f.body))) fs in
     let more : length (body ++ rest) ≡ length body + length rest = length-append body rest in

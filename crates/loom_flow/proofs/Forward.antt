@@ -13,7 +13,7 @@ use Rattle.loom_flow.specs.declared.code.Control.TheVariants.{Begin, Done, Edge,
 use Rattle.loom_flow.specs.declared.code.Instr.{Instr}
 use Rattle.loom_flow.specs.declared.code.Entrance.{Entrance}
 use Rattle.loom_flow.specs.Flow.{Flow, resume}
-use Rattle.loom_flow.specs.FlatCode.{or_zero, operand_of, operand_steps, argument_steps, call_steps, store_step, set_steps, simple_steps, resume_of, instr, instrs, size, place_count, body_code, body_sites, entrances, lowered}
+use Rattle.loom_flow.specs.FlatCode.{or_zero, operand_of, operand_steps, argument_steps, call_steps, store_step, set_steps, simple_steps, resume_of, instr, instrs, size, place_count, flat_body, body_sites, entrances, lowered}
 use Rattle.loom_flow.specs.Laws.{IsInFunction, HasStart, LeadsInto, JumpsForward, KeepsFunctions}
 use Rattle.loom_flow.proofs.Sublist.{Lies, lies_first, lies_second}
 use Rattle.loom_flow.proofs.Each.{all_append, Each, each_append, each_at, each_instrs, each_steps, same_element}
@@ -126,7 +126,7 @@ condition_leads Q c lo hi at l k to xs e q from ahead below =
     )
 
 body_leads : (Q : ℕ → Type 0) (c : Flow) (lo hi : ℕ) (xs : List (List ℕ)) → Inside Q lo hi → Starts c → (at k : ℕ) (a : Body) → lo ≤ at → at + size c.program xs a ≤ hi
-    → Lies c.sites k (body_sites c.program xs at a) → IsKnownBody c.program xs a → Each (LeadsAt Q c) at (body_code c.program xs at k a)
+    → Lies c.sites k (body_sites c.program xs at a) → IsKnownBody c.program xs a → Each (LeadsAt Q c) at (flat_body c.program xs at k a)
 body_leads Q c lo hi xs q starts at k end from to sites known = tt
 body_leads Q c lo hi xs q starts at k (simple l x rest) from to sites known =
     let steps : List Step = simple_steps c.program xs x in
@@ -152,11 +152,11 @@ body_leads Q c lo hi xs q starts at k (if_ l e a b rest) from to sites known =
     (lies_second c.sites (suc k + place_count a) (body_sites p xs second b) (body_sites p xs (suc last) rest) sites_from_b) in
     each_append (LeadsAt Q c) at first (instrs l k (s.Control Begin ∷ (before ++ jump ∷ []))) _ (ap (λ m. at + m) (condition_length l k before (s.Control Begin) jump))
     (condition_leads Q c lo hi at l k second xs e q from (omega arith) (omega (arith, to)))
-    (each_append (LeadsAt Q c) first (first + size p xs a) (body_code p xs first (suc k) a) _ (ap (λ m. first + m) (code_length p xs a first (suc k)))
+    (each_append (LeadsAt Q c) first (first + size p xs a) (flat_body p xs first (suc k) a) _ (ap (λ m. first + m) (code_length p xs a first (suc k)))
     (body_leads Q c lo hi xs q starts first (suc k) a (omega (arith, from)) (omega (arith, to)) sites_a known.1) (
       (q (suc (first + size p xs a)) (omega (arith, from)) (omega (arith, to)), omega arith, q last (omega (arith, from)) (omega (arith, to))),
-      subst (λ m. Each (LeadsAt Q c) m (body_code p xs second (suc k + place_count a) b ++ instr l k (s.Control Done) ∷ body_code p xs (suc last) (suc k + place_count a + place_count b) rest)) (omega arith)
-          (each_append (LeadsAt Q c) second last (body_code p xs second (suc k + place_count a) b) _ (ap (λ m. second + m) (code_length p xs b second (suc k + place_count a)))
+      subst (λ m. Each (LeadsAt Q c) m (flat_body p xs second (suc k + place_count a) b ++ instr l k (s.Control Done) ∷ flat_body p xs (suc last) (suc k + place_count a + place_count b) rest)) (omega arith)
+          (each_append (LeadsAt Q c) second last (flat_body p xs second (suc k + place_count a) b) _ (ap (λ m. second + m) (code_length p xs b second (suc k + place_count a)))
           (body_leads Q c lo hi xs q starts second (suc k + place_count a) b (omega (arith, from)) (omega (arith, to)) sites_b known.2) (
             q (suc last) (omega (arith, from)) (omega (arith, to)),
             body_leads Q c lo hi xs q starts (suc last) (suc k + place_count a + place_count b) rest (omega (arith, from)) (omega (arith, to)) sites_rest known.3,
@@ -180,12 +180,12 @@ body_leads Q c lo hi xs q starts at k (while_ l e a rest) from to sites known =
     (lies_second c.sites (suc (suc k)) (body_sites p xs place a) (body_sites p xs (suc (place + (1 + size p xs a))) rest) sites.1.1)) in
     each_append (LeadsAt Q c) at first (instrs l k (s.Control Begin ∷ (before ++ jump ∷ []))) _ (ap (λ m. at + m) (condition_length l k before (s.Control Begin) jump) ∙ same)
     (condition_leads Q c lo hi at l k last xs e q from (omega arith) (omega (arith, to)))
-    (each_append (LeadsAt Q c) first (first + size p xs a) (body_code p xs first (suc (suc k)) a) _ (ap (λ m. first + m) (code_length p xs a first (suc (suc k))))
+    (each_append (LeadsAt Q c) first (first + size p xs a) (flat_body p xs first (suc (suc k)) a) _ (ap (λ m. first + m) (code_length p xs a first (suc (suc k))))
     (body_leads Q c lo hi xs q starts first (suc (suc k)) a (omega (arith, from)) (omega (arith, to)) sites_a known.1) (
       (q (suc (first + size p xs a)) (omega (arith, from)) (omega (arith, to)), q head (omega (arith, from)) (omega (arith, to))),
       (
         q (suc (suc (first + size p xs a))) (omega (arith, from)) (omega (arith, to)),
-        subst (λ m. Each (LeadsAt Q c) m (body_code p xs (suc last) (suc (suc k) + place_count a) rest)) (omega arith)
+        subst (λ m. Each (LeadsAt Q c) m (flat_body p xs (suc last) (suc (suc k) + place_count a) rest)) (omega arith)
             (body_leads Q c lo hi xs q starts (suc last) (suc (suc k) + place_count a) rest (omega (arith, from)) (omega (arith, to)) sites_rest known.2),
       ),
     ))
@@ -228,7 +228,7 @@ function_leads p n g e l there has h =
     let c : Flow = lowered p in
     let hi : ℕ = e.start + size p (locals_of g) g.body in
     let inside : Inside (IsInFunction c n) e.start hi = λ m above under. record { entrance = e; there = has; from = above; before = omega (arith, h.behind, under) } in
-    each_append (LeadsAt (IsInFunction c n) c) e.start hi (body_code p (locals_of g) e.start (suc e.place) g.body) _
+    each_append (LeadsAt (IsInFunction c n) c) e.start hi (flat_body p (locals_of g) e.start (suc e.place) g.body) _
     (ap (λ m. e.start + m) (code_length p (locals_of g) g.body e.start (suc e.place)))
     (body_leads (IsInFunction c n) c e.start hi (locals_of g) inside (starts_of p) e.start (suc e.place) g.body (le_refl e.start) (le_refl hi) h.sites
     (body_known p (locals_of g) g.body l (lawful_at p p.funcs n g l.functions there).known))

@@ -4,15 +4,15 @@ use Rattle.std.proofs.lemmas.Bool.{lt-ltb}
 use Rattle.loom_tree.specs.Tree.{Function, Source}
 use Rattle.loom_lang.specs.Rules.{lets, locals_of}
 use Rattle.loom_lang.specs.Trace as trace
-use Rattle.loom_lang.specs.Trace.{Item, Outcome, Lists, Thread, Locals, Calls, made, enter, out, broken, emit, any, choice, trapped, body, bound, framed, calls_to, frame_limit, ended, IsTrace}
+use Rattle.loom_lang.specs.Trace.{Item, Outcome, Lists, Thread, Locals, Calls, made, enter, out, broken, emit, any, choice, trap_lists, body, bound, framed, calls_to, frame_limit, thread_end, IsTrace}
 use Rattle.loom_flow.specs.declared.code.Step.TheVariants as s
 use Rattle.loom_flow.specs.declared.code.Control.TheVariants.{Out}
 use Rattle.loom_flow.specs.declared.code.Entrance.{Entrance}
 use Rattle.loom_flow.specs.Flow.{Flow}
-use Rattle.loom_flow.specs.State.{frame_room, Frame, State, filled, frame_locals, named, names, locals_now, at_start}
+use Rattle.loom_flow.specs.State.{frame_room, Frame, State, filled, local_values, named, names, locals_now, at_start}
 use Rattle.loom_flow.specs.Progress.{enters}
 use Rattle.loom_flow.specs.FlatTrace.{progress_lists}
-use Rattle.loom_flow.specs.FlatCode.{instr, size, place_count, body_code, body_sites}
+use Rattle.loom_flow.specs.FlatCode.{instr, size, place_count, flat_body, body_sites}
 use Rattle.loom_flow.proofs.Relations.{Within, Meets, meets_itself, meets_same, meets_on, meets_emit}
 use Rattle.loom_flow.proofs.Steps.{by_states, returned, entered}
 use Rattle.loom_flow.proofs.Sublist.{Lies}
@@ -42,7 +42,7 @@ named_frame (suc n) (x ∷ xs) ys (v ∷ vs) h = ap (λ (env : Locals). (x, v) �
 pub record IsPlaced (c : Flow) (g : Function) (e : Entrance) : Type 0 where
   pub params : e.params ≡ length g.params
   pub few : length (locals_of g) ≤ frame_room
-  pub code : Lies c.code e.start (body_code c.program (locals_of g) e.start (suc e.place) g.body)
+  pub code : Lies c.code e.start (flat_body c.program (locals_of g) e.start (suc e.place) g.body)
   pub last : slice_get c.code (e.start + size c.program (locals_of g) g.body) ≡ Some (instr g.line (suc e.place + place_count g.body) (s.Control Out))
   pub sites : Lies c.sites (suc e.place) (body_sites c.program (locals_of g) e.start g.body)
   pub known : IsKnownBody c.program (locals_of g) g.body
@@ -54,13 +54,13 @@ IsFunctionPlaced c (Some g) o = (e : Entrance) × (o ≡ Some e) × IsPlaced c g
 abbrev pub ArePlaced : Flow → Type 0
 ArePlaced c = (f : ℕ) → IsFunctionPlaced c (slice_get c.program.funcs f) (slice_get c.entrances f)
 
-frame_named : (c : Flow) (g : Function) (e : Entrance) (vs : List ℤ) → IsPlaced c g e → named (locals_of g) (frame_locals e vs) ≡ trace.frame_locals g vs
+frame_named : (c : Flow) (g : Function) (e : Entrance) (vs : List ℤ) → IsPlaced c g e → named (locals_of g) (local_values e vs) ≡ trace.frame_locals g vs
 frame_named c g e vs h =
     let few : length (locals_of g) ≤ frame_room = h.few in
     let is : length (locals_of g) ≡ length g.params + length (lets g.body) = length-append g.params (lets g.body) in
     ap (λ n. named (locals_of g) (filled frame_room (filled n vs))) h.params ∙ named_frame frame_room g.params (lets g.body) vs (omega arith)
 
-frame_length : (c : Flow) (g : Function) (e : Entrance) (vs : List ℤ) → IsPlaced c g e → length (locals_of g) ≤ length (frame_locals e vs)
+frame_length : (c : Flow) (g : Function) (e : Entrance) (vs : List ℤ) → IsPlaced c g e → length (locals_of g) ≤ length (local_values e vs)
 frame_length c g e vs h = subst (λ n. length (locals_of g) ≤ n) (sym (filled_length frame_room (filled e.params vs))) h.few
 
 -- A frame from its entrance on
@@ -70,7 +70,7 @@ abbrev pub starts : Flow → Thread → (State → Lists) → ℕ → State → 
 starts c t m f z = progress_lists t (by_states c t m) (enters c f z)
 
 enter_named : (c : Flow) (f : ℕ) (g : Function) (e : Entrance) (vs ws : List ℤ) (below : List Frame) → slice_get c.program.funcs f ≡ Some g → IsPlaced c g e → locals_now c (at_start f e vs ws below) ≡ trace.frame_locals g vs
-enter_named c f g e vs ws below found placed = ap (λ o. named (names o) (frame_locals e vs)) found ∙ frame_named c g e vs placed
+enter_named c f g e vs ws below found placed = ap (λ o. named (names o) (local_values e vs)) found ∙ frame_named c g e vs placed
 
 frame_meets : (b : Bool) (c : Flow) (t : Thread) (m : ℕ → State → Lists) → Runner b c t m → t.program ≡ c.program → (most n : ℕ) → n ≤ most → (calls : Calls) (f : ℕ) (g : Function) (e : Entrance) (vs ws : List ℤ) (below : List Frame) (more : ℤ → Lists)
     → slice_get c.program.funcs f ≡ Some g → IsPlaced c g e
@@ -80,7 +80,7 @@ frame_meets : (b : Bool) (c : Flow) (t : Thread) (m : ℕ → State → Lists) �
 frame_meets b c t m runner same most n le calls f g e vs ws below more found placed meets returns =
     let z : State = at_start f e vs ws below in
     let xs : List (List ℕ) = locals_of g in
-    let code : Lies c.code e.start (body_code t.program xs e.start (suc e.place) g.body) = subst (λ (p : Source). Lies c.code e.start (body_code p xs e.start (suc e.place) g.body)) (sym same) placed.code in
+    let code : Lies c.code e.start (flat_body t.program xs e.start (suc e.place) g.body) = subst (λ (p : Source). Lies c.code e.start (flat_body p xs e.start (suc e.place) g.body)) (sym same) placed.code in
     let sites : Lies c.sites (suc e.place) (body_sites t.program xs e.start g.body) = subst (λ (p : Source). Lies c.sites (suc e.place) (body_sites p xs e.start g.body)) (sym same) placed.sites in
     let known : IsKnownBody t.program xs g.body = subst (λ (p : Source). IsKnownBody p xs g.body) (sym same) placed.known in
     let last : slice_get c.code (e.start + size t.program xs g.body) ≡ Some (instr g.line (suc e.place + place_count g.body) (s.Control Out)) =
@@ -102,10 +102,10 @@ frame_meets b c t m runner same most n le calls f g e vs ws below more found pla
 calls_meet : (b : Bool) (c : Flow) (t : Thread) (m : ℕ → State → Lists) → Runner b c t m → t.program ≡ c.program → ArePlaced c → (most : ℕ) (d n : ℕ) → n ≤ most → (depth : ℕ) → suc depth + d ≡ frame_limit
     → CallsMeet b c t m n depth (calls_to t most d)
 calls_meet b c t m runner same placed most zero n le depth full z i f vs more deep resumes =
-    meets_same b _ _ (ap {B = Lists} (λ q. choice q (entered c t (m n) z i f vs (slice_get c.entrances f)) (trapped t i.line trace.frames)) (ap (λ q. nat_lt q frame_limit) (ap suc deep ∙ (let e : suc depth ≡ frame_limit = omega (arith, full) in e))))
+    meets_same b _ _ (ap {B = Lists} (λ q. choice q (entered c t (m n) z i f vs (slice_get c.entrances f)) (trap_lists t i.line trace.frames)) (ap (λ q. nat_lt q frame_limit) (ap suc deep ∙ (let e : suc depth ≡ frame_limit = omega (arith, full) in e))))
 calls_meet b c t m runner same placed most (suc d) n le depth full z i f vs more deep resumes =
     meets_on b _ (entered c t (m n) z i f vs (slice_get c.entrances f)) _
-    (meets_same b _ _ (ap {B = Lists} (λ q. choice q (entered c t (m n) z i f vs (slice_get c.entrances f)) (trapped t i.line trace.frames)) (lt-ltb (suc (length z.below)) frame_limit (omega (arith, full, deep)))))
+    (meets_same b _ _ (ap {B = Lists} (λ q. choice q (entered c t (m n) z i f vs (slice_get c.entrances f)) (trap_lists t i.line trace.frames)) (lt-ltb (suc (length z.below)) frame_limit (omega (arith, full, deep)))))
     (meets_on b _ (framed t (calls_to t most d) most f vs more (slice_get c.program.funcs f)) _
     (by (λ j under. calls_meet b c t m runner same placed most d j (omega (arith, under, le)) (suc (length z.below)) (omega (arith, full, deep))) (slice_get c.program.funcs f) refl (slice_get c.entrances f) (placed f))
     (meets_same b _ _ (ap {B = Lists} (λ (p : Source). framed t (calls_to t most d) most f vs more (slice_get p.funcs f)) (sym same))))

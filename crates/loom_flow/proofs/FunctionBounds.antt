@@ -9,7 +9,7 @@ use Rattle.loom_flow.specs.declared.code.Control.TheVariants.{Out}
 use Rattle.loom_flow.specs.declared.code.Instr.{Instr}
 use Rattle.loom_flow.specs.declared.code.Entrance.{Entrance}
 use Rattle.loom_flow.specs.Flow.{Flow}
-use Rattle.loom_flow.specs.FlatCode.{instr, size, place_count, body_code, body_sites, site, functions_code, functions_sites, entrances, lowered}
+use Rattle.loom_flow.specs.FlatCode.{instr, size, place_count, flat_body, body_sites, site, functions_code, functions_sites, entrances, lowered}
 use Rattle.loom_flow.specs.Laws.{start_or, IsInFunction}
 use Rattle.loom_flow.proofs.Sublist.{Lies, lies_first, lies_second, lies_behind, lies_whole}
 use Rattle.loom_flow.proofs.Each.{same_element}
@@ -17,7 +17,7 @@ use Rattle.loom_flow.proofs.Sizes.{code_length, sites_length}
 
 -- the code of a function, with what stands behind its last statement
 abbrev pub function_code : Source → ℕ → ℕ → Function → List Instr
-function_code p at place g = body_code p (locals_of g) at (suc place) g.body ++ instr g.line (suc place + place_count g.body) (s.Control Out) ∷ []
+function_code p at place g = flat_body p (locals_of g) at (suc place) g.body ++ instr g.line (suc place + place_count g.body) (s.Control Out) ∷ []
 
 -- Function `n` stands from its entrance to that of the next one.
 pub record Stands (c : Flow) (n : ℕ) (g : Function) (e : Entrance) (next : Option Entrance) : Type 0 where
@@ -29,13 +29,13 @@ pub record Stands (c : Flow) (n : ℕ) (g : Function) (e : Entrance) (next : Opt
 
 pub function_length : (p : Source) (at place : ℕ) (g : Function) → length (function_code p at place g) ≡ suc (size p (locals_of g) g.body)
 function_length p at place g =
-    let e : length (body_code p (locals_of g) at (suc place) g.body) ≡ size p (locals_of g) g.body = code_length p (locals_of g) g.body at (suc place) in
-    length-append (body_code p (locals_of g) at (suc place) g.body) _ ∙ omega arith
+    let e : length (flat_body p (locals_of g) at (suc place) g.body) ≡ size p (locals_of g) g.body = code_length p (locals_of g) g.body at (suc place) in
+    length-append (flat_body p (locals_of g) at (suc place) g.body) _ ∙ omega arith
 
 -- with the functions behind it
 function_first : (p : Source) (at place : ℕ) (g : Function) (gs : List Function)
     → functions_code p at place (g ∷ gs) ≡ function_code p at place g ++ functions_code p (suc (at + size p (locals_of g) g.body)) (suc (suc (place + place_count g.body))) gs
-function_first p at place g gs = sym (append_assoc (body_code p (locals_of g) at (suc place) g.body) (instr g.line (suc place + place_count g.body) (s.Control Out) ∷ []) _)
+function_first p at place g gs = sym (append_assoc (flat_body p (locals_of g) at (suc place) g.body) (instr g.line (suc place + place_count g.body) (s.Control Out) ∷ []) _)
 
 places_first : (n : ℕ) (g : Function) (gs : List Function) → places_from n (g ∷ gs) ≡ (entry n ∷ (body_places g.body ++ out n ∷ [])) ++ places_from (suc n) gs
 places_first n g gs = ap (λ (ps : List Place). entry n ∷ ps) (sym (append_assoc (body_places g.body) (out n ∷ []) (places_from (suc n) gs)))

@@ -8,28 +8,28 @@ use Rattle.loom_flow.specs.declared.code.Site.{Site}
 use Rattle.loom_flow.specs.declared.code.Entrance.{Entrance}
 use Rattle.loom_flow.specs.declared.code.Step.TheVariants as s
 use Rattle.loom_flow.specs.declared.code.Control.TheVariants.{Out}
-use Rattle.loom_flow.specs.FlatCode.{instr, site, size, place_count, body_code, body_sites, functions_code, functions_sites, entrances, calls_body, set_of, lowered, site_limit}
+use Rattle.loom_flow.specs.FlatCode.{instr, site, size, place_count, flat_body, body_sites, functions_code, functions_sites, entrances, calls_body, set_of, lowered, site_limit}
 use Rattle.loom_flow.proofs.Sizes.{code_length, sites_length}
 use Rattle.loom_flow.proofs.FlowLaws.{few_sites}
 
 pub function_code : (p : Source) (names known : List (List ℕ)) (l at place first last : ℕ) (b : Body) (old ran new : List Instr) →
     names ≡ known →
-    ran ≡ old ++ body_code p names at first b →
+    ran ≡ old ++ flat_body p names at first b →
     first ≡ suc place →
     new ≡ ran ++ instr l last (s.Control Out) ∷ [] →
     last ≡ suc place + place_count b →
-    new ≡ old ++ (body_code p known at (suc place) b ++ instr l (suc place + place_count b) (s.Control Out) ∷ [])
+    new ≡ old ++ (flat_body p known at (suc place) b ++ instr l (suc place + place_count b) (s.Control Out) ∷ [])
 function_code p names known l at place first last b old ran new h1 h2 h3 h4 h5 =
     h4
-    ∙ ap (λ z. z ++ instr l last (s.Control Out) ∷ []) (h2 ∙ ap (λ z. old ++ body_code p z at first b) h1 ∙ ap (λ n. old ++ body_code p known at n b) h3)
-    ∙ append_assoc old (body_code p known at (suc place) b) (instr l last (s.Control Out) ∷ [])
-    ∙ ap (λ n. old ++ (body_code p known at (suc place) b ++ instr l n (s.Control Out) ∷ [])) h5
+    ∙ ap (λ z. z ++ instr l last (s.Control Out) ∷ []) (h2 ∙ ap (λ z. old ++ flat_body p z at first b) h1 ∙ ap (λ n. old ++ flat_body p known at n b) h3)
+    ∙ append_assoc old (flat_body p known at (suc place) b) (instr l last (s.Control Out) ∷ [])
+    ∙ ap (λ n. old ++ (flat_body p known at (suc place) b ++ instr l n (s.Control Out) ∷ [])) h5
 
 -- one function after another
 
 one_code_long : (p : Source) (at place : ℕ) (f : Function) → length (functions_code p at place (f ∷ [])) ≡ suc (size p (locals_of f) f.body)
 one_code_long p at place f =
-    let whole = length-append (body_code p (locals_of f) at (suc place) f.body) (instr f.line (suc place + place_count f.body) (s.Control Out) ∷ []) in
+    let whole = length-append (flat_body p (locals_of f) at (suc place) f.body) (instr f.line (suc place + place_count f.body) (s.Control Out) ∷ []) in
     let many = code_length p (locals_of f) f.body at (suc place) in
     omega arith
 
@@ -60,7 +60,7 @@ pub functions_code_step : (p : Source) (f : Function) (all fs : List Function) (
 functions_code_step p f all fs code more sites sites' e h g =
     let at : ℕ = suc (length code + size p (locals_of f) f.body) in
     let place : ℕ = suc (suc (length sites + place_count f.body)) in
-    let body : List Instr = body_code p (locals_of f) (length code) (suc (length sites)) f.body in
+    let body : List Instr = flat_body p (locals_of f) (length code) (suc (length sites)) f.body in
     let out : Instr = instr f.line (suc (length sites) + place_count f.body) (s.Control Out) in
     ap (λ z. z ++ functions_code p (length more) (length sites') fs) h
     ∙ ap (λ z. (code ++ (body ++ out ∷ [])) ++ z) (moved_functions p fs _ at _ place (code_on p f code more (length sites) h) (sites_on p f (length code) sites sites' g))

@@ -8,7 +8,7 @@ use Rattle.loom_flow.specs.declared.code.Step.TheVariants as s
 use Rattle.loom_flow.specs.declared.code.Control.TheVariants.{Begin, Done, Edge, JumpIfZero, Out}
 use Rattle.loom_flow.specs.declared.code.Instr.{Instr}
 use Rattle.loom_flow.specs.declared.code.Entrance.{Entrance}
-use Rattle.loom_flow.specs.FlatCode.{operand_of, operand_steps, simple_steps, instr, instrs, size, place_count, body_code, entrances, lowered}
+use Rattle.loom_flow.specs.FlatCode.{operand_of, operand_steps, simple_steps, instr, instrs, size, place_count, flat_body, entrances, lowered}
 use Rattle.loom_flow.specs.Laws.{IsInFunction, place_of, HasInstructionPlaces}
 use Rattle.loom_flow.proofs.Sublist.{Lies, lies_first, lies_second}
 use Rattle.loom_flow.proofs.Each.{AllOf, all_append, Each, each_append, each_at}
@@ -51,7 +51,7 @@ condition_located p n at l k to xs e h =
     steps_located p n at l k (s.Control Begin ∷ (operand_steps p xs e ++ s.Control (JumpIfZero (operand_of xs e) to) ∷ []))
     ((h, refl), all_append (IsAt p n l k) (operand_steps p xs e) (s.Control (JumpIfZero (operand_of xs e) to) ∷ []) (operand_all (IsAt p n l k) (plain_located p n l k h) p xs e) ((h, refl), tt))
 
-body_located : (p : Source) (n : ℕ) (xs : List (List ℕ)) (at k : ℕ) (a : Body) → Lies (places p) k (body_places a) → Each (Located p n) at (body_code p xs at k a)
+body_located : (p : Source) (n : ℕ) (xs : List (List ℕ)) (at k : ℕ) (a : Body) → Lies (places p) k (body_places a) → Each (Located p n) at (flat_body p xs at k a)
 body_located p n xs at k end h = tt
 body_located p n xs at k (simple l x rest) h =
     each_append (Located p n) at (at + length (simple_steps p xs x)) (instrs l k (simple_steps p xs x)) _ (ap (λ m. at + m) (instrs_length l k (simple_steps p xs x)))
@@ -69,11 +69,11 @@ body_located p n xs at k (if_ l e a b rest) h =
     let places_rest : Lies (places p) (suc k + place_count a + place_count b) (body_places rest) = lies_second (places p) (suc k + place_count a) (body_places b) (body_places rest) places_from_b in
     each_append (Located p n) at first head _ (ap (λ m. at + m) (condition_length l k before (s.Control Begin) (s.Control (JumpIfZero (operand_of xs e) second))))
     (condition_located p n at l k second xs e h.0)
-    (each_append (Located p n) first (first + size p xs a) (body_code p xs first (suc k) a) _ (ap (λ m. first + m) (code_length p xs a first (suc k)))
+    (each_append (Located p n) first (first + size p xs a) (flat_body p xs first (suc k) a) _ (ap (λ m. first + m) (code_length p xs a first (suc k)))
     (body_located p n xs first (suc k) a places_a) (
       (h.0, refl),
-      subst (λ m. Each (Located p n) m (body_code p xs second (suc k + place_count a) b ++ instr l k (s.Control Done) ∷ body_code p xs (suc last) (suc k + place_count a + place_count b) rest)) (omega arith)
-          (each_append (Located p n) second last (body_code p xs second (suc k + place_count a) b) _ (ap (λ m. second + m) (code_length p xs b second (suc k + place_count a)))
+      subst (λ m. Each (Located p n) m (flat_body p xs second (suc k + place_count a) b ++ instr l k (s.Control Done) ∷ flat_body p xs (suc last) (suc k + place_count a + place_count b) rest)) (omega arith)
+          (each_append (Located p n) second last (flat_body p xs second (suc k + place_count a) b) _ (ap (λ m. second + m) (code_length p xs b second (suc k + place_count a)))
           (body_located p n xs second (suc k + place_count a) b places_b)
           ((h.0, refl), body_located p n xs (suc last) (suc k + place_count a + place_count b) rest places_rest)),
     ))
@@ -86,12 +86,12 @@ body_located p n xs at k (while_ l e a rest) h =
     let places_rest : Lies (places p) (suc (suc k) + place_count a) (body_places rest) = lies_second (places p) (suc (suc k)) (body_places a) (body_places rest) h.1.1 in
     each_append (Located p n) at first head _ (ap (λ m. at + m) (condition_length l k before (s.Control Begin) (s.Control (JumpIfZero (operand_of xs e) last))) ∙ omega arith)
     (condition_located p n at l k last xs e h.0)
-    (each_append (Located p n) first (first + size p xs a) (body_code p xs first (suc (suc k)) a) _ (ap (λ m. first + m) (code_length p xs a first (suc (suc k))))
+    (each_append (Located p n) first (first + size p xs a) (flat_body p xs first (suc (suc k)) a) _ (ap (λ m. first + m) (code_length p xs a first (suc (suc k))))
     (body_located p n xs first (suc (suc k)) a places_a) (
       (h.1.0, refl),
       (
         (h.0, refl),
-        subst (λ m. Each (Located p n) m (body_code p xs (suc last) (suc (suc k) + place_count a) rest)) (omega arith)
+        subst (λ m. Each (Located p n) m (flat_body p xs (suc last) (suc (suc k) + place_count a) rest)) (omega arith)
             (body_located p n xs (suc last) (suc (suc k) + place_count a) rest places_rest),
       ),
     ))
@@ -100,7 +100,7 @@ body_located p n xs at k (while_ l e a rest) h =
 
 function_located : (p : Source) (n : ℕ) (g : Function) (e : Entrance) (next : Option Entrance) → slice_get p.funcs n ≡ Some g → Stands (lowered p) n g e next → Each (Located p n) e.start (function_code p e.start e.place g)
 function_located p n g e next there h =
-    each_append (Located p n) e.start (e.start + size p (locals_of g) g.body) (body_code p (locals_of g) e.start (suc e.place) g.body) _
+    each_append (Located p n) e.start (e.start + size p (locals_of g) g.body) (flat_body p (locals_of g) e.start (suc e.place) g.body) _
     (ap (λ m. e.start + m) (code_length p (locals_of g) g.body e.start (suc e.place)))
     (body_located p n (locals_of g) e.start (suc e.place) g.body (lies_first (places p) (suc e.place) (body_places g.body) (out n ∷ []) h.places.1))
     (((lies_second (places p) (suc e.place) (body_places g.body) (out n ∷ []) h.places.1).0, ap line_of_function there), tt)

@@ -7,7 +7,7 @@ use Rattle.loom_flow.specs.declared.code.Instr.{Instr}
 use Rattle.loom_flow.specs.declared.code.Step.{Step}
 use Rattle.loom_flow.specs.declared.code.Step.TheVariants as s
 use Rattle.loom_flow.specs.declared.code.Control.TheVariants.{Begin, Done, Edge, Jump, JumpIfZero}
-use Rattle.loom_flow.specs.FlatCode.{operand_of, operand_steps, instr, instrs, size, place_count, body_code}
+use Rattle.loom_flow.specs.FlatCode.{operand_of, operand_steps, instr, instrs, size, place_count, flat_body}
 use Rattle.loom_flow.proofs.Sizes.{instrs_append, instrs_length, code_length}
 use Rattle.loom_flow.proofs.Bodies.{moved_code}
 
@@ -68,8 +68,8 @@ at_front l place at steps begun h =
 pub pushed : {A : Type 0} (xs ys : List A) (x : A) → ys ≡ xs ++ x ∷ [] → length ys ≡ length xs + 1
 pushed xs ys x h = ap length h ∙ length-append xs (x ∷ [])
 
-behind_code : (p : Source) (names : List (List ℕ)) (b : Body) (n place : ℕ) (xs ys : List Instr) → ys ≡ xs ++ body_code p names n place b → length ys ≡ length xs + size p names b
-behind_code p names b n place xs ys h = ap length h ∙ length-append xs (body_code p names n place b) ∙ ap (λ m. length xs + m) (code_length p names b n place)
+behind_code : (p : Source) (names : List (List ℕ)) (b : Body) (n place : ℕ) (xs ys : List Instr) → ys ≡ xs ++ flat_body p names n place b → length ys ≡ length xs + size p names b
+behind_code p names b n place xs ys h = ap length h ∙ length-append xs (flat_body p names n place b) ∙ ap (λ m. length xs + m) (code_length p names b n place)
 
 -- how long the code is behind the test, and behind a target that was put in
 pub tested_long : (l place : ℕ) (steps : List Step) (x : Step) (old begun tested : List Instr) → begun ≡ old ++ instr l place (s.Control Begin) ∷ [] → tested ≡ begun ++ instrs l place (steps ++ x ∷ []) → length tested ≡ length old + (2 + length steps)
@@ -78,7 +78,7 @@ tested_long l place steps x old begun tested h1 h2 =
     let is = front_length l place steps old begun h1 in
     omega arith
 
-pub aimed_long : (p : Source) (names : List (List ℕ)) (a : Body) (n place at : ℕ) (x y : Instr) (tested ran jumps aimed : List Instr) → ran ≡ tested ++ body_code p names n place a → jumps ≡ ran ++ y ∷ [] → aimed ≡ slice_set jumps at x → length aimed ≡ length tested + (size p names a + 1)
+pub aimed_long : (p : Source) (names : List (List ℕ)) (a : Body) (n place at : ℕ) (x y : Instr) (tested ran jumps aimed : List Instr) → ran ≡ tested ++ flat_body p names n place a → jumps ≡ ran ++ y ∷ [] → aimed ≡ slice_set jumps at x → length aimed ≡ length tested + (size p names a + 1)
 aimed_long p names a n place at x y tested ran jumps aimed h1 h2 h3 =
     let one = behind_code p names a n place tested ran h1 in
     let two = pushed ran jumps y h2 in
@@ -99,18 +99,18 @@ pub if_code : (p : Source) (names : List (List ℕ)) (l place : ℕ) (e : Expres
     tested ≡ begun ++ instrs l place (operand_steps p names e ++ s.Control (JumpIfZero (operand_of names e) 0) ∷ []) →
     at ≡ length begun + length (operand_steps p names e) →
     o ≡ operand_of names e →
-    ran ≡ tested ++ body_code p names (length tested) first_place a →
+    ran ≡ tested ++ flat_body p names (length tested) first_place a →
     over ≡ length ran →
     jumps ≡ ran ++ instr l place (s.Control (Jump 0)) ∷ [] →
     second ≡ length jumps →
     aimed ≡ slice_set jumps at (instr l place (s.Control (JumpIfZero o second))) →
-    otherwise ≡ aimed ++ body_code p names (length aimed) second_place b →
+    otherwise ≡ aimed ++ flat_body p names (length aimed) second_place b →
     done ≡ length otherwise →
     over_it ≡ slice_set otherwise over (instr l place (s.Control (Jump done))) →
     new ≡ over_it ++ instr l place (s.Control Done) ∷ [] →
     first_place ≡ suc place →
     second_place ≡ suc place + place_count a →
-    new ≡ old ++ body_code p names (length old) place (if_ l e a b end)
+    new ≡ old ++ flat_body p names (length old) place (if_ l e a b end)
 if_code p names l place e a b o at over second done first_place second_place old begun tested ran jumps aimed otherwise over_it new h1 h2 h3 h4 h5 h6 h7 h8 h9 h10 h11 h12 h13 h14 h15 =
     let steps : List Step = operand_steps p names e in
     let jump : ℕ → Instr = λ (n : ℕ). instr l place (s.Control (JumpIfZero (operand_of names e) n)) in
@@ -118,8 +118,8 @@ if_code p names l place e a b o at over second done first_place second_place old
     let front : List Instr = begun ++ instrs l place steps in
     let first : ℕ = length old + (2 + length steps) in
     let next : ℕ = first + (1 + size p names a) in
-    let cs : List Instr = body_code p names first (suc place) a in
-    let bs : List Instr = body_code p names next (suc place + place_count a) b in
+    let cs : List Instr = flat_body p names first (suc place) a in
+    let bs : List Instr = flat_body p names next (suc place + place_count a) b in
     let tested_is : tested ≡ front ++ jump 0 ∷ [] = tested_front l place steps (s.Control (JumpIfZero (operand_of names e) 0)) begun tested h2 in
     let front_is : length front ≡ length old + (1 + length steps) = front_length l place steps old begun h1 in
     let tested_long : length tested ≡ length front + 1 = pushed front tested (jump 0) tested_is in
@@ -153,20 +153,20 @@ pub while_code : (p : Source) (names : List (List ℕ)) (l place : ℕ) (e : Exp
     tested ≡ begun ++ instrs l place (operand_steps p names e ++ s.Control (JumpIfZero (operand_of names e) 0) ∷ []) →
     at ≡ length begun + length (operand_steps p names e) →
     o ≡ operand_of names e →
-    ran ≡ tested ++ body_code p names (length tested) first_place a →
+    ran ≡ tested ++ flat_body p names (length tested) first_place a →
     jumps ≡ ran ++ instr l (suc place) (s.Control (Edge head)) ∷ [] →
     done ≡ length jumps →
     aimed ≡ slice_set jumps at (instr l place (s.Control (JumpIfZero o done))) →
     new ≡ aimed ++ instr l place (s.Control Done) ∷ [] →
     first_place ≡ suc (suc place) →
-    new ≡ old ++ body_code p names (length old) place (while_ l e a end)
+    new ≡ old ++ flat_body p names (length old) place (while_ l e a end)
 while_code p names l place e a o head at done first_place old begun tested ran jumps aimed new h1 h2 h3 h4 h5 h6 h7 h8 h9 h10 h11 =
     let steps : List Step = operand_steps p names e in
     let jump : ℕ → Instr = λ (n : ℕ). instr l place (s.Control (JumpIfZero (operand_of names e) n)) in
     let back : ℕ → Instr = λ (n : ℕ). instr l (suc place) (s.Control (Edge n)) in
     let front : List Instr = begun ++ instrs l place steps in
     let first : ℕ = length old + 1 + (1 + length steps) in
-    let cs : List Instr = body_code p names first (suc (suc place)) a in
+    let cs : List Instr = flat_body p names first (suc (suc place)) a in
     let tested_is : tested ≡ front ++ jump 0 ∷ [] = tested_front l place steps (s.Control (JumpIfZero (operand_of names e) 0)) begun tested h3 in
     let front_is : length front ≡ length old + (1 + length steps) = front_length l place steps old begun h1 in
     let tested_long : length tested ≡ length front + 1 = pushed front tested (jump 0) tested_is in

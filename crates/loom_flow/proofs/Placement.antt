@@ -7,7 +7,7 @@ use Rattle.loom_flow.specs.declared.code.Control.TheVariants.{Out}
 use Rattle.loom_flow.specs.declared.code.Instr.{Instr}
 use Rattle.loom_flow.specs.declared.code.Site.{Site}
 use Rattle.loom_flow.specs.Flow.{Flow}
-use Rattle.loom_flow.specs.FlatCode.{instr, size, place_count, body_code, body_sites, site, functions_code, functions_sites, entrances, lowered}
+use Rattle.loom_flow.specs.FlatCode.{instr, size, place_count, flat_body, body_sites, site, functions_code, functions_sites, entrances, lowered}
 use Rattle.loom_flow.proofs.Sublist.{Lies, lies_first, lies_second, lies_behind, lies_whole}
 use Rattle.loom_flow.proofs.Sizes.{code_length, sites_length}
 use Rattle.loom_flow.proofs.Roles.{body_known}
@@ -22,13 +22,13 @@ placed_from c (g ∷ gs) at place l ls code sites zero =
     let p : Source = c.program in
     let xs : List (List ℕ) = locals_of g in
     let rest : List Instr = instr g.line (suc place + place_count g.body) (s.Control Out) ∷ functions_code p (suc (at + size p xs g.body)) (suc (suc (place + place_count g.body))) gs in
-    let last : Lies c.code (at + length (body_code p xs at (suc place) g.body)) rest = lies_second c.code at (body_code p xs at (suc place) g.body) rest code in (
+    let last : Lies c.code (at + length (flat_body p xs at (suc place) g.body)) rest = lies_second c.code at (flat_body p xs at (suc place) g.body) rest code in (
       record { start = at; place = place; params = length g.params },
       refl,
       record {
         params = refl;
         few = ls.0.locals;
-        code = lies_first c.code at (body_code p xs at (suc place) g.body) rest code;
+        code = lies_first c.code at (flat_body p xs at (suc place) g.body) rest code;
         last = ap (λ n. slice_get c.code (at + n)) (sym (code_length p xs g.body at (suc place))) ∙ last.0;
         sites = lies_first c.sites (suc place) (body_sites p xs at g.body) (site g.line None ∷ functions_sites p (suc (at + size p xs g.body)) gs) sites.1;
         known = body_known p xs g.body l ls.0.known;
@@ -41,11 +41,11 @@ placed_from c (g ∷ gs) at place l ls code sites (suc f) =
     let later : ℕ = suc (suc (place + place_count g.body)) in
     let more : List Instr = functions_code p next later gs in
     let others : List Site = functions_sites p next gs in
-    let code_last : Lies c.code (at + length (body_code p xs at (suc place) g.body)) (instr g.line (suc place + place_count g.body) (s.Control Out) ∷ more) =
-    lies_second c.code at (body_code p xs at (suc place) g.body) (instr g.line (suc place + place_count g.body) (s.Control Out) ∷ more) code in
+    let code_last : Lies c.code (at + length (flat_body p xs at (suc place) g.body)) (instr g.line (suc place + place_count g.body) (s.Control Out) ∷ more) =
+    lies_second c.code at (flat_body p xs at (suc place) g.body) (instr g.line (suc place + place_count g.body) (s.Control Out) ∷ more) code in
     let sites_last : Lies c.sites (suc place + length (body_sites p xs at g.body)) (site g.line None ∷ others) =
     lies_second c.sites (suc place) (body_sites p xs at g.body) (site g.line None ∷ others) sites.1 in
-    let code_length_is : length (body_code p xs at (suc place) g.body) ≡ size p xs g.body = code_length p xs g.body at (suc place) in
+    let code_length_is : length (flat_body p xs at (suc place) g.body) ≡ size p xs g.body = code_length p xs g.body at (suc place) in
     let sites_length_is : length (body_sites p xs at g.body) ≡ place_count g.body = sites_length p xs g.body at in
     placed_from c gs next later l ls.1
     (subst (λ n. Lies c.code n more) (omega arith) code_last.1)

@@ -4,7 +4,7 @@ use Rattle.loom_lang.specs.Limits.{function_limit, statement_limit}
 use Rattle.std.specs.Prelude.{slice_get, flat_map}
 use Rattle.std.proofs.lemmas.List.{map-append}
 use Rattle.loom_tree.specs.Tree.{Body, end, simple, if_, while_, Function, Source}
-use Rattle.loom_lang.specs.Rules.{KeepsRules, lines, locals_of}
+use Rattle.loom_lang.specs.Rules.{KeepsRules, statement_lines, locals_of}
 use Rattle.loom_lang.specs.Places.{Place, body_places, places, places_from, line_of_place, line_of_function}
 use Rattle.loom_flow.specs.declared.code.Site.{Site}
 use Rattle.loom_flow.specs.Laws.{HasPlaces}
@@ -53,25 +53,25 @@ lowered_places p = ap (λ z. 0 ∷ z) (functions_lines p p.funcs [] 0 0 refl ref
 
 -- how many there are
 
-count_body : (b : Body) → length (body_places b) ≤ 2 * length (lines b)
+count_body : (b : Body) → length (body_places b) ≤ 2 * length (statement_lines b)
 count_body end = omega arith
 count_body (simple l x rest) = let h = count_body rest in omega arith
 count_body (if_ l e a b rest) =
     let h = count_body a in
     let g = count_body b in
     let k = count_body rest in
-    omega (arith, length-append (body_places a) (body_places b ++ body_places rest), length-append (body_places b) (body_places rest), length-append (lines a) (lines b ++ lines rest), length-append (lines b) (lines rest))
+    omega (arith, length-append (body_places a) (body_places b ++ body_places rest), length-append (body_places b) (body_places rest), length-append (statement_lines a) (statement_lines b ++ statement_lines rest), length-append (statement_lines b) (statement_lines rest))
 count_body (while_ l e a rest) =
     let h = count_body a in
     let k = count_body rest in
-    omega (arith, length-append (body_places a) (body_places rest), length-append (lines a) (lines rest))
+    omega (arith, length-append (body_places a) (body_places rest), length-append (statement_lines a) (statement_lines rest))
 
-count_functions : (n : ℕ) (fs : List Function) → length (places_from n fs) ≤ 2 * length fs + 2 * length (flat_map (λ (f : Function). lines f.body) fs)
+count_functions : (n : ℕ) (fs : List Function) → length (places_from n fs) ≤ 2 * length fs + 2 * length (flat_map (λ (f : Function). statement_lines f.body) fs)
 count_functions n [] = omega arith
 count_functions n (f ∷ fs) =
     let h = count_body f.body in
     let k = count_functions (suc n) fs in
-    omega (arith, length-append (body_places f.body) (Place.out n ∷ places_from (suc n) fs), length-append (lines f.body) (flat_map (λ (f : Function). lines f.body) fs))
+    omega (arith, length-append (body_places f.body) (Place.out n ∷ places_from (suc n) fs), length-append (statement_lines f.body) (flat_map (λ (f : Function). statement_lines f.body) fs))
 
 pub few_places : (p : Source) → KeepsRules p → length (places p) ≤ 1 + 2 * (function_limit + statement_limit)
 few_places p h = let k = count_functions 0 p.funcs in let fs = h.function_count in let ls = h.statements in omega arith

@@ -7,7 +7,7 @@ use Rattle.loom_tree.specs.declared.item.Word.{Word}
 use Rattle.loom_tree.specs.declared.item.Sema.{Sema}
 use Rattle.loom_tree.specs.Tree.{Function, Source}
 use Rattle.loom_lang.specs.Numbers.{index_of, Cells, cells_from, cells_named, sema_number}
-use Rattle.loom_lang.specs.Rules.{cells_of, cell_count, is_in, is_distinct, is_word, is_sema, takes, shared_names, KeepsRules}
+use Rattle.loom_lang.specs.Rules.{cells_in, cell_count, is_in, is_distinct, is_word, is_sema, takes, shared_names, KeepsRules}
 use Rattle.loom_flow.specs.declared.code.Step.{Step}
 use Rattle.loom_flow.specs.declared.code.Step.TheVariants as s
 use Rattle.loom_flow.specs.declared.code.Ask.TheVariants.{Read, ReadCell, Write, WriteCell, Lock, Unlock, Down, Up, Spawn}
@@ -21,21 +21,21 @@ use Rattle.loom_flow.proofs.Truths.{both, or_else}
 
 -- Words and arrays
 
-cells_least : (w : Word) → or_zero w.cells ≤ cells_of w
-cells_least w = elim w.cells as (λ o. or_zero o ≤ cells_of (record w { cells = o })) [ None ↦ omega arith | Some k ↦ omega arith ]
+cells_least : (w : Word) → or_zero w.cells ≤ cells_in w
+cells_least w = elim w.cells as (λ o. or_zero o ≤ cells_in (record w { cells = o })) [ None ↦ omega arith | Some k ↦ omega arith ]
 
-one_cell : (w : Word) → is_none w.cells ≡ true → cells_of w ≡ 1
-one_cell w h = elim w.cells as (λ o. is_none o ≡ true → cells_of (record w { cells = o }) ≡ 1) [ None ↦ λ e. refl | Some k ↦ λ e. cc ] h
+one_cell : (w : Word) → is_none w.cells ≡ true → cells_in w ≡ 1
+one_cell w h = elim w.cells as (λ o. is_none o ≡ true → cells_in (record w { cells = o }) ≡ 1) [ None ↦ λ e. refl | Some k ↦ λ e. cc ] h
 
 abbrev IsWithin : Option Cells → ℕ → Type 0
 IsWithin c n = (array_of c).first + (array_of c).count ≤ n
 
 array_within : (n : ℕ) (ws : List Word) (x : List ℕ) → IsWithin (cells_from n ws x) (n + cell_count ws)
 array_within n [] x = omega arith
-array_within n (w ∷ ws) x = by (pointwise ◌==◌ w.name x) (cells_from (n + cells_of w) ws x) (array_within (n + cells_of w) ws x) (cells_least w)
+array_within n (w ∷ ws) x = by (pointwise ◌==◌ w.name x) (cells_from (n + cells_in w) ws x) (array_within (n + cells_in w) ws x) (cells_least w)
   where
-    by : (b : Bool) (o : Option Cells) → IsWithin o (n + cells_of w + cell_count ws) → or_zero w.cells ≤ cells_of w
-        → IsWithin (if b then Some (record { first = n; count = w.cells }) else o) (n + (cells_of w + cell_count ws))
+    by : (b : Bool) (o : Option Cells) → IsWithin o (n + cells_in w + cell_count ws) → or_zero w.cells ≤ cells_in w
+        → IsWithin (if b then Some (record { first = n; count = w.cells }) else o) (n + (cells_in w + cell_count ws))
     by true o again least = omega arith
     by false o again least = omega arith
 
@@ -49,18 +49,18 @@ word_in (w ∷ ws) x h =
 
 word_within : (n : ℕ) (ws : List Word) (x : List ℕ) → is_distinct (map (λ (w : Word). w.name) ws) ≡ true → is_word ws x ≡ true → first_cell (cells_from n ws x) < n + cell_count ws
 word_within n [] x d h = cc
-word_within n (w ∷ ws) x d h = by (pointwise ◌==◌ w.name x) refl h (word_within (n + cells_of w) ws x (both _ _ d).1)
+word_within n (w ∷ ws) x d h = by (pointwise ◌==◌ w.name x) refl h (word_within (n + cells_in w) ws x (both _ _ d).1)
   where
     names : List (List ℕ)
     names = map (λ (v : Word). v.name) ws
 
     by : (b : Bool) → pointwise ◌==◌ w.name x ≡ b → ((b && is_none w.cells) || is_word ws x) ≡ true
-        → (is_word ws x ≡ true → first_cell (cells_from (n + cells_of w) ws x) < n + cells_of w + cell_count ws)
-        → first_cell (if b then Some (record { first = n; count = w.cells }) else cells_from (n + cells_of w) ws x) < n + (cells_of w + cell_count ws)
-    by true e g again = ⊎_elim (λ (here : is_none w.cells ≡ true). (let one : cells_of w ≡ 1 = one_cell w here in omega (arith, one)))
+        → (is_word ws x ≡ true → first_cell (cells_from (n + cells_in w) ws x) < n + cells_in w + cell_count ws)
+        → first_cell (if b then Some (record { first = n; count = w.cells }) else cells_from (n + cells_in w) ws x) < n + (cells_in w + cell_count ws)
+    by true e g again = ⊎_elim (λ (here : is_none w.cells ≡ true). (let one : cells_in w ≡ 1 = one_cell w here in omega (arith, one)))
         (λ (later : is_word ws x ≡ true). absurd (never (is_in w.name names) (subst (λ (y : List ℕ). is_in y names ≡ true) (sym (same_text w.name x (sym e))) (word_in ws x later)) (both _ _ d).0))
         (or_else (is_none w.cells) (is_word ws x) g)
-    by false e g again = let f : first_cell (cells_from (n + cells_of w) ws x) < n + cells_of w + cell_count ws = again g in omega (arith, f)
+    by false e g again = let f : first_cell (cells_from (n + cells_in w) ws x) < n + cells_in w + cell_count ws = again g in omega (arith, f)
 
 word_there : (p : Source) (x : List ℕ) → KeepsRules p → is_word p.words x ≡ true → first_cell (cells_named p x) < cell_count p.words
 word_there p x l h =

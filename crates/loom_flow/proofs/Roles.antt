@@ -5,7 +5,7 @@ use Rattle.loom_tree.specs.declared.item.Word.{Word}
 use Rattle.loom_tree.specs.declared.item.Sema.{Sema}
 use Rattle.loom_tree.specs.Tree.{Expression, num, var, cell, neg, inverse, bin, Right, Simple, let_, set, set_cell, return, Body, end, simple, if_, while_, Function, Source}
 use Rattle.loom_tree.specs.Tree as tree
-use Rattle.loom_lang.specs.Rules.{cells_of, is_in, is_distinct, is_word, is_array, is_sema, is_function, knows, knows_all, knows_call, knows_right, knows_simple, knows_body, shared_names, KeepsRules}
+use Rattle.loom_lang.specs.Rules.{cells_in, is_in, is_distinct, is_word, is_array, is_sema, is_function, knows, knows_all, knows_call, knows_right, knows_simple, knows_body, shared_names, KeepsRules}
 use Rattle.loom_lang.specs.Numbers.{index_of, Cells, cells_from}
 use Rattle.loom_flow.proofs.Expressions.{IsNumbered, IsArray, IsKnown}
 use Rattle.loom_flow.proofs.Arguments.{AllKnown}
@@ -36,9 +36,9 @@ not_in x ys e h = let g : (n : ℕ) × (index_of x ys ≡ Some n) = has_position
 word_cells : (n : ℕ) (ws : List Word) (x : List ℕ) → is_word ws x ≡ true → (d : Cells) × (cells_from n ws x ≡ Some d)
 word_cells n [] x h = cc
 word_cells n (w ∷ ws) x h =
-    elim (pointwise ◌==◌ w.name x) as (λ b. ((b && is_none w.cells) || is_word ws x) ≡ true → (d : Cells) × ((if b then Some (record { first = n; count = w.cells }) else cells_from (n + cells_of w) ws x) ≡ Some d)) [
+    elim (pointwise ◌==◌ w.name x) as (λ b. ((b && is_none w.cells) || is_word ws x) ≡ true → (d : Cells) × ((if b then Some (record { first = n; count = w.cells }) else cells_from (n + cells_in w) ws x) ≡ Some d)) [
       | true ↦ λ e. (record { first = n; count = w.cells }, refl)
-      | false ↦ λ e. word_cells (n + cells_of w) ws x e
+      | false ↦ λ e. word_cells (n + cells_in w) ws x e
     ] h
 
 pub in_words : (ws : List Word) (x : List ℕ) → is_array ws x ≡ true → is_in x (map (λ (w : Word). w.name) ws) ≡ true
@@ -60,14 +60,14 @@ never false e f = cc
 array_cells : (n : ℕ) (ws : List Word) (x : List ℕ) → is_distinct (map (λ (w : Word). w.name) ws) ≡ true → is_array ws x ≡ true
     → (first : ℕ) × (k : ℕ) × (cells_from n ws x ≡ Some (record { first = first; count = Some k }))
 array_cells n [] x d h = cc
-array_cells n (w ∷ ws) x d h = by (pointwise ◌==◌ w.name x) refl h (array_cells (n + cells_of w) ws x (both _ _ d).1)
+array_cells n (w ∷ ws) x d h = by (pointwise ◌==◌ w.name x) refl h (array_cells (n + cells_in w) ws x (both _ _ d).1)
   where
     names : List (List ℕ)
     names = map (λ (v : Word). v.name) ws
 
     by : (b : Bool) → pointwise ◌==◌ w.name x ≡ b → ((b && is_some w.cells) || is_array ws x) ≡ true
-        → (is_array ws x ≡ true → (first : ℕ) × (k : ℕ) × (cells_from (n + cells_of w) ws x ≡ Some (record { first = first; count = Some k })))
-        → (first : ℕ) × (k : ℕ) × ((if b then Some (record { first = n; count = w.cells }) else cells_from (n + cells_of w) ws x) ≡ Some (record { first = first; count = Some k }))
+        → (is_array ws x ≡ true → (first : ℕ) × (k : ℕ) × (cells_from (n + cells_in w) ws x ≡ Some (record { first = first; count = Some k })))
+        → (first : ℕ) × (k : ℕ) × ((if b then Some (record { first = n; count = w.cells }) else cells_from (n + cells_in w) ws x) ≡ Some (record { first = first; count = Some k }))
     by true e g again = ⊎_elim (λ (here : is_some w.cells ≡ true). array_here n w.cells here)
         (λ (later : is_array ws x ≡ true). absurd (never (is_in w.name names) (subst (λ (y : List ℕ). is_in y names ≡ true) (sym (same_text w.name x (sym e))) (in_words ws x later)) (both _ _ d).0))
         (or_else (is_some w.cells) (is_array ws x) g)

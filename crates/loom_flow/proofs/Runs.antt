@@ -1,7 +1,7 @@
 -- Runs of flat code, by at most so many steps and by any number of them.
 use Rattle.std.proofs.Common.{ℕ, suc, zero, List, [], ◌∷◌, true, ℤ, pos, negsuc, Some, None, refl, inl, inr, slice_get}
 use Rattle.loom_lang.specs.Trace as trace
-use Rattle.loom_lang.specs.Trace.{Item, Outcome, Open, Lists, Thread, made, out, broken, emit, any, either, trapped}
+use Rattle.loom_lang.specs.Trace.{Item, Outcome, Open, Lists, Thread, made, out, broken, emit, any, either, trap_lists}
 use Rattle.loom_flow.specs.Flow.{Flow}
 use Rattle.loom_flow.specs.State.{State, Frame}
 use Rattle.loom_flow.specs.Position.{Position, before, leaves, over}
@@ -44,26 +44,26 @@ still k es r h = (0, h)
 each_on : {A : Type 0} (i : A → Item) (m : A → ℕ → Lists) → Within (any (λ v. emit (i v) (any (m v)))) (any (λ n. any (λ v. emit (i v) (m v n))))
 each_on i m es r h = let g : any (λ n. emit (i h.0) (m h.0 n)) es r = emit_on (i h.0) (m h.0) es r h.1 in (g.0, (h.0, g.1))
 
-joined_on : (t : Thread) (line : ℕ) (v : ℤ) (m : ℕ → Lists) → Within (trace.joined t line v (any m)) (any (λ n. trace.joined t line v (m n)))
+joined_on : (t : Thread) (line : ℕ) (v : ℤ) (m : ℕ → Lists) → Within (trace.join_of t line v (any m)) (any (λ n. trace.join_of t line v (m n)))
 joined_on t line (pos c) m =
-    either_on (trapped t line (trace.not_spawned (pos c))) (emit (made line (trace.join c)) (any m)) (λ n. trapped t line (trace.not_spawned (pos c))) (λ n. emit (made line (trace.join c)) (m n))
-    (still (trapped t line (trace.not_spawned (pos c)))) (emit_on (made line (trace.join c)) m)
-joined_on t line (negsuc c) m = still (trapped t line (trace.not_spawned (negsuc c)))
+    either_on (trap_lists t line (trace.not_spawned (pos c))) (emit (made line (trace.join c)) (any m)) (λ n. trap_lists t line (trace.not_spawned (pos c))) (λ n. emit (made line (trace.join c)) (m n))
+    (still (trap_lists t line (trace.not_spawned (pos c)))) (emit_on (made line (trace.join c)) m)
+joined_on t line (negsuc c) m = still (trap_lists t line (trace.not_spawned (negsuc c)))
 
 question_on : (t : Thread) (line : ℕ) (q : Question) (m : ℤ → ℕ → Lists) → Within (question_lists t line q (λ v. any (m v))) (any (λ n. question_lists t line q (λ v. m v n)))
 question_on t line (read w) m = each_on (λ v. made line (trace.read w v)) m
 question_on t line (write w v) m = emit_on (made line (trace.write w v)) (m (pos 0))
 question_on t line (lock x) m = emit_on (made line (trace.lock x)) (m (pos 0))
 question_on t line (unlock x) m =
-    either_on (trapped t line (trace.not_held x)) (emit (made line (trace.unlock x)) (any (m (pos 0)))) (λ n. trapped t line (trace.not_held x)) (λ n. emit (made line (trace.unlock x)) (m (pos 0) n))
-    (still (trapped t line (trace.not_held x))) (emit_on (made line (trace.unlock x)) (m (pos 0)))
+    either_on (trap_lists t line (trace.not_held x)) (emit (made line (trace.unlock x)) (any (m (pos 0)))) (λ n. trap_lists t line (trace.not_held x)) (λ n. emit (made line (trace.unlock x)) (m (pos 0) n))
+    (still (trap_lists t line (trace.not_held x))) (emit_on (made line (trace.unlock x)) (m (pos 0)))
 question_on t line (down x) m = emit_on (made line (trace.down x)) (m (pos 0))
 question_on t line (up x) m =
-    either_on (trapped t line (trace.overflow x)) (emit (made line (trace.up x)) (any (m (pos 0)))) (λ n. trapped t line (trace.overflow x)) (λ n. emit (made line (trace.up x)) (m (pos 0) n))
-    (still (trapped t line (trace.overflow x))) (emit_on (made line (trace.up x)) (m (pos 0)))
+    either_on (trap_lists t line (trace.overflow x)) (emit (made line (trace.up x)) (any (m (pos 0)))) (λ n. trap_lists t line (trace.overflow x)) (λ n. emit (made line (trace.up x)) (m (pos 0) n))
+    (still (trap_lists t line (trace.overflow x))) (emit_on (made line (trace.up x)) (m (pos 0)))
 question_on t line (spawn f vs) m =
-    either_on (trapped t line trace.threads) (any (λ k. emit (made line (trace.spawn k f vs)) (any (m (pos k))))) (λ n. trapped t line trace.threads) (λ n. any (λ k. emit (made line (trace.spawn k f vs)) (m (pos k) n)))
-    (still (trapped t line trace.threads)) (each_on (λ k. made line (trace.spawn k f vs)) (λ k. m (pos k)))
+    either_on (trap_lists t line trace.threads) (any (λ k. emit (made line (trace.spawn k f vs)) (any (m (pos k))))) (λ n. trap_lists t line trace.threads) (λ n. any (λ k. emit (made line (trace.spawn k f vs)) (m (pos k) n)))
+    (still (trap_lists t line trace.threads)) (each_on (λ k. made line (trace.spawn k f vs)) (λ k. m (pos k)))
 question_on t line (join v) m = joined_on t line v (m (pos 0))
 question_on t line (print v) m = emit_on (made line (trace.print v)) (m (pos 0))
 
@@ -71,7 +71,7 @@ progress_on : (t : Thread) (m : ℕ → Position → Lists) (x : Progress) → W
 progress_on t m (goes None z) = λ es r h. h
 progress_on t m (goes (Some i) z) = emit_on i (λ n. m n z)
 progress_on t m (asks line q behind) = question_on t line q (λ v n. m n (behind v))
-progress_on t m (traps line c) = still (trapped t line c)
+progress_on t m (traps line c) = still (trap_lists t line c)
 progress_on t m ends = still t.stopped
 progress_on t m nothing = still broken
 

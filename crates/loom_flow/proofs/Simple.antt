@@ -3,7 +3,7 @@ use Rattle.std.proofs.Common.{ℕ, suc, ◌≡◌, ◌≤◌, List, [], ◌∷�
 use Rattle.loom_tree.specs.Tree.{Expression, Source}
 use Rattle.loom_lang.specs.Numbers.{index_of, Cells, cells_named, function_number}
 use Rattle.loom_lang.specs.Trace as trace
-use Rattle.loom_lang.specs.Trace.{Item, Lists, Thread, Locals, Calls, made, begins, done, out, broken, emit, any, either, trapped, value_in, updated, expression, arguments, indexed, writing_word, stored, effect, right, joined, numbered}
+use Rattle.loom_lang.specs.Trace.{Item, Lists, Thread, Locals, Calls, made, begins, done, out, broken, emit, any, either, trap_lists, value_in, updated, expression, each_argument, at_index, writing_word, stored, effect, right, join_of, numbered}
 use Rattle.loom_flow.specs.declared.code.Operand.{Operand}
 use Rattle.loom_flow.specs.declared.code.Operand.TheVariants as operand
 use Rattle.loom_flow.specs.declared.code.Target.TheVariants as target
@@ -48,7 +48,7 @@ pub meets_call : (b : Bool) (c : Flow) (t : Thread) (m : ℕ → State → Lists
     → resume (slice_get c.sites k) ≡ Some (suc (skip (suc at) (argument_steps t.program xs es)))
     → ((j : ℕ) → j ≤ n → (v : ℤ) → Meets b (straight c t l k rest (m j) (jumped (record z { values = v ∷ z.values }) (suc (skip (suc at) (argument_steps t.program xs es))))) (more v))
     → Meets b (m n (jumped z at))
-    (emit (begins l (named xs z.locals)) (arguments t l (named xs z.locals) es (λ vs. numbered (function_number t.program f) (λ g. calls l g vs more))))
+    (emit (begins l (named xs z.locals)) (each_argument t l (named xs z.locals) es (λ vs. numbered (function_number t.program f) (λ g. calls l g vs more))))
 meets_call b c t m n l k at xs z calls f es rest more fetches meets names_are h function known all lies site goes_on =
     let env : Locals = named xs z.locals in
     let before : List Step = argument_steps t.program xs es in
@@ -74,9 +74,9 @@ meets_call b c t m n l k at xs z calls f es rest more fetches meets names_are h 
     (meets_straight b c t l k (m j) rest (suc a) (jumped (record z { values = v ∷ z.values }) (suc a)) (fetches j) all behind.1 refl)
     (goes_on j le v))))
     (meets_same b _ _ (ap {B = Lists} (λ o. numbered o (λ g'. calls l g' vs more)) (sym function.1))))) in
-    meets_begin b c t (m n) l k at xs z before (arguments t l env es (λ vs. numbered (function_number t.program f) (λ g'. calls l g' vs more)))
+    meets_begin b c t (m n) l k at xs z before (each_argument t l env es (λ vs. numbered (function_number t.program f) (λ g'. calls l g' vs more)))
     (fetches n) names_are (arguments_straight t.program xs es) (lies_front c l k at (s.Control Begin ∷ before) (x ∷ rest) lies)
-    (meets_on b _ (arguments t l env es (λ vs. m n (jumped (topped vs z) a))) _
+    (meets_on b _ (each_argument t l env es (λ vs. m n (jumped (topped vs z) a))) _
     (meets_same b _ _ (arguments_are c t l k xs es (m n) z (suc at) h known))
     (meets_arguments b t l env es (λ vs. m n (jumped (topped vs z) a)) (λ vs. numbered (function_number t.program f) (λ g'. calls l g' vs more)) at_call))
 

@@ -9,7 +9,7 @@ use Rattle.loom_flow.specs.declared.code.Instr.{Instr}
 use Rattle.loom_flow.specs.declared.code.Site.{Site}
 use Rattle.loom_flow.specs.declared.code.Step.TheVariants as s
 use Rattle.loom_flow.specs.declared.code.Control.TheVariants.{Begin, Done, Edge, Jump, JumpIfZero}
-use Rattle.loom_flow.specs.FlatCode.{steps_to, argument_steps, operand_of, operand_steps, simple_steps, instrs, instr, size, place_count, body_code, body_sites, site}
+use Rattle.loom_flow.specs.FlatCode.{steps_to, argument_steps, operand_of, operand_steps, simple_steps, instrs, instr, size, place_count, flat_body, body_sites, site}
 
 pub instrs_length : (l place : ℕ) (xs : List Step) → length (instrs l place xs) ≡ length xs
 instrs_length l place [] = refl
@@ -35,12 +35,12 @@ loop_length xs cs rest i j =
     let two = length-append cs (i ∷ j ∷ rest) in
     omega arith
 
-pub code_length : (p : Source) (names : List (List ℕ)) (b : Body) (at place : ℕ) → length (body_code p names at place b) ≡ size p names b
+pub code_length : (p : Source) (names : List (List ℕ)) (b : Body) (at place : ℕ) → length (flat_body p names at place b) ≡ size p names b
 code_length p names end at place = refl
 code_length p names (simple l x rest) at place =
     let first = instrs_length l place (simple_steps p names x) in
     let behind = code_length p names rest (at + length (simple_steps p names x)) (suc place) in
-    let whole = length-append (instrs l place (simple_steps p names x)) (body_code p names (at + length (simple_steps p names x)) (suc place) rest) in
+    let whole = length-append (instrs l place (simple_steps p names x)) (flat_body p names (at + length (simple_steps p names x)) (suc place) rest) in
     omega arith
 code_length p names (if_ l e a b rest) at place =
     let first : ℕ = at + (2 + length (operand_steps p names e)) in
@@ -50,7 +50,7 @@ code_length p names (if_ l e a b rest) at place =
     let cs = code_length p names a first (suc place) in
     let bs = code_length p names b second (suc place + place_count a) in
     let behind = code_length p names rest (suc done) (suc place + place_count a + place_count b) in
-    let whole = choice_length (instrs l place (s.Control Begin ∷ (operand_steps p names e ++ s.Control (JumpIfZero (operand_of names e) second) ∷ []))) (body_code p names first (suc place) a) (body_code p names second (suc place + place_count a) b) (body_code p names (suc done) (suc place + place_count a + place_count b) rest) (instr l place (s.Control (Jump done))) (instr l place (s.Control Done)) in
+    let whole = choice_length (instrs l place (s.Control Begin ∷ (operand_steps p names e ++ s.Control (JumpIfZero (operand_of names e) second) ∷ []))) (flat_body p names first (suc place) a) (flat_body p names second (suc place + place_count a) b) (flat_body p names (suc done) (suc place + place_count a + place_count b) rest) (instr l place (s.Control (Jump done))) (instr l place (s.Control Done)) in
     omega arith
 code_length p names (while_ l e a rest) at place =
     let head : ℕ = at + 1 in
@@ -59,7 +59,7 @@ code_length p names (while_ l e a rest) at place =
     let test = test_length l place (operand_steps p names e) (s.Control Begin) (s.Control (JumpIfZero (operand_of names e) done)) in
     let cs = code_length p names a first (suc (suc place)) in
     let behind = code_length p names rest (suc done) (suc (suc place) + place_count a) in
-    let whole = loop_length (instrs l place (s.Control Begin ∷ (operand_steps p names e ++ s.Control (JumpIfZero (operand_of names e) done) ∷ []))) (body_code p names first (suc (suc place)) a) (body_code p names (suc done) (suc (suc place) + place_count a) rest) (instr l (suc place) (s.Control (Edge head))) (instr l place (s.Control Done)) in
+    let whole = loop_length (instrs l place (s.Control Begin ∷ (operand_steps p names e ++ s.Control (JumpIfZero (operand_of names e) done) ∷ []))) (flat_body p names first (suc (suc place)) a) (flat_body p names (suc done) (suc (suc place) + place_count a) rest) (instr l (suc place) (s.Control (Edge head))) (instr l place (s.Control Done)) in
     omega arith
 
 sum_length : {A : Type 0} (cs bs rest : List A) → length (cs ++ (bs ++ rest)) ≡ length cs + (length bs + length rest)

@@ -6,7 +6,7 @@ use Rattle.loom_tree.specs.Tree as tree
 use Rattle.loom_expression.specs.Text.{node_limit}
 use Rattle.loom_lang.specs.WellFormed.{IsWellFormed, IsWellFormedRight, IsWellFormedStatement, IsWellFormedBlock}
 use Rattle.loom_lang.specs.Rules.{KeepsRules, FunctionsKeepRules}
-use Rattle.loom_flow.specs.Depth.{AreSmall, IsSmallRight, IsSmallSimple, IsSmallBody, AreSmallFunctions, IsSmall}
+use Rattle.loom_flow.specs.Depth.{AreSmall, IsSmallRight, IsSmallSimple, IsSmallBody, AreSmallFunctions, HasSmallBodies}
 
 small_all : (es : List Expression) → AllByRecursion IsWellFormed es → AreSmall node_limit es
 small_all [] h = tt
@@ -42,5 +42,5 @@ small_functions : (p : Source) (fs : List Function) → FunctionsKeepRules p fs 
 small_functions p [] h = tt
 small_functions p (f ∷ fs) h = (small_body 1 f.body h.0.form, small_functions p fs h.1)
 
-pub small_program : (p : Source) → KeepsRules p → IsSmall node_limit p
+pub small_program : (p : Source) → KeepsRules p → HasSmallBodies node_limit p
 small_program p h = small_functions p p.funcs h.functions

@@ -1,8 +1,8 @@
 -- What comes of a step, by what comes of the positions that it leads to.
 use Rattle.std.proofs.Common.{ℕ, ◌+◌, ◌&&◌, suc, ◌≡◌, List, [], Bool, true, false, ℤ, pos, negsuc, Option, Some, None, refl, inl, nat_lt, slice_get, length, if◌then◌else◌}
 use Rattle.loom_lang.specs.Trace as trace
-use Rattle.loom_lang.specs.Trace.{Item, Outcome, Open, Lists, Thread, made, out, broken, emit, any, choice, trapped, frame_limit}
-use Rattle.loom_lang.specs.Values.{is_zero, divides, applied}
+use Rattle.loom_lang.specs.Trace.{Item, Outcome, Open, Lists, Thread, made, out, broken, emit, any, choice, trap_lists, frame_limit}
+use Rattle.loom_lang.specs.Values.{is_zero, divides, op_value}
 use Rattle.loom_flow.specs.declared.code.Operand.{Operand}
 use Rattle.loom_flow.specs.declared.code.Target.{Target}
 use Rattle.loom_flow.specs.declared.code.Array.{Array}
@@ -15,7 +15,7 @@ use Rattle.loom_flow.specs.declared.code.Instr.{Instr}
 use Rattle.loom_flow.specs.declared.code.Entrance.{Entrance}
 use Rattle.loom_tree.specs.declared.expression.Op.{Op}
 use Rattle.loom_flow.specs.Flow.{Flow}
-use Rattle.loom_flow.specs.State.{State, Frame, operand, without, arguments, without_arguments, given, forward, jumped}
+use Rattle.loom_flow.specs.State.{State, Frame, operand_value, without, argument_values, without_arguments, given, forward, jumped}
 use Rattle.loom_flow.specs.Position.{Position, before, leaves, over}
 use Rattle.loom_flow.specs.Question.{Question, read, write, lock, unlock, down, up, spawn, join, print}
 use Rattle.loom_flow.specs.Progress.{Progress, goes, asks, traps, ends, nothing, on, in_array, asks_act, asks_value, calls, returns, of_step, of_instr}
@@ -52,13 +52,13 @@ meets_reading b line w m n f = meets_any b _ _ (λ v. meets_emit b _ _ _ (f v))
 
 pub meets_within : (b : Bool) (t : Thread) (line first : ℕ) (count : Option ℕ) (v : ℤ) (m n : ℕ → Lists) → ((w : ℕ) → Meets b (m w) (n w)) → Meets b (trace.within t line first count v m) (trace.within t line first count v n)
 meets_within b t line first None v m n f = meets_itself b broken
-meets_within b t line first (Some k) (pos i) m n f = meets_choice b (nat_lt i k) (m (first + i)) (n (first + i)) (trapped t line trace.index) (trapped t line trace.index) (f (first + i)) (meets_itself b (trapped t line trace.index))
+meets_within b t line first (Some k) (pos i) m n f = meets_choice b (nat_lt i k) (m (first + i)) (n (first + i)) (trap_lists t line trace.index) (trap_lists t line trace.index) (f (first + i)) (meets_itself b (trap_lists t line trace.index))
 meets_within b t line first (Some k) (negsuc i) m n f = meets_itself b _
 
 pub meets_operated : (b : Bool) (t : Thread) (line : ℕ) (o : Op) (v w : ℤ) (m n : ℤ → Lists) → ((u : ℤ) → Meets b (m u) (n u)) → Meets b (trace.operated t line o v w m) (trace.operated t line o v w n)
-meets_operated b t line o v w m n f = meets_choice b (divides o && is_zero w) (trapped t line trace.division) (trapped t line trace.division) (m (applied o v w)) (n (applied o v w)) (meets_itself b (trapped t line trace.division)) (f (applied o v w))
+meets_operated b t line o v w m n f = meets_choice b (divides o && is_zero w) (trap_lists t line trace.division) (trap_lists t line trace.division) (m (op_value o v w)) (n (op_value o v w)) (meets_itself b (trap_lists t line trace.division)) (f (op_value o v w))
 
-pub meets_joined : (b : Bool) (t : Thread) (line : ℕ) (v : ℤ) (m n : Lists) → Meets b m n → Meets b (trace.joined t line v m) (trace.joined t line v n)
+pub meets_joined : (b : Bool) (t : Thread) (line : ℕ) (v : ℤ) (m n : Lists) → Meets b m n → Meets b (trace.join_of t line v m) (trace.join_of t line v n)
 meets_joined b t line (pos c) m n f = meets_either b _ _ _ _ (meets_itself b _) (meets_emit b _ _ _ f)
 meets_joined b t line (negsuc c) m n f = meets_itself b _
 
@@ -77,7 +77,7 @@ pub meets_progress : (b : Bool) (t : Thread) (m n : Position → Lists) (x : Pro
 meets_progress b t m n (goes None z) f = f
 meets_progress b t m n (goes (Some i) z) f = meets_emit b i (m z) (n z) f
 meets_progress b t m n (asks line q behind) f = meets_question b t line q (λ v. m (behind v)) (λ v. n (behind v)) f
-meets_progress b t m n (traps line c) f = meets_itself b (trapped t line c)
+meets_progress b t m n (traps line c) f = meets_itself b (trap_lists t line c)
 meets_progress b t m n ends f = meets_itself b t.stopped
 meets_progress b t m n nothing f = meets_itself b broken
 
@@ -85,10 +85,10 @@ meets_progress b t m n nothing f = meets_itself b broken
 
 pub within_open : (t : Thread) (line first : ℕ) (count : Option ℕ) (v : ℤ) (m : ℕ → Lists) → ((w : ℕ) → m w [] Open) → trace.within t line first count v m [] Open
 within_open t line first None v m f = (refl, refl)
-within_open t line first (Some k) (pos i) m f = choice_open (nat_lt i k) (m (first + i)) (trapped t line trace.index) (f (first + i)) (inl (refl, refl))
+within_open t line first (Some k) (pos i) m f = choice_open (nat_lt i k) (m (first + i)) (trap_lists t line trace.index) (f (first + i)) (inl (refl, refl))
 within_open t line first (Some k) (negsuc i) m f = inl (refl, refl)
 
-joined_open : (t : Thread) (line : ℕ) (v : ℤ) (m : Lists) → trace.joined t line v m [] Open
+joined_open : (t : Thread) (line : ℕ) (v : ℤ) (m : Lists) → trace.join_of t line v m [] Open
 joined_open t line (pos c) m = inl (inl (refl, refl))
 joined_open t line (negsuc c) m = inl (refl, refl)
 
@@ -139,7 +139,7 @@ entered c t m z i f vs e = progress_lists t (by_states c t m) (calls c z i.place
 
 abbrev pub called : Flow → Thread → (State → Lists) → State → Instr → ℕ → List ℤ → Lists
 called c t m z i f vs =
-    choice (nat_lt (suc (length z.below)) frame_limit) (entered c t m z i f vs (slice_get c.entrances f)) (trapped t i.line trace.frames)
+    choice (nat_lt (suc (length z.below)) frame_limit) (entered c t m z i f vs (slice_get c.entrances f)) (trap_lists t i.line trace.frames)
 
 progress_if : (t : Thread) (m : Position → Lists) (b : Bool) (x y : Progress) → progress_lists t m (if b then x else y) ≡ choice b (progress_lists t m x) (progress_lists t m y)
 progress_if t m true x y = refl
@@ -151,28 +151,28 @@ progress_in_array t m line a (pos i) more = progress_if t m (nat_lt i a.count) (
 progress_in_array t m line a (negsuc i) more = refl
 
 pub apply_gives : (c : Flow) (t : Thread) (m : State → Lists) (z : State) (i : Instr) (o : Op) (a b : Operand) (d : Target)
-    → performed c t m z i (s.Compute (Apply o a b d)) ≡ trace.operated t i.line o (operand (without z b) a) (operand z b) (λ v. m (forward (given (without (without z b) a) d v)))
+    → performed c t m z i (s.Compute (Apply o a b d)) ≡ trace.operated t i.line o (operand_value (without z b) a) (operand_value z b) (λ v. m (forward (given (without (without z b) a) d v)))
 apply_gives c t m z i o a b d =
-    progress_if t (by_states c t m) (divides o && is_zero (operand z b)) (traps i.line trace.division)
-    (on (given (without (without z b) a) d (applied o (operand (without z b) a) (operand z b))))
+    progress_if t (by_states c t m) (divides o && is_zero (operand_value z b)) (traps i.line trace.division)
+    (on (given (without (without z b) a) d (op_value o (operand_value (without z b) a) (operand_value z b))))
 
 pub read_cell_gives : (c : Flow) (t : Thread) (m : State → Lists) (z : State) (i : Instr) (a : Array) (n : Operand) (d : Target)
-    → performed c t m z i (s.Ask (ReadCell a n d)) ≡ trace.within t i.line a.first (Some a.count) (operand z n) (λ w. trace.reading i.line w (λ v. m (forward (given (without z n) d v))))
-read_cell_gives c t m z i a n d = progress_in_array t (by_states c t m) i.line a (operand z n) (λ w. asks_value i.line (read w) (λ v. given (without z n) d v))
+    → performed c t m z i (s.Ask (ReadCell a n d)) ≡ trace.within t i.line a.first (Some a.count) (operand_value z n) (λ w. trace.reading i.line w (λ v. m (forward (given (without z n) d v))))
+read_cell_gives c t m z i a n d = progress_in_array t (by_states c t m) i.line a (operand_value z n) (λ w. asks_value i.line (read w) (λ v. given (without z n) d v))
 
 pub write_cell_gives : (c : Flow) (t : Thread) (m : State → Lists) (z : State) (i : Instr) (a : Array) (n b : Operand)
     → performed c t m z i (s.Ask (WriteCell a n b))
-    ≡ trace.within t i.line a.first (Some a.count) (operand (without z b) n) (λ w. emit (made i.line (trace.write w (operand z b))) (m (forward (without (without z b) n))))
-write_cell_gives c t m z i a n b = progress_in_array t (by_states c t m) i.line a (operand (without z b) n) (λ w. asks_act i.line (write w (operand z b)) (without (without z b) n))
+    ≡ trace.within t i.line a.first (Some a.count) (operand_value (without z b) n) (λ w. emit (made i.line (trace.write w (operand_value z b))) (m (forward (without (without z b) n))))
+write_cell_gives c t m z i a n b = progress_in_array t (by_states c t m) i.line a (operand_value (without z b) n) (λ w. asks_act i.line (write w (operand_value z b)) (without (without z b) n))
 
 pub jump_gives : (c : Flow) (t : Thread) (m : State → Lists) (z : State) (i : Instr) (a : Operand) (at : ℕ)
-    → performed c t m z i (s.Control (JumpIfZero a at)) ≡ choice (is_zero (operand z a)) (m (jumped (without z a) at)) (m (forward (without z a)))
-jump_gives c t m z i a at = progress_if t (by_states c t m) (is_zero (operand z a)) (goes None (before (jumped (without z a) at))) (on (without z a))
+    → performed c t m z i (s.Control (JumpIfZero a at)) ≡ choice (is_zero (operand_value z a)) (m (jumped (without z a) at)) (m (forward (without z a)))
+jump_gives c t m z i a at = progress_if t (by_states c t m) (is_zero (operand_value z a)) (goes None (before (jumped (without z a) at))) (on (without z a))
 
 pub call_gives : (c : Flow) (t : Thread) (m : State → Lists) (z : State) (i : Instr) (f n : ℕ)
-    → performed c t m z i (s.Control (Call f n)) ≡ called c t m (without_arguments z n) i f (arguments z n)
+    → performed c t m z i (s.Control (Call f n)) ≡ called c t m (without_arguments z n) i f (argument_values z n)
 call_gives c t m z i f n =
-    progress_if t (by_states c t m) (nat_lt (suc (length z.below)) frame_limit) (calls c (without_arguments z n) i.place f (arguments z n) (slice_get c.entrances f)) (traps i.line trace.frames)
+    progress_if t (by_states c t m) (nat_lt (suc (length z.below)) frame_limit) (calls c (without_arguments z n) i.place f (argument_values z n) (slice_get c.entrances f)) (traps i.line trace.frames)
 
 -- Straight on
 
@@ -200,14 +200,14 @@ leads_ahead c z i (s.Compute (Move a d)) e = refl
 leads_ahead c z i (s.Compute (Negate a d)) e = refl
 leads_ahead c z i (s.Compute (Invert a d)) e = refl
 leads_ahead c z i (s.Compute (Apply o a b d)) e =
-    leads_if (IsAhead z) (divides o && is_zero (operand z b)) (traps i.line trace.division) (on (given (without (without z b) a) d (applied o (operand (without z b) a) (operand z b)))) tt refl
+    leads_if (IsAhead z) (divides o && is_zero (operand_value z b)) (traps i.line trace.division) (on (given (without (without z b) a) d (op_value o (operand_value (without z b) a) (operand_value z b)))) tt refl
 leads_ahead c z i (s.Compute Discard) e = refl
 leads_ahead c z i (s.Ask (Read w d)) e = λ v. refl
 leads_ahead c z i (s.Ask (ReadCell a n d)) e =
-    leads_in_array (IsAhead z) i.line a (operand z n) (λ w. asks_value i.line (read w) (λ v. given (without z n) d v)) (λ w v. refl)
+    leads_in_array (IsAhead z) i.line a (operand_value z n) (λ w. asks_value i.line (read w) (λ v. given (without z n) d v)) (λ w v. refl)
 leads_ahead c z i (s.Ask (Write w a)) e = λ v. refl
 leads_ahead c z i (s.Ask (WriteCell a n b)) e =
-    leads_in_array (IsAhead z) i.line a (operand (without z b) n) (λ w. asks_act i.line (write w (operand z b)) (without (without z b) n)) (λ w v. refl)
+    leads_in_array (IsAhead z) i.line a (operand_value (without z b) n) (λ w. asks_act i.line (write w (operand_value z b)) (without (without z b) n)) (λ w v. refl)
 leads_ahead c z i (s.Ask (Lock x)) e = λ v. refl
 leads_ahead c z i (s.Ask (Unlock x)) e = λ v. refl
 leads_ahead c z i (s.Ask (Down x)) e = λ v. refl

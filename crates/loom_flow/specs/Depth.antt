@@ -102,5 +102,5 @@ abbrev pub AreSmallFunctions : ℕ → List Function → Type 0
 AreSmallFunctions n [] = Unit {0}
 AreSmallFunctions n (f ∷ fs) = IsSmallBody n f.body × AreSmallFunctions n fs
 
-abbrev pub IsSmall : ℕ → Source → Type 0
-IsSmall n p = AreSmallFunctions n p.funcs
+abbrev pub HasSmallBodies : ℕ → Source → Type 0
+HasSmallBodies n p = AreSmallFunctions n p.funcs

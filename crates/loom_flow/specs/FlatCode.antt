@@ -158,29 +158,29 @@ abbrev pub place_count : Body → ℕ
 place_count b = length (body_places b)
 
 -- The code of statements. The first instruction has the number `at`, the first place the number `place`.
-abbrev pub body_code : Source → List (List ℕ) → ℕ → ℕ → Body → List Instr
-body_code p xs at place end = []
-body_code p xs at place (simple l x rest) =
-    instrs l place (simple_steps p xs x) ++ body_code p xs (at + length (simple_steps p xs x)) (suc place) rest
-body_code p xs at place (if_ l e a b rest) =
+abbrev pub flat_body : Source → List (List ℕ) → ℕ → ℕ → Body → List Instr
+flat_body p xs at place end = []
+flat_body p xs at place (simple l x rest) =
+    instrs l place (simple_steps p xs x) ++ flat_body p xs (at + length (simple_steps p xs x)) (suc place) rest
+flat_body p xs at place (if_ l e a b rest) =
     let first : ℕ = at + (2 + length (operand_steps p xs e)) in
     let second : ℕ = first + (1 + size p xs a) in
     let done : ℕ = second + size p xs b in
     instrs l place (s.Control Begin ∷ (operand_steps p xs e ++ s.Control (JumpIfZero (operand_of xs e) second) ∷ []))
-    ++ (body_code p xs first (suc place) a
+    ++ (flat_body p xs first (suc place) a
     ++ instr l place (s.Control (Jump done))
-    ∷ (body_code p xs second (suc place + place_count a) b
+    ∷ (flat_body p xs second (suc place + place_count a) b
     ++ instr l place (s.Control Done)
-    ∷ body_code p xs (suc done) (suc place + place_count a + place_count b) rest))
-body_code p xs at place (while_ l e a rest) =
+    ∷ flat_body p xs (suc done) (suc place + place_count a + place_count b) rest))
+flat_body p xs at place (while_ l e a rest) =
     let head : ℕ = at + 1 in
     let first : ℕ = head + (1 + length (operand_steps p xs e)) in
     let done : ℕ = first + (1 + size p xs a) in
     instrs l place (s.Control Begin ∷ (operand_steps p xs e ++ s.Control (JumpIfZero (operand_of xs e) done) ∷ []))
-    ++ (body_code p xs first (suc (suc place)) a
+    ++ (flat_body p xs first (suc (suc place)) a
     ++ instr l (suc place) (s.Control (Edge head))
     ∷ instr l place (s.Control Done)
-    ∷ body_code p xs (suc done) (suc (suc place) + place_count a) rest)
+    ∷ flat_body p xs (suc done) (suc (suc place) + place_count a) rest)
 
 abbrev pub site : ℕ → Option ℕ → Site
 site line resume = record { line = line; resume = resume }
@@ -204,7 +204,7 @@ body_sites p xs at (while_ l e a rest) =
 abbrev pub functions_code : Source → ℕ → ℕ → List Function → List Instr
 functions_code p at place [] = []
 functions_code p at place (f ∷ fs) =
-    body_code p (locals_of f) at (suc place) f.body
+    flat_body p (locals_of f) at (suc place) f.body
     ++ instr f.line (suc place + place_count f.body) (s.Control Out)
     ∷ functions_code p (suc (at + size p (locals_of f) f.body)) (suc (suc (place + place_count f.body))) fs
 

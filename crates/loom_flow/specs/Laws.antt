@@ -21,7 +21,7 @@ use Rattle.loom_flow.specs.Flow.{Flow, resume}
 use Rattle.loom_flow.specs.State.{frame_room}
 use Rattle.loom_flow.specs.FlatTrace.{IsFlatTrace}
 use Rattle.loom_flow.specs.FlatCode.{or_zero, calls_body, lowered}
-use Rattle.loom_flow.specs.Depth.{pops, takes_off, puts_on, depth_before, IsSmall}
+use Rattle.loom_flow.specs.Depth.{pops, takes_off, puts_on, depth_before, HasSmallBodies}
 
 -- The flat code has the traces of the tree, for every function and all arguments.
 abbrev pub HasTraces : Flow → Source → Type 0
@@ -121,7 +121,7 @@ AllKeepFunctions = (p : Source) → KeepsRules p → KeepsFunctions (lowered p)
 
 -- where no expression has more nodes than these
 abbrev pub AllHaveOperands : Type 0
-AllHaveOperands = (p : Source) → KeepsRules p → (n : ℕ) → IsSmall n p → HasOperands (lowered p) (n + param_limit)
+AllHaveOperands = (p : Source) → KeepsRules p → (n : ℕ) → HasSmallBodies n p → HasOperands (lowered p) (n + param_limit)
 
 -- Locals
 

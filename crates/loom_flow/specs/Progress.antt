@@ -1,6 +1,6 @@
 -- What comes of the next step of a thread: the meaning of flat code.
 use Rattle.std.specs.Prelude.{slice_get, ℕ, suc, ◌+◌, ◌&&◌, List, [], ◌∷◌, length, ℤ, pos, negsuc, Option, Some, None, nat_lt, if◌then◌else◌}
-use Rattle.loom_lang.specs.Values.{is_zero, applied, divides, negated, inverted}
+use Rattle.loom_lang.specs.Values.{is_zero, op_value, divides, negated, inverted}
 use Rattle.loom_lang.specs.Trace.{Item, begins, done, edge, enter, out, Cause, division, index, frames, frame_limit}
 use Rattle.loom_flow.specs.declared.code.Operand.TheVariants as o
 use Rattle.loom_flow.specs.declared.code.Array.{Array}
@@ -15,7 +15,7 @@ use Rattle.loom_flow.specs.declared.code.Step.TheVariants as s
 use Rattle.loom_flow.specs.declared.code.Instr.{Instr}
 use Rattle.loom_flow.specs.declared.code.Entrance.{Entrance}
 use Rattle.loom_flow.specs.Flow.{Flow, resume, return_point}
-use Rattle.loom_flow.specs.State.{Frame, State, operand, without, given, forward, jumped, arguments, without_arguments, at_start, locals_now}
+use Rattle.loom_flow.specs.State.{Frame, State, operand_value, without, given, forward, jumped, argument_values, without_arguments, at_start, locals_now}
 use Rattle.loom_flow.specs.Position.{Position, before, leaves, over}
 use Rattle.loom_flow.specs.Question.{Question, read, write, lock, unlock, down, up, spawn, join, print}
 
@@ -39,12 +39,12 @@ on z = goes None (before (forward z))
 
 -- a division by 0 traps
 abbrev pub of_compute : State → ℕ → Compute → Progress
-of_compute z line (Move a d) = on (given (without z a) d (operand z a))
-of_compute z line (Negate a d) = on (given (without z a) d (negated (operand z a)))
-of_compute z line (Invert a d) = on (given (without z a) d (inverted (operand z a)))
+of_compute z line (Move a d) = on (given (without z a) d (operand_value z a))
+of_compute z line (Negate a d) = on (given (without z a) d (negated (operand_value z a)))
+of_compute z line (Invert a d) = on (given (without z a) d (inverted (operand_value z a)))
 of_compute z line (Apply op a b d) =
-    if divides op && is_zero (operand z b) then traps line division
-    else on (given (without (without z b) a) d (applied op (operand (without z b) a) (operand z b)))
+    if divides op && is_zero (operand_value z b) then traps line division
+    else on (given (without (without z b) a) d (op_value op (operand_value (without z b) a) (operand_value z b)))
 of_compute z line Discard = on (without z o.Top)
 
 -- Asking
@@ -64,16 +64,16 @@ asks_act line q behind = asks line q (λ v. before (forward behind))
 
 abbrev pub of_ask : State → ℕ → Ask → Progress
 of_ask z line (Read w d) = asks_value line (read w) (λ v. given z d v)
-of_ask z line (ReadCell a n d) = in_array line a (operand z n) (λ w. asks_value line (read w) (λ v. given (without z n) d v))
-of_ask z line (Write w a) = asks_act line (write w (operand z a)) (without z a)
-of_ask z line (WriteCell a n b) = in_array line a (operand (without z b) n) (λ w. asks_act line (write w (operand z b)) (without (without z b) n))
+of_ask z line (ReadCell a n d) = in_array line a (operand_value z n) (λ w. asks_value line (read w) (λ v. given (without z n) d v))
+of_ask z line (Write w a) = asks_act line (write w (operand_value z a)) (without z a)
+of_ask z line (WriteCell a n b) = in_array line a (operand_value (without z b) n) (λ w. asks_act line (write w (operand_value z b)) (without (without z b) n))
 of_ask z line (Lock m) = asks_act line (lock m) z
 of_ask z line (Unlock m) = asks_act line (unlock m) z
 of_ask z line (Down x) = asks_act line (down x) z
 of_ask z line (Up x) = asks_act line (up x) z
-of_ask z line (Join a) = asks_act line (join (operand z a)) (without z a)
-of_ask z line (Print a) = asks_act line (print (operand z a)) (without z a)
-of_ask z line (Spawn f n d) = asks_value line (spawn f (arguments z n)) (λ v. given (without_arguments z n) d v)
+of_ask z line (Join a) = asks_act line (join (operand_value z a)) (without z a)
+of_ask z line (Print a) = asks_act line (print (operand_value z a)) (without z a)
+of_ask z line (Spawn f n d) = asks_value line (spawn f (argument_values z n)) (λ v. given (without_arguments z n) d v)
 
 -- Frames
 
@@ -97,11 +97,11 @@ of_control c z line place Begin = goes (Some (begins line (locals_now c z))) (be
 of_control c z line place Done = goes (Some (done line)) (before (forward z))
 of_control c z line place (Edge at) = goes (Some (edge line)) (before (jumped z at))
 of_control c z line place (Jump at) = goes None (before (jumped z at))
-of_control c z line place (JumpIfZero a at) = if is_zero (operand z a) then goes None (before (jumped (without z a) at)) else on (without z a)
+of_control c z line place (JumpIfZero a at) = if is_zero (operand_value z a) then goes None (before (jumped (without z a) at)) else on (without z a)
 of_control c z line place (Call f n) =
-    if nat_lt (suc (length z.below)) frame_limit then calls c (without_arguments z n) place f (arguments z n) (slice_get c.entrances f)
+    if nat_lt (suc (length z.below)) frame_limit then calls c (without_arguments z n) place f (argument_values z n) (slice_get c.entrances f)
     else traps line frames
-of_control c z line place (Return a) = goes (Some (done line)) (leaves (without z a) (operand z a))
+of_control c z line place (Return a) = goes (Some (done line)) (leaves (without z a) (operand_value z a))
 of_control c z line place Out = goes None (leaves z (pos 0))
 
 -- Threads

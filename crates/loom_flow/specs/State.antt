@@ -36,10 +36,10 @@ abbrev pub top : List ℤ → ℤ
 top [] = pos 0
 top (v ∷ vs) = v
 
-abbrev pub operand : State → Operand → ℤ
-operand z o.Top = top z.values
-operand z (o.Local x) = value_of (slice_get z.locals x)
-operand z (o.Number n) = n
+abbrev pub operand_value : State → Operand → ℤ
+operand_value z o.Top = top z.values
+operand_value z (o.Local x) = value_of (slice_get z.locals x)
+operand_value z (o.Number n) = n
 
 -- behind an operand that was taken
 abbrev pub values_without : Operand → List ℤ → List ℤ
@@ -82,8 +82,8 @@ filled (suc n) [] = pos 0 ∷ filled n []
 filled (suc n) (v ∷ vs) = v ∷ filled n vs
 
 -- the arguments that are the last ones put on the values, in their order
-abbrev pub arguments : State → ℕ → List ℤ
-arguments z n = reverse (take n z.values)
+abbrev pub argument_values : State → ℕ → List ℤ
+argument_values z n = reverse (take n z.values)
 
 abbrev pub without_arguments : State → ℕ → State
 without_arguments z n = record z { values = drop n z.values }
@@ -93,8 +93,8 @@ abbrev pub frame_room : ℕ
 frame_room = local_limit
 
 -- the locals of a new frame: an argument for each parameter, and 0 for the others
-abbrev pub frame_locals : Entrance → List ℤ → List ℤ
-frame_locals e vs = filled frame_room (filled e.params vs)
+abbrev pub local_values : Entrance → List ℤ → List ℤ
+local_values e vs = filled frame_room (filled e.params vs)
 
 -- the locals of a frame by their names
 abbrev pub named : List (List ℕ) → List ℤ → Locals
@@ -111,4 +111,4 @@ locals_now c z = named (names (slice_get c.program.funcs z.func)) z.locals
 
 -- at the start of a function, with these arguments, over these values and frames
 abbrev pub at_start : ℕ → Entrance → List ℤ → List ℤ → List Frame → State
-at_start f e arguments values below = record { at = e.start; values = values; func = f; locals = frame_locals e arguments; below = below }
+at_start f e argument_values values below = record { at = e.start; values = values; func = f; locals = local_values e argument_values; below = below }

@@ -5,7 +5,7 @@ ghost use Rattle.loom_lang.specs.Rules.{knows, knows_body};
 ghost use Rattle.loom_flow.specs.Arguments.{takes_body};
 ghost use Rattle.loom_flow.specs.declared.code.Step.TheVariants as s;
 ghost use Rattle.loom_flow.specs.declared.code.Control.TheVariants.{JumpIfZero};
-ghost use Rattle.loom_flow.specs.FlatCode.{instr, instrs, operand_of, operand_steps, place_count, body_code, body_sites, site_limit};
+ghost use Rattle.loom_flow.specs.FlatCode.{instr, instrs, operand_of, operand_steps, place_count, flat_body, body_sites, site_limit};
 
 use crate::code::{Ask, Control, Instr, Operand, Site, Step};
 use crate::expression::{Spot, operand, push};
@@ -64,7 +64,7 @@ fn choice(
     requires counted { takes_body scope.now.program (if_ spot.line (expression_of e.now) (body_of a.now) (body_of b.now) end) ≡ true }
     requires place { spot.place ≡ length sites.old.items }
     requires room { length sites.old.items + place_count (if_ spot.line (expression_of e.now) (body_of a.now) (body_of b.now) end) ≤ site_limit }
-    ensures code { OnOk result (code.new.items ≡ code.old.items ++ body_code scope.now.program scope.now.locals (length code.old.items) spot.place (if_ spot.line (expression_of e.now) (body_of a.now) (body_of b.now) end)) }
+    ensures code { OnOk result (code.new.items ≡ code.old.items ++ flat_body scope.now.program scope.now.locals (length code.old.items) spot.place (if_ spot.line (expression_of e.now) (body_of a.now) (body_of b.now) end)) }
     ensures sites { OnOk result (sites.new.items ≡ sites.old.items ++ body_sites scope.now.program scope.now.locals (length code.old.items) (if_ spot.line (expression_of e.now) (body_of a.now) (body_of b.now) end)) }
 {
     put_site(sites, spot.line, None)?;
@@ -100,7 +100,7 @@ fn repeat(
     requires counted { takes_body scope.now.program (while_ spot.line (expression_of e.now) (body_of a.now) end) ≡ true }
     requires place { spot.place ≡ length sites.old.items }
     requires room { length sites.old.items + place_count (while_ spot.line (expression_of e.now) (body_of a.now) end) ≤ site_limit }
-    ensures code { OnOk result (code.new.items ≡ code.old.items ++ body_code scope.now.program scope.now.locals (length code.old.items) spot.place (while_ spot.line (expression_of e.now) (body_of a.now) end)) }
+    ensures code { OnOk result (code.new.items ≡ code.old.items ++ flat_body scope.now.program scope.now.locals (length code.old.items) spot.place (while_ spot.line (expression_of e.now) (body_of a.now) end)) }
     ensures sites { OnOk result (sites.new.items ≡ sites.old.items ++ body_sites scope.now.program scope.now.locals (length code.old.items) (while_ spot.line (expression_of e.now) (body_of a.now) end)) }
 {
     put_site(sites, spot.line, None)?;
@@ -133,7 +133,7 @@ pub fn body(
     requires known { knows_body scope.now.program scope.now.locals (body_of body.now) ≡ true }
     requires counted { takes_body scope.now.program (body_of body.now) ≡ true }
     requires room { length sites.old.items + place_count (body_of body.now) ≤ site_limit }
-    ensures code { OnOk result (code.new.items ≡ code.old.items ++ body_code scope.now.program scope.now.locals (length code.old.items) (length sites.old.items) (body_of body.now)) }
+    ensures code { OnOk result (code.new.items ≡ code.old.items ++ flat_body scope.now.program scope.now.locals (length code.old.items) (length sites.old.items) (body_of body.now)) }
     ensures sites { OnOk result (sites.new.items ≡ sites.old.items ++ body_sites scope.now.program scope.now.locals (length code.old.items) (body_of body.now)) }
 {
     let mut at = body;
@@ -157,7 +157,7 @@ fn statement(
     requires counted { takes_body scope.now.program (behind spot.line kind.now end) ≡ true }
     requires place { spot.place ≡ length sites.old.items }
     requires room { length sites.old.items + place_count (behind spot.line kind.now end) ≤ site_limit }
-    ensures code { OnOk result (code.new.items ≡ code.old.items ++ body_code scope.now.program scope.now.locals (length code.old.items) spot.place (behind spot.line kind.now end)) }
+    ensures code { OnOk result (code.new.items ≡ code.old.items ++ flat_body scope.now.program scope.now.locals (length code.old.items) spot.place (behind spot.line kind.now end)) }
     ensures sites { OnOk result (sites.new.items ≡ sites.old.items ++ body_sites scope.now.program scope.now.locals (length code.old.items) (behind spot.line kind.now end)) }
 {
     match kind {

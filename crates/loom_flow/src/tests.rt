@@ -22,7 +22,7 @@ const PRODUCT: &str = "shared x;\nfn main() {\nprint (x + 1) * (x + 2);\n}\n";
 fn flow_of(alloc: Global, text: &str) -> Result<Flow, LangError> {
     let bytes = text.as_bytes();
     if bytes.len() > FILE_LIMIT {
-        return Err(LangError::Refused);
+        return Err(LangError::NoMemory);
     }
     Ok(lower(alloc, &parse_program(alloc, bytes)?)?)
 }

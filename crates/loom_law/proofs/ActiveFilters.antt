@@ -12,7 +12,7 @@ use Rattle.loom_lang.specs.Trace.{Locals, begin, end, trap, read, write, lock, u
 use Rattle.loom_law.specs.Walk.{tick_after}
 use Rattle.loom_law.specs.Filter.{Site, statement, function, Ruling, Plan, matching, has, waits, posts, clauses}
 use Rattle.loom_law.specs.Control.{entries_of, listed_places, control}
-use Rattle.loom_law.specs.Walk.{Version, Plans, Operation, wait, enters, at, past, post, leave, back, tick, cross, blocked, PartStep, goes, makes, Inside, OpenFrame, Spot, elsewhere, beginning, entered, complete, left, trapped, Queue, Walk, unborn, holds, begins_in, owed_waits, owed_enters, owed_by, owed_at, is_among, all_inside, completed, in_frame, owed_posts, owed_leaves, events_of, owed_past, owed_behind, all_leaves, with_back, with_tick, begun_with, function_line, without_first, taking, behind_entry, after_item, filter_of, stays, still_owed, new_filters, owed_fresh, owed_behind_cross, crossing, after_operation, walk_from, Owes, AreWoven}
+use Rattle.loom_law.specs.Walk.{Version, Plans, Operation, wait, enters, at, past, post, leave, back, tick, cross, blocked, PartStep, goes, makes, Inside, OpenFrame, Spot, elsewhere, beginning, entered, complete, left, trapped, Queue, Walk, unborn, holds, begins_in, owed_waits, owed_enters, owed_by, owed_at, is_inside_clause, all_inside, completed, in_frame, owed_posts, owed_leaves, events_of, owed_past, owed_behind, all_leaves, with_back, with_tick, begun_with, function_line, without_first, taking, behind_entry, after_item, filter_of, stays, still_owed, new_filters, owed_fresh, owed_behind_cross, crossing, after_operation, walk_from, Owes, AreWoven}
 use Rattle.loom_law.specs.ThreadPart.{walk_of, IsPart}
 use Rattle.loom_law.specs.Lawful.{plans, own, Setting, is_installed}
 use Rattle.loom_law.specs.Laws.{HasOwedActive}
@@ -61,7 +61,7 @@ leaves_in : (ks : List ℕ) (hs : List (ℕ × ℕ)) (is : List Inside) (k l : �
 leaves_in ks hs is k l [] more i h = h
 leaves_in ks hs is k l (c ∷ cs) more i h =
     let ih : AllIn ks (owed_leaves hs is k l cs more) = leaves_in ks hs is k l cs more i h in
-    pick (AllIn ks) (holds hs k c.0 && not (is_among is k c.0)) _ _ (λ b. (i, ih)) (λ b. ih)
+    pick (AllIn ks) (holds hs k c.0 && not (is_inside_clause is k c.0)) _ _ (λ b. (i, ih)) (λ b. ih)
 
 by_in : (ks : List ℕ) (f : Plan) (k : ℕ) (hs : List (ℕ × ℕ)) (l : ℕ) (ns : List ℕ) (more : Queue) → has ks k ≡ true → AllIn ks more → AllIn ks (owed_by f k hs l ns more)
 by_in ks f k hs l [] more i h = h

@@ -12,11 +12,11 @@ use Rattle.loom_lang.specs.Trace.{division, index, not_held, not_spawned, thread
 use Rattle.loom_lang.specs.Acts.{Deed, AnswerTheSame}
 use Rattle.loom_lang.specs.Alike.{AreAlike}
 use Rattle.loom_lang.proofs.NextItem.{one_next_item}
-use Rattle.loom_event.specs.Answer.{trapped, IsAnswered}
+use Rattle.loom_event.specs.Answer.{trap_deed, IsAnswered}
 use Rattle.loom_event.specs.Event.{event_of_deed, entry_by, targets}
 use Rattle.loom_event.specs.Entries.{thread_of, is_thread}
 use Rattle.loom_event.specs.Replay.{ThreadState, start, thread_at, replay, IsAllowed}
-use Rattle.loom_law.specs.Walk.{Version, Plans, wait, enters, at, past, post, leave, back, tick, cross, blocked, Queue, PartStep, goes, makes, items, told, Walk, unborn, behind_entry, crossing, after, walk_from, request_place, place_of_item, place_of_next, Acts, AsksFor, MayCross, MayBlock, MayStand, AreWoven}
+use Rattle.loom_law.specs.Walk.{Version, Plans, wait, enters, at, past, post, leave, back, tick, cross, blocked, Queue, PartStep, goes, makes, items, filter_entries, Walk, unborn, behind_entry, crossing, walk_behind, walk_from, request_place, place_of_item, place_of_next, Acts, AsksFor, MayCross, MayBlock, MayStand, AreWoven}
 use Rattle.loom_law.specs.ThreadPart.{Own, IsPart, KeepsAway, AsksToAct, GoesOn}
 use Rattle.loom_law.specs.Control.{Control, control, versions_of, entries_of}
 use Rattle.loom_law.specs.Lawful.{Setting, Front, front_of, plans, own, IsFlagged, is_cross, IsLawful, MayFollow, Permits}
@@ -68,53 +68,53 @@ more p plans z [] us (goes (made l begin) ∷ ss) ahead h = absurd h.0.1
 more p plans z (v ∷ vs) us (goes (made l begin) ∷ ss) ahead h =
     let ih = more p plans (record (behind_entry z) { active = v.active }) vs us ss ahead h.1 in (((h.0.0, tt), ih.0), ih.1)
 more p plans z vs us (goes (made l end) ∷ ss) ahead h =
-    let ih = more p plans (after p plans z (goes (made l end))) vs us ss ahead h.1 in ((h.0, ih.0), ih.1)
+    let ih = more p plans (walk_behind p plans z (goes (made l end))) vs us ss ahead h.1 in ((h.0, ih.0), ih.1)
 more p plans z vs us (goes (made l (trap c)) ∷ ss) ahead h =
-    let ih = more p plans (after p plans z (goes (made l (trap c)))) vs us ss ahead h.1 in ((h.0, ih.0), ih.1)
+    let ih = more p plans (walk_behind p plans z (goes (made l (trap c)))) vs us ss ahead h.1 in ((h.0, ih.0), ih.1)
 more p plans z vs us (goes (made l (read x v)) ∷ ss) ahead h =
-    let ih = more p plans (after p plans z (goes (made l (read x v)))) vs us ss ahead h.1 in ((h.0, ih.0), ih.1)
+    let ih = more p plans (walk_behind p plans z (goes (made l (read x v)))) vs us ss ahead h.1 in ((h.0, ih.0), ih.1)
 more p plans z vs us (goes (made l (write x v)) ∷ ss) ahead h =
-    let ih = more p plans (after p plans z (goes (made l (write x v)))) vs us ss ahead h.1 in ((h.0, ih.0), ih.1)
+    let ih = more p plans (walk_behind p plans z (goes (made l (write x v)))) vs us ss ahead h.1 in ((h.0, ih.0), ih.1)
 more p plans z vs us (goes (made l (lock x)) ∷ ss) ahead h =
-    let ih = more p plans (after p plans z (goes (made l (lock x)))) vs us ss ahead h.1 in ((h.0, ih.0), ih.1)
+    let ih = more p plans (walk_behind p plans z (goes (made l (lock x)))) vs us ss ahead h.1 in ((h.0, ih.0), ih.1)
 more p plans z vs us (goes (made l (unlock x)) ∷ ss) ahead h =
-    let ih = more p plans (after p plans z (goes (made l (unlock x)))) vs us ss ahead h.1 in ((h.0, ih.0), ih.1)
+    let ih = more p plans (walk_behind p plans z (goes (made l (unlock x)))) vs us ss ahead h.1 in ((h.0, ih.0), ih.1)
 more p plans z vs us (goes (made l (down x)) ∷ ss) ahead h =
-    let ih = more p plans (after p plans z (goes (made l (down x)))) vs us ss ahead h.1 in ((h.0, ih.0), ih.1)
+    let ih = more p plans (walk_behind p plans z (goes (made l (down x)))) vs us ss ahead h.1 in ((h.0, ih.0), ih.1)
 more p plans z vs us (goes (made l (up x)) ∷ ss) ahead h =
-    let ih = more p plans (after p plans z (goes (made l (up x)))) vs us ss ahead h.1 in ((h.0, ih.0), ih.1)
+    let ih = more p plans (walk_behind p plans z (goes (made l (up x)))) vs us ss ahead h.1 in ((h.0, ih.0), ih.1)
 more p plans z vs us (goes (made l (spawn c f ws)) ∷ ss) ahead h =
-    let ih = more p plans (after p plans z (goes (made l (spawn c f ws)))) vs us ss ahead h.1 in ((h.0, ih.0), ih.1)
+    let ih = more p plans (walk_behind p plans z (goes (made l (spawn c f ws)))) vs us ss ahead h.1 in ((h.0, ih.0), ih.1)
 more p plans z vs us (goes (made l (join c)) ∷ ss) ahead h =
-    let ih = more p plans (after p plans z (goes (made l (join c)))) vs us ss ahead h.1 in ((h.0, ih.0), ih.1)
+    let ih = more p plans (walk_behind p plans z (goes (made l (join c)))) vs us ss ahead h.1 in ((h.0, ih.0), ih.1)
 more p plans z vs us (goes (made l (print v)) ∷ ss) ahead h =
-    let ih = more p plans (after p plans z (goes (made l (print v)))) vs us ss ahead h.1 in ((h.0, ih.0), ih.1)
+    let ih = more p plans (walk_behind p plans z (goes (made l (print v)))) vs us ss ahead h.1 in ((h.0, ih.0), ih.1)
 more p plans z vs us (goes (begins l env) ∷ ss) ahead h =
-    let ih = more p plans (after p plans z (goes (begins l env))) vs us ss ahead h.1 in ((h.0, ih.0), ih.1)
+    let ih = more p plans (walk_behind p plans z (goes (begins l env))) vs us ss ahead h.1 in ((h.0, ih.0), ih.1)
 more p plans z vs us (goes (done l) ∷ ss) ahead h =
-    let ih = more p plans (after p plans z (goes (done l))) vs us ss ahead h.1 in ((h.0, ih.0), ih.1)
+    let ih = more p plans (walk_behind p plans z (goes (done l))) vs us ss ahead h.1 in ((h.0, ih.0), ih.1)
 more p plans z vs us (goes (edge l) ∷ ss) ahead h =
-    let ih = more p plans (after p plans z (goes (edge l))) vs us ss ahead h.1 in ((h.0, ih.0), ih.1)
+    let ih = more p plans (walk_behind p plans z (goes (edge l))) vs us ss ahead h.1 in ((h.0, ih.0), ih.1)
 more p plans z vs us (goes (enter f env) ∷ ss) ahead h =
-    let ih = more p plans (after p plans z (goes (enter f env))) vs us ss ahead h.1 in ((h.0, ih.0), ih.1)
+    let ih = more p plans (walk_behind p plans z (goes (enter f env))) vs us ss ahead h.1 in ((h.0, ih.0), ih.1)
 more p plans z vs us (goes (out f) ∷ ss) ahead h =
-    let ih = more p plans (after p plans z (goes (out f))) vs us ss ahead h.1 in ((h.0, ih.0), ih.1)
+    let ih = more p plans (walk_behind p plans z (goes (out f))) vs us ss ahead h.1 in ((h.0, ih.0), ih.1)
 more p plans z vs us (makes l (wait k n) ∷ ss) ahead h =
-    let ih = more p plans (after p plans z (makes l (wait k n))) vs us ss ahead h.1 in ((h.0, ih.0), ih.1)
+    let ih = more p plans (walk_behind p plans z (makes l (wait k n))) vs us ss ahead h.1 in ((h.0, ih.0), ih.1)
 more p plans z vs us (makes l (enters k c) ∷ ss) ahead h =
-    let ih = more p plans (after p plans z (makes l (enters k c))) vs us ss ahead h.1 in ((h.0, ih.0), ih.1)
+    let ih = more p plans (walk_behind p plans z (makes l (enters k c))) vs us ss ahead h.1 in ((h.0, ih.0), ih.1)
 more p plans z vs us (makes l (at k ns) ∷ ss) ahead h =
-    let ih = more p plans (after p plans z (makes l (at k ns))) vs us ss ahead h.1 in ((h.0, ih.0), ih.1)
+    let ih = more p plans (walk_behind p plans z (makes l (at k ns))) vs us ss ahead h.1 in ((h.0, ih.0), ih.1)
 more p plans z vs us (makes l (past k ns) ∷ ss) ahead h =
-    let ih = more p plans (after p plans z (makes l (past k ns))) vs us ss ahead h.1 in ((h.0, ih.0), ih.1)
+    let ih = more p plans (walk_behind p plans z (makes l (past k ns))) vs us ss ahead h.1 in ((h.0, ih.0), ih.1)
 more p plans z vs us (makes l (post k n) ∷ ss) ahead h =
-    let ih = more p plans (after p plans z (makes l (post k n))) vs us ss ahead h.1 in ((h.0, ih.0), ih.1)
+    let ih = more p plans (walk_behind p plans z (makes l (post k n))) vs us ss ahead h.1 in ((h.0, ih.0), ih.1)
 more p plans z vs us (makes l (leave k c) ∷ ss) ahead h =
-    let ih = more p plans (after p plans z (makes l (leave k c))) vs us ss ahead h.1 in ((h.0, ih.0), ih.1)
+    let ih = more p plans (walk_behind p plans z (makes l (leave k c))) vs us ss ahead h.1 in ((h.0, ih.0), ih.1)
 more p plans z vs us (makes l back ∷ ss) ahead h =
-    let ih = more p plans (after p plans z (makes l back)) vs us ss ahead h.1 in ((h.0, ih.0), ih.1)
+    let ih = more p plans (walk_behind p plans z (makes l back)) vs us ss ahead h.1 in ((h.0, ih.0), ih.1)
 more p plans z vs us (makes l (tick x) ∷ ss) ahead h =
-    let ih = more p plans (after p plans z (makes l (tick x))) vs us ss ahead h.1 in ((h.0, ih.0), ih.1)
+    let ih = more p plans (walk_behind p plans z (makes l (tick x))) vs us ss ahead h.1 in ((h.0, ih.0), ih.1)
 more p plans z [] us (makes l (cross x m k) ∷ ss) ahead h =
     let c : MayCross p (to_take z []) (items ss ++ ahead) l x m k = h.0 in
     let no : None ≡ Some m = c.version in cc
@@ -131,7 +131,7 @@ more p plans z (v ∷ vs) us (makes l (cross x m k) ∷ ss) ahead h =
     } in
     ((d, ih.0), ih.1)
 more p plans z vs us (makes l (blocked what) ∷ ss) ahead h =
-    let ih = more p plans (after p plans z (makes l (blocked what))) vs us ss ahead h.1 in
+    let ih = more p plans (walk_behind p plans z (makes l (blocked what))) vs us ss ahead h.1 in
     let c : MayBlock (to_take z vs) (items ss ++ ahead) l what = h.0 in
     let d : MayBlock (to_take z (vs ++ us)) (items ss ++ ahead) l what =
     record { asks = asks_same z vs (vs ++ us) (items ss ++ ahead) l what c.asks; not_yet = c.not_yet } in
@@ -144,7 +144,7 @@ abbrev pub IsFree : List PartStep → Act → Type 0
 IsFree ss a = (before : List PartStep) (l c : ℕ) (behind : List PartStep) → ss ≡ before ++ makes l (blocked (w.Join c)) ∷ behind → a ≡ trap (not_spawned (pos c)) → ⊥
 
 free_behind : (s : PartStep) (ss : List PartStep) (a : Act) → IsFree (s ∷ ss) a → IsFree ss a
-free_behind s ss a h before l c behind is trapped = h (s ∷ before) l c behind (ap (◌∷◌ s) is) trapped
+free_behind s ss a h before l c behind is trap_deed = h (s ∷ before) l c behind (ap (◌∷◌ s) is) trap_deed
 
 join_same : (c : ℕ) (a : Act) → AnswerTheSame (join c) a → (a ≡ trap (not_spawned (pos c)) → ⊥) → join c ≡ a
 join_same c begin h free = h
@@ -307,14 +307,14 @@ stand_ahead p z (makes l (cross x v n)) is m b a like free h =
     }
 stand_ahead p z (makes l (blocked what)) is m b a like free h =
     let c : MayBlock z (is ++ made m b ∷ []) l what = h in
-    record { asks = asked_ahead z is m l b a what like (λ d e trapped. free l d (ap (λ u. makes l (blocked u)) e) trapped) c.asks; not_yet = c.not_yet }
+    record { asks = asked_ahead z is m l b a what like (λ d e trap_deed. free l d (ap (λ u. makes l (blocked u)) e) trap_deed) c.asks; not_yet = c.not_yet }
 
 other_act : (p : Source) (plans : Plans) (z : Walk) (ss : List PartStep) (m : ℕ) (b a : Act) → AnswerTheSame b a → IsFree ss a → AreWoven p plans z ss (made m b ∷ [])
     → AreWoven p plans z ss (made m a ∷ [])
 other_act p plans z [] m b a like free h = tt
 other_act p plans z (s ∷ ss) m b a like free h = (
-  stand_ahead p z s (items ss) m b a like (λ l c is trapped. free [] l c ss (ap (λ u. u ∷ ss) is) trapped) h.0,
-  other_act p plans (after p plans z s) ss m b a like (free_behind s ss a free) h.1,
+  stand_ahead p z s (items ss) m b a like (λ l c is trap_deed. free [] l c ss (ap (λ u. u ∷ ss) is) trap_deed) h.0,
+  other_act p plans (walk_behind p plans z s) ss m b a like (free_behind s ss a free) h.1,
 )
 
 -- what comes next is an act that is answered the same
@@ -330,13 +330,13 @@ next_act (out f) l a h = cc
 
 pub walk_append : (p : Source) (plans : Plans) (z : Walk) (us vs : List PartStep) → walk_from p plans z (us ++ vs) ≡ walk_from p plans (walk_from p plans z us) vs
 walk_append p plans z [] vs = refl
-walk_append p plans z (u ∷ us) vs = walk_append p plans (after p plans z u) us vs
+walk_append p plans z (u ∷ us) vs = walk_append p plans (walk_behind p plans z u) us vs
 
 pub woven_last : (p : Source) (plans : Plans) (z : Walk) (ss : List PartStep) (s : PartStep) (ahead : List Item) → AreWoven p plans z ss (items (s ∷ []) ++ ahead)
     → MayStand p (walk_from p plans z ss) s ahead → AreWoven p plans z (ss ++ s ∷ []) ahead
 woven_last p plans z [] s ahead h m = (m, tt)
 woven_last p plans z (u ∷ ss) s ahead h m =
-    (subst (MayStand p z u) (sym (items_ahead ss (s ∷ []) ahead)) h.0, woven_last p plans (after p plans z u) ss s ahead h.1 m)
+    (subst (MayStand p z u) (sym (items_ahead ss (s ∷ []) ahead)) h.0, woven_last p plans (walk_behind p plans z u) ss s ahead h.1 m)
 
 -- the thread's part with the act behind these steps; but for the versions to come the walk there is the same
 record ActPart (p : Source) (plans : Plans) (t f : ℕ) (args : List ℤ) (vs ws : List Version) (es : List Entry) (l : ℕ) (a : Act) (steps : List PartStep) : Type 0 where
@@ -346,8 +346,8 @@ record ActPart (p : Source) (plans : Plans) (t f : ℕ) (args : List ℤ) (vs ws
   walk : walk_from p plans (unborn ws) steps ≡ to_take (walk_from p plans (unborn vs) steps) coming
 
 part_with : (p : Source) (plans : Plans) (t f : ℕ) (args : List ℤ) (vs ws : List Version) (es : List Entry) (l : ℕ) (a : Act) (steps : List PartStep)
-    → IsTrace p f args (items steps ++ made l a ∷ []) Open → AreWoven p plans (unborn ws) steps (made l a ∷ []) → told t steps ≡ es
-    → MayStand p (walk_from p plans (unborn ws) steps) (goes (made l a)) [] → Walk.coming (after p plans (walk_from p plans (unborn ws) steps) (goes (made l a))) ≡ []
+    → IsTrace p f args (items steps ++ made l a ∷ []) Open → AreWoven p plans (unborn ws) steps (made l a ∷ []) → filter_entries t steps ≡ es
+    → MayStand p (walk_from p plans (unborn ws) steps) (goes (made l a)) [] → Walk.coming (walk_behind p plans (walk_from p plans (unborn ws) steps) (goes (made l a))) ≡ []
     → (coming : List Version) → walk_from p plans (unborn ws) steps ≡ to_take (walk_from p plans (unborn vs) steps) coming → ActPart p plans t f args vs ws es l a steps
 part_with p plans t f args vs ws es l a steps trace woven tells stands taken coming walk =
     let last : List PartStep = goes (made l a) ∷ [] in
@@ -367,7 +367,7 @@ part_with p plans t f args vs ws es l a steps trace woven tells stands taken com
     }
 
 act_part : (p : Source) (plans : Plans) (t f : ℕ) (args : List ℤ) (vs : List Version) (v : Version) (es : List Entry) (l : ℕ) (a : Act) (steps : List PartStep)
-    → IsTrace p f args (items steps ++ made l a ∷ []) Open → AreWoven p plans (unborn vs) steps (made l a ∷ []) → told t steps ≡ es
+    → IsTrace p f args (items steps ++ made l a ∷ []) Open → AreWoven p plans (unborn vs) steps (made l a ∷ []) → filter_entries t steps ≡ es
     → Walk.owed (walk_from p plans (unborn vs) steps) ≡ [] → Walk.coming (walk_from p plans (unborn vs) steps) ≡ []
     → ActPart p plans t f args vs (with_newest (entry_by t l a) v vs) es l a steps
 act_part p plans t f args vs v es l begin steps trace woven tells rests taken =
@@ -377,9 +377,9 @@ act_part p plans t f args vs v es l begin steps trace woven tells rests taken =
     let next : Walk.coming z ++ v ∷ [] ≡ v ∷ [] = ap (λ us. us ++ v ∷ []) taken in
     let walk : walk_from p plans (unborn ws) steps ≡ to_take z (v ∷ []) = m.1 ∙ ap (to_take z) next in
     let stands : MayStand p (to_take z (v ∷ [])) (goes (made l begin)) [] = (rests, tt) in
-    let none : Walk.coming (after p plans (to_take z (v ∷ [])) (goes (made l begin))) ≡ [] = refl in
+    let none : Walk.coming (walk_behind p plans (to_take z (v ∷ [])) (goes (made l begin))) ≡ [] = refl in
     part_with p plans t f args vs ws es l begin steps trace m.0 tells (subst (λ y. MayStand p y (goes (made l begin)) []) (sym walk) stands)
-    (ap (λ y. Walk.coming (after p plans y (goes (made l begin)))) walk ∙ none) (v ∷ []) walk
+    (ap (λ y. Walk.coming (walk_behind p plans y (goes (made l begin)))) walk ∙ none) (v ∷ []) walk
 act_part p plans t f args vs u es l end steps trace woven tells rests taken =
     part_with p plans t f args vs vs es l end steps trace woven tells rests taken (Walk.coming (walk_from p plans (unborn vs) steps)) refl
 act_part p plans t f args vs u es l (trap c) steps trace woven tells rests taken =
@@ -435,16 +435,16 @@ still_there s es h front c y there none =
     subst (λ xs. IsOf (thread_at (replay (start p s.threads) (take n h.events)) c) (thread_at (replay (start p s.threads) xs) c)) (take-append-drop n h.events) kept in
     subst (IsOf (Some y)) none (subst (λ u. IsOf u o) there whole)
 
-free_steps : (s : Setting) (es : List Entry) (h : IsLawful s es) (t : ℕ) (d : Deed) (steps : List PartStep) → told t steps ≡ entries_of t es
+free_steps : (s : Setting) (es : List Entry) (h : IsLawful s es) (t : ℕ) (d : Deed) (steps : List PartStep) → filter_entries t steps ≡ entries_of t es
     → IsAllowed (replay (start s.program s.threads) h.events) (event_of_deed t d) → IsFree steps d.act
-free_steps s es h t d steps tells ok before l c behind is trapped =
+free_steps s es h t d steps tells ok before l c behind is trap_deed =
     let x : Entry = e.Blocked t l (w.Join c) in
-    let whole : entries_of t es ≡ told t before ++ x ∷ told t behind =
-    sym tells ∙ (ap (told t) is ∙ told_append t before (makes l (blocked (w.Join c)) ∷ behind)) in
-    let found = entry_in t es (told t before) x (told t behind) whole in
+    let whole : entries_of t es ≡ filter_entries t before ++ x ∷ filter_entries t behind =
+    sym tells ∙ (ap (filter_entries t) is ∙ told_append t before (makes l (blocked (w.Join c)) ∷ behind)) in
+    let found = entry_in t es (filter_entries t before) x (filter_entries t behind) whole in
     let stood : MayFollow s (front_of s found.0 (take (length (targets found.0)) h.events)) x found.1.0 = h.follows found.0 x found.1.0 found.1.1 in
     let caused : IsAllowed (replay (start s.program s.threads) h.events) (event_of_deed t (record { line = d.line; act = trap (not_spawned (pos c)) })) =
-    subst (λ a. IsAllowed (replay (start s.program s.threads) h.events) (event_of_deed t (record { line = d.line; act = a }))) trapped ok in
+    subst (λ a. IsAllowed (replay (start s.program s.threads) h.events) (event_of_deed t (record { line = d.line; act = a }))) trap_deed ok in
     still_there s es h found.0 c stood.1.0 stood.1.1 (caused.1 c refl)
 
 -- The turn

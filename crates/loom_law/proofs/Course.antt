@@ -6,10 +6,10 @@ use Rattle.loom_tree.specs.declared.expression.Op.{Op}
 use Rattle.loom_tree.specs.Tree.{Expression, num, var, cell, neg, inverse, bin, Right, Simple, let_, set, set_cell, return, Body, simple, if_, while_, Function, Source}
 use Rattle.loom_tree.specs.Tree as tree
 use Rattle.loom_lang.specs.Numbers.{Cells, cells_named, mutex_number, sema_number, function_number}
-use Rattle.loom_lang.specs.Values.{is_zero, applied, divides, negated, inverted}
-use Rattle.loom_lang.specs.Trace.{Locals, Cause, division, index, not_held, not_spawned, threads, frames, overflow, Act, begin, trap, read, write, lock, unlock, down, up, spawn, join, print, Item, made, begins, done, edge, enter, out, Outcome, Finished, Open, Lists, broken, finished, emit, choice, either, any, Thread, trapped, numbered, value_in, reading, reading_word, variable, within, indexed, operated, expression, arguments, Calls, right, updated, writing_word, stored, joined, effect, chosen, turns, body, frame_locals, framed, calls_to, frame_limit, ended, thread, IsTrace}
+use Rattle.loom_lang.specs.Values.{is_zero, op_value, divides, negated, inverted}
+use Rattle.loom_lang.specs.Trace.{Locals, Cause, division, index, not_held, not_spawned, threads, frames, overflow, Act, begin, trap, read, write, lock, unlock, down, up, spawn, join, print, Item, made, begins, done, edge, enter, out, Outcome, Finished, Open, Lists, broken, finished, emit, choice, either, any, Thread, trap_lists, numbered, value_in, reading, reading_word, variable, within, at_index, operated, expression, each_argument, Calls, right, updated, writing_word, stored, join_of, effect, chosen, turns, body, frame_locals, framed, calls_to, frame_limit, thread_end, thread, IsTrace}
 use Rattle.loom_lang.specs.Trace as trace
-use Rattle.loom_law.specs.Paths.{Node, links, links_of, first, behind_simple, statements, others, is_return, has_return, Begins, called, called_right, called_by}
+use Rattle.loom_law.specs.Paths.{Node, links, links_of, first_node, behind_simple, statements, others, is_return, has_return, Begins, called, called_right, called_by}
 use Rattle.loom_law.specs.Paths as path
 
 -- an open frame: its function, its last beginning, completion or back edge (none where it has just begun), and the statements that have begun and
@@ -125,7 +125,7 @@ emit_within p s i M m is r (inr h) =
 abbrev Stops : Thread → Type 0
 Stops t = Within t.program no_frames t.stopped
 
-trapped_inside : (t : Thread) (ls : List Level) (l : ℕ) (c : Cause) → Acts ls l → Stops t → WithinFrames t.program ls (trapped t l c)
+trapped_inside : (t : Thread) (ls : List Level) (l : ℕ) (c : Cause) → Acts ls l → Stops t → WithinFrames t.program ls (trap_lists t l c)
 trapped_inside t ls l c a st g = emit_within t.program _ (made l (trap c)) t.stopped (λ is r h. (a, st is r h))
 
 choice_inside : (p : Source) (ls : List Level) (b : Bool) (M N : Lists) → WithinFrames p ls M → WithinFrames p ls N → WithinFrames p ls (choice b M N)
@@ -162,13 +162,13 @@ within_inside t ls l from (Some n) (pos i) more a st m = choice_inside t.program
 within_inside t ls l from (Some n) (negsuc i) more a st m = trapped_inside t ls l index a st
 
 indexed_inside : (t : Thread) (ls : List Level) (l : ℕ) (c : Option Cells) (v : ℤ) (more : ℕ → Lists) → Acts ls l → Stops t
-    → ((w : ℕ) → WithinFrames t.program ls (more w)) → WithinFrames t.program ls (indexed t l c v more)
+    → ((w : ℕ) → WithinFrames t.program ls (more w)) → WithinFrames t.program ls (at_index t l c v more)
 indexed_inside t ls l None v more a st m = λ g. broken_within t.program _
 indexed_inside t ls l (Some c) v more a st m = within_inside t ls l c.first c.count v more a st m
 
 operated_inside : (t : Thread) (ls : List Level) (l : ℕ) (o : Op) (x y : ℤ) (more : ℤ → Lists) → Acts ls l → Stops t
     → ((v : ℤ) → WithinFrames t.program ls (more v)) → WithinFrames t.program ls (operated t l o x y more)
-operated_inside t ls l o x y more a st m = choice_inside t.program ls (divides o && is_zero y) _ _ (trapped_inside t ls l division a st) (m (applied o x y))
+operated_inside t ls l o x y more a st m = choice_inside t.program ls (divides o && is_zero y) _ _ (trapped_inside t ls l division a st) (m (op_value o x y))
 
 expression_inside : (t : Thread) (ls : List Level) (l : ℕ) (env : Locals) (e : Expression) (more : ℤ → Lists) → Acts ls l → Stops t
     → ((v : ℤ) → WithinFrames t.program ls (more v)) → WithinFrames t.program ls (expression t l env e more)
@@ -182,7 +182,7 @@ expression_inside t ls l env (bin o e f) more a st m =
     expression_inside t ls l env e _ a st (λ v. expression_inside t ls l env f _ a st (λ w. operated_inside t ls l o v w more a st m))
 
 arguments_inside : (t : Thread) (ls : List Level) (l : ℕ) (env : Locals) (es : List Expression) (more : List ℤ → Lists) → Acts ls l → Stops t
-    → ((vs : List ℤ) → WithinFrames t.program ls (more vs)) → WithinFrames t.program ls (arguments t l env es more)
+    → ((vs : List ℤ) → WithinFrames t.program ls (more vs)) → WithinFrames t.program ls (each_argument t l env es more)
 arguments_inside t ls l env [] more a st m = m []
 arguments_inside t ls l env (e ∷ es) more a st m =
     expression_inside t ls l env e _ a st (λ v. arguments_inside t ls l env es _ a st (λ vs. m (v ∷ vs)))
@@ -300,7 +300,7 @@ stored_inside t ls l env None x v more a m = in_word (cells_named t.program x)
     in_word None = λ g. broken_within t.program _
     in_word (Some c) = λ g. emit_within t.program _ (made l (write c.first v)) (more env) (λ is r h. (a, m env [] is r h))
 
-joined_inside : (t : Thread) (ls : List Level) (l : ℕ) (v : ℤ) (M : Lists) → Acts ls l → Stops t → WithinFrames t.program ls M → WithinFrames t.program ls (joined t l v M)
+joined_inside : (t : Thread) (ls : List Level) (l : ℕ) (v : ℤ) (M : Lists) → Acts ls l → Stops t → WithinFrames t.program ls M → WithinFrames t.program ls (join_of t l v M)
 joined_inside t ls l (pos c) M a st m =
     either_inside t.program ls _ _ (trapped_inside t ls l (not_spawned (pos c)) a st) (λ g. emit_within t.program _ (made l (join c)) M (λ is r h. (a, m [] is r h)))
 joined_inside t ls l (negsuc c) M a st m = trapped_inside t ls l (not_spawned (negsuc c)) a st
@@ -407,7 +407,7 @@ sub_two {A} n all xs ys zs is s =
     sub_right xs ys zs (subst P is (sub_behind n all zs s))
 
 body_inside : (t : Thread) (calls : Calls) (n h : ℕ) (f : Function) (xs : List Level) (ret : ℤ → Lists) → Stops t → CallsInside t calls → Returns t.program h f xs ret
-    → (env : Locals) (b : Body) (k : Node) (os : List Body) (m : Option Node) (more : Locals → Lists) → Stands f b k os → Follows f m (first b k)
+    → (env : Locals) (b : Body) (k : Node) (os : List Body) (m : Option Node) (more : Locals → Lists) → Stands f b k os → Follows f m (first_node b k)
     → ((m' : Option Node) → Follows f m' k → (env' : Locals) → WithinFrames t.program (level h f m' os ∷ xs) (more env'))
     → WithinFrames t.program (level h f m os ∷ xs) (body t calls n env b ret more)
 body_inside t calls n h f xs ret st c r env tree.end k os m more a fol go = go m fol env
@@ -415,7 +415,7 @@ body_inside t calls n h f xs ret st c r env (simple l s rest) k os m more a fol 
     let x : Body = simple l s tree.end in
     let all : List Body = statements (simple l s rest) in
     let begun : Follows f (Some (path.begins l)) (path.complete l) = a.links _ (0, omega arith, refl) in
-    let goes_on : Follows f (Some (path.complete l)) (behind_simple s (first rest k)) = a.links _ (1, omega arith, refl) in
+    let goes_on : Follows f (Some (path.complete l)) (behind_simple s (first_node rest k)) = a.links _ (1, omega arith, refl) in
     let r_all : Sub (statements rest) all = sub_behind 1 all all (sub_itself all) in
     let others_stand : Stands f rest k os = record {
       links = sub_behind 2 (links (simple l s rest) k) (links_of f) a.links;
@@ -433,9 +433,9 @@ body_inside t calls n h f xs ret st c r env (if_ l e y z rest) k os m more a fol
     let x : Body = if_ l e y z tree.end in
     let all : List Body = statements (if_ l e y z rest) in
     let cs : List (Node × Node) = links (if_ l e y z rest) k in
-    let to_y : Follows f (Some (path.begins l)) (first y (path.complete l)) = a.links _ (0, omega arith, refl) in
-    let to_z : Follows f (Some (path.begins l)) (first z (path.complete l)) = a.links _ (1, omega arith, refl) in
-    let goes_on : Follows f (Some (path.complete l)) (first rest k) = a.links _ (2, omega arith, refl) in
+    let to_y : Follows f (Some (path.begins l)) (first_node y (path.complete l)) = a.links _ (0, omega arith, refl) in
+    let to_z : Follows f (Some (path.begins l)) (first_node z (path.complete l)) = a.links _ (1, omega arith, refl) in
+    let goes_on : Follows f (Some (path.complete l)) (first_node rest k) = a.links _ (2, omega arith, refl) in
     let ly : List (Node × Node) = links y (path.complete l) in
     let lz : List (Node × Node) = links z (path.complete l) in
     let lr : List (Node × Node) = links rest k in
@@ -479,10 +479,10 @@ body_inside t calls n h f xs ret st c r env (while_ l e y rest) k os m more a fo
     let y_all : Sub sy all = sub_one 1 all sy sr all refl (sub_itself all) in
     let r_all : Sub sr all = sub_two 1 all sy sr all refl (sub_itself all) in
     let y_in : Sub sy (others (statements x)) = λ e w. Contains-append_left sy [] e w in
-    let H : Option Node → Type 0 = λ z. IsWithin z l × (Follows f z (first y (path.turns l)) × Follows f z (path.complete l)) in
+    let H : Option Node → Type 0 = λ z. IsWithin z l × (Follows f z (first_node y (path.turns l)) × Follows f z (path.complete l)) in
     let begun : H (Some (path.begins l)) = (refl, (a.links _ (0, omega arith, refl), a.links _ (1, omega arith, refl))) in
     let turned : H (Some (path.turns l)) = (refl, (a.links _ (2, omega arith, refl), a.links _ (3, omega arith, refl))) in
-    let goes_on : Follows f (Some (path.complete l)) (first rest k) = a.links _ (4, omega arith, refl) in
+    let goes_on : Follows f (Some (path.complete l)) (first_node rest k) = a.links _ (4, omega arith, refl) in
     let y_stands : Stands f y (path.turns l) (x ∷ os) = record {
       links = sub_one 5 (links (while_ l e y rest) k) ly lr (links_of f) refl a.links;
       statements = (λ e w. a.statements e (y_all e w));
@@ -527,13 +527,13 @@ finished_within p s is r h =
     let P : List Item → Type 0 = λ z. IsCourse p s z in
     subst P (sym h.0) tt
 
-ended_behind : (p : Source) (l : ℕ) → WithinFrames p [] (ended l)
+ended_behind : (p : Source) (l : ℕ) → WithinFrames p [] (thread_end l)
 ended_behind p l g = emit_within p _ (made l trace.end) finished (λ is r h. (tt, finished_within p no_frames is r h))
 
 thread_within : (p : Source) (f : Option Function) (h : ℕ) (vs : List ℤ) (n : ℕ) → slice_get p.funcs h ≡ f → Within p no_frames (thread p f h vs n)
 thread_within p None h vs n is = broken_within p no_frames
 thread_within p (Some g) h vs n is =
-    let t : Thread = record { program = p; stopped = ended g.line } in
+    let t : Thread = record { program = p; stopped = thread_end g.line } in
     let st : Stops t = ended_behind p g.line [] in
     emit_within p no_frames (made g.line begin) _ (λ js r w. (
       tt,

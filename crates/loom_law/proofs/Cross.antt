@@ -4,7 +4,7 @@ use Rattle.std.specs.List.{filter}
 use Rattle.std.proofs.lemmas.Bool.{and_parts}
 use Rattle.std.proofs.lemmas.List.Elements.{filter-append}
 use Rattle.loom_law.specs.Filter.{Range, Ruling, has, share, entry_events, ranges_of, clauses}
-use Rattle.loom_law.specs.Walk.{Plans, wait, enters, at, past, post, leave, back, tick, cross, blocked, Inside, Queue, holds, is_among, is_left_with, with_back, entered_ranges, entered_regions, without_clause, without_filters, still_owed}
+use Rattle.loom_law.specs.Walk.{Plans, wait, enters, at, past, post, leave, back, tick, cross, blocked, Inside, Queue, holds, is_inside_clause, is_left_with, with_back, entered_ranges, entered_regions, without_clause, without_filters, still_owed}
 use Rattle.loom_law.proofs.Holdings.{or_cases, or_left, or_right, either_of, pick, same_number, HeldAll, HeldEach, AllHeld, Covers, Safe, op_inside}
 
 abbrev pub held_in : List ℕ → List (ℕ × ℕ) → List (ℕ × ℕ)
@@ -72,14 +72,14 @@ holds_in ks (g ∷ hs) k c i h =
     (λ b. either_of (or_cases ((g.0 == k) && (g.1 == c)) (holds hs k c) h)
     (λ m. differ (has ks g.0) (holds (held_in ks hs) k c) (same_has ks g.0 k true (and_parts (g.0 == k) (g.1 == c) m).0 i) b) (λ m. holds_in ks hs k c i m))
 
-among_in : (ks : List ℕ) (is : List Inside) (k c : ℕ) → is_among (without_filters ks is) k c ≡ true → (has ks k ≡ true) × (is_among is k c ≡ true)
+among_in : (ks : List ℕ) (is : List Inside) (k c : ℕ) → is_inside_clause (without_filters ks is) k c ≡ true → (has ks k ≡ true) × (is_inside_clause is k c ≡ true)
 among_in ks [] k c h = cc
 among_in ks (i ∷ is) k c h =
-    pick (λ js. is_among js k c ≡ true → (has ks k ≡ true) × (is_among (i ∷ is) k c ≡ true)) (has ks i.filter) (i ∷ without_filters ks is) (without_filters ks is)
-    (λ b m. either_of (or_cases ((i.filter == k) && (i.clause == c)) (is_among (without_filters ks is) k c) m)
-    (λ n. (other i.filter k b (and_parts (i.filter == k) (i.clause == c) n).0, or_left ((i.filter == k) && (i.clause == c)) (is_among is k c) n))
-    (λ n. let r = among_in ks is k c n in (r.0, or_right ((i.filter == k) && (i.clause == c)) (is_among is k c) r.1)))
-    (λ b m. let r = among_in ks is k c m in (r.0, or_right ((i.filter == k) && (i.clause == c)) (is_among is k c) r.1)) h
+    pick (λ js. is_inside_clause js k c ≡ true → (has ks k ≡ true) × (is_inside_clause (i ∷ is) k c ≡ true)) (has ks i.filter) (i ∷ without_filters ks is) (without_filters ks is)
+    (λ b m. either_of (or_cases ((i.filter == k) && (i.clause == c)) (is_inside_clause (without_filters ks is) k c) m)
+    (λ n. (other i.filter k b (and_parts (i.filter == k) (i.clause == c) n).0, or_left ((i.filter == k) && (i.clause == c)) (is_inside_clause is k c) n))
+    (λ n. let r = among_in ks is k c n in (r.0, or_right ((i.filter == k) && (i.clause == c)) (is_inside_clause is k c) r.1)))
+    (λ b m. let r = among_in ks is k c m in (r.0, or_right ((i.filter == k) && (i.clause == c)) (is_inside_clause is k c) r.1)) h
   where
     other : (j n : ℕ) → has ks j ≡ true → (j == n) ≡ true → has ks n ≡ true
     other j n b e = subst (λ (a : ℕ). has ks a ≡ true) (same_number j n e) b

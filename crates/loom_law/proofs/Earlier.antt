@@ -15,7 +15,7 @@ use Rattle.loom_event.specs.Entries.{thread_of, is_thread}
 use Rattle.loom_event.specs.Replay.{ThreadState, Store, start, thread_at, AwaitsBegin, IsRunning, IsAllowedAct, with_thread, after_act, replay, AreAllowed}
 use Rattle.loom_event.specs.Replay as law
 use Rattle.loom_event.specs.Run.{IsTraced, IsThreadTraced, AreRun}
-use Rattle.loom_law.specs.Walk.{Version, Plans, Operation, wait, enters, at, past, post, leave, back, tick, cross, blocked, PartStep, goes, makes, items, told, entry_of_operation, Queue, Walk, unborn, behind_entry, crossing, after, walk_from, place_of_item, place_of_next, Acts, AsksFor, MayCross, MayBlock, MayStand, AreWoven}
+use Rattle.loom_law.specs.Walk.{Version, Plans, Operation, wait, enters, at, past, post, leave, back, tick, cross, blocked, PartStep, goes, makes, items, filter_entries, entry_of_operation, Queue, Walk, unborn, behind_entry, crossing, walk_behind, walk_from, place_of_item, place_of_next, Acts, AsksFor, MayCross, MayBlock, MayStand, AreWoven}
 use Rattle.loom_law.specs.ThreadPart.{Own, IsPart}
 use Rattle.loom_law.specs.Control.{Command, Control, first_control, after_entry, control_after, takes_version, versions_from, versions_of, entries_of}
 use Rattle.loom_law.specs.Lawful.{Setting, Front, front_of, plans, own, HasPart}
@@ -321,60 +321,60 @@ none_left [] h = refl
 none_left (v ∷ vs) h = let no : ⊥ = omega arith in absurd no
 
 pub fewer : (p : Source) (plans : Plans) (t : ℕ) (z : Walk) (vs us : List Version) (ss : List PartStep) (ahead : List Item) → AreWoven p plans (to_take z (vs ++ us)) ss ahead
-    → takings (told t ss) ≡ length vs → IsFront p plans z vs ss ahead
+    → takings (filter_entries t ss) ≡ length vs → IsFront p plans z vs ss ahead
 fewer p plans t z vs us [] ahead h n = (tt, none_left vs n)
 fewer p plans t z [] us (goes (made l begin) ∷ ss) ahead h n = let no : ⊥ = omega arith in absurd no
 fewer p plans t z (v ∷ vs) us (goes (made l begin) ∷ ss) ahead h n =
     let ih = fewer p plans t (record (behind_entry z) { active = v.active }) vs us ss ahead h.1 (omega arith) in
     (((h.0.0, tt), ih.0), ih.1)
 fewer p plans t z vs us (goes (made l end) ∷ ss) ahead h n =
-    let ih = fewer p plans t (after p plans z (goes (made l end))) vs us ss ahead h.1 n in ((h.0, ih.0), ih.1)
+    let ih = fewer p plans t (walk_behind p plans z (goes (made l end))) vs us ss ahead h.1 n in ((h.0, ih.0), ih.1)
 fewer p plans t z vs us (goes (made l (trap c)) ∷ ss) ahead h n =
-    let ih = fewer p plans t (after p plans z (goes (made l (trap c)))) vs us ss ahead h.1 n in ((h.0, ih.0), ih.1)
+    let ih = fewer p plans t (walk_behind p plans z (goes (made l (trap c)))) vs us ss ahead h.1 n in ((h.0, ih.0), ih.1)
 fewer p plans t z vs us (goes (made l (read x v)) ∷ ss) ahead h n =
-    let ih = fewer p plans t (after p plans z (goes (made l (read x v)))) vs us ss ahead h.1 n in ((h.0, ih.0), ih.1)
+    let ih = fewer p plans t (walk_behind p plans z (goes (made l (read x v)))) vs us ss ahead h.1 n in ((h.0, ih.0), ih.1)
 fewer p plans t z vs us (goes (made l (write x v)) ∷ ss) ahead h n =
-    let ih = fewer p plans t (after p plans z (goes (made l (write x v)))) vs us ss ahead h.1 n in ((h.0, ih.0), ih.1)
+    let ih = fewer p plans t (walk_behind p plans z (goes (made l (write x v)))) vs us ss ahead h.1 n in ((h.0, ih.0), ih.1)
 fewer p plans t z vs us (goes (made l (lock x)) ∷ ss) ahead h n =
-    let ih = fewer p plans t (after p plans z (goes (made l (lock x)))) vs us ss ahead h.1 n in ((h.0, ih.0), ih.1)
+    let ih = fewer p plans t (walk_behind p plans z (goes (made l (lock x)))) vs us ss ahead h.1 n in ((h.0, ih.0), ih.1)
 fewer p plans t z vs us (goes (made l (unlock x)) ∷ ss) ahead h n =
-    let ih = fewer p plans t (after p plans z (goes (made l (unlock x)))) vs us ss ahead h.1 n in ((h.0, ih.0), ih.1)
+    let ih = fewer p plans t (walk_behind p plans z (goes (made l (unlock x)))) vs us ss ahead h.1 n in ((h.0, ih.0), ih.1)
 fewer p plans t z vs us (goes (made l (down x)) ∷ ss) ahead h n =
-    let ih = fewer p plans t (after p plans z (goes (made l (down x)))) vs us ss ahead h.1 n in ((h.0, ih.0), ih.1)
+    let ih = fewer p plans t (walk_behind p plans z (goes (made l (down x)))) vs us ss ahead h.1 n in ((h.0, ih.0), ih.1)
 fewer p plans t z vs us (goes (made l (up x)) ∷ ss) ahead h n =
-    let ih = fewer p plans t (after p plans z (goes (made l (up x)))) vs us ss ahead h.1 n in ((h.0, ih.0), ih.1)
+    let ih = fewer p plans t (walk_behind p plans z (goes (made l (up x)))) vs us ss ahead h.1 n in ((h.0, ih.0), ih.1)
 fewer p plans t z vs us (goes (made l (spawn c f ws)) ∷ ss) ahead h n =
-    let ih = fewer p plans t (after p plans z (goes (made l (spawn c f ws)))) vs us ss ahead h.1 n in ((h.0, ih.0), ih.1)
+    let ih = fewer p plans t (walk_behind p plans z (goes (made l (spawn c f ws)))) vs us ss ahead h.1 n in ((h.0, ih.0), ih.1)
 fewer p plans t z vs us (goes (made l (join c)) ∷ ss) ahead h n =
-    let ih = fewer p plans t (after p plans z (goes (made l (join c)))) vs us ss ahead h.1 n in ((h.0, ih.0), ih.1)
+    let ih = fewer p plans t (walk_behind p plans z (goes (made l (join c)))) vs us ss ahead h.1 n in ((h.0, ih.0), ih.1)
 fewer p plans t z vs us (goes (made l (print v)) ∷ ss) ahead h n =
-    let ih = fewer p plans t (after p plans z (goes (made l (print v)))) vs us ss ahead h.1 n in ((h.0, ih.0), ih.1)
+    let ih = fewer p plans t (walk_behind p plans z (goes (made l (print v)))) vs us ss ahead h.1 n in ((h.0, ih.0), ih.1)
 fewer p plans t z vs us (goes (begins l env) ∷ ss) ahead h n =
-    let ih = fewer p plans t (after p plans z (goes (begins l env))) vs us ss ahead h.1 n in ((h.0, ih.0), ih.1)
+    let ih = fewer p plans t (walk_behind p plans z (goes (begins l env))) vs us ss ahead h.1 n in ((h.0, ih.0), ih.1)
 fewer p plans t z vs us (goes (done l) ∷ ss) ahead h n =
-    let ih = fewer p plans t (after p plans z (goes (done l))) vs us ss ahead h.1 n in ((h.0, ih.0), ih.1)
+    let ih = fewer p plans t (walk_behind p plans z (goes (done l))) vs us ss ahead h.1 n in ((h.0, ih.0), ih.1)
 fewer p plans t z vs us (goes (edge l) ∷ ss) ahead h n =
-    let ih = fewer p plans t (after p plans z (goes (edge l))) vs us ss ahead h.1 n in ((h.0, ih.0), ih.1)
+    let ih = fewer p plans t (walk_behind p plans z (goes (edge l))) vs us ss ahead h.1 n in ((h.0, ih.0), ih.1)
 fewer p plans t z vs us (goes (enter f env) ∷ ss) ahead h n =
-    let ih = fewer p plans t (after p plans z (goes (enter f env))) vs us ss ahead h.1 n in ((h.0, ih.0), ih.1)
+    let ih = fewer p plans t (walk_behind p plans z (goes (enter f env))) vs us ss ahead h.1 n in ((h.0, ih.0), ih.1)
 fewer p plans t z vs us (goes (out f) ∷ ss) ahead h n =
-    let ih = fewer p plans t (after p plans z (goes (out f))) vs us ss ahead h.1 n in ((h.0, ih.0), ih.1)
+    let ih = fewer p plans t (walk_behind p plans z (goes (out f))) vs us ss ahead h.1 n in ((h.0, ih.0), ih.1)
 fewer p plans t z vs us (makes l (wait k n') ∷ ss) ahead h n =
-    let ih = fewer p plans t (after p plans z (makes l (wait k n'))) vs us ss ahead h.1 n in ((h.0, ih.0), ih.1)
+    let ih = fewer p plans t (walk_behind p plans z (makes l (wait k n'))) vs us ss ahead h.1 n in ((h.0, ih.0), ih.1)
 fewer p plans t z vs us (makes l (enters k c) ∷ ss) ahead h n =
-    let ih = fewer p plans t (after p plans z (makes l (enters k c))) vs us ss ahead h.1 n in ((h.0, ih.0), ih.1)
+    let ih = fewer p plans t (walk_behind p plans z (makes l (enters k c))) vs us ss ahead h.1 n in ((h.0, ih.0), ih.1)
 fewer p plans t z vs us (makes l (at k ns) ∷ ss) ahead h n =
-    let ih = fewer p plans t (after p plans z (makes l (at k ns))) vs us ss ahead h.1 n in ((h.0, ih.0), ih.1)
+    let ih = fewer p plans t (walk_behind p plans z (makes l (at k ns))) vs us ss ahead h.1 n in ((h.0, ih.0), ih.1)
 fewer p plans t z vs us (makes l (past k ns) ∷ ss) ahead h n =
-    let ih = fewer p plans t (after p plans z (makes l (past k ns))) vs us ss ahead h.1 n in ((h.0, ih.0), ih.1)
+    let ih = fewer p plans t (walk_behind p plans z (makes l (past k ns))) vs us ss ahead h.1 n in ((h.0, ih.0), ih.1)
 fewer p plans t z vs us (makes l (post k n') ∷ ss) ahead h n =
-    let ih = fewer p plans t (after p plans z (makes l (post k n'))) vs us ss ahead h.1 n in ((h.0, ih.0), ih.1)
+    let ih = fewer p plans t (walk_behind p plans z (makes l (post k n'))) vs us ss ahead h.1 n in ((h.0, ih.0), ih.1)
 fewer p plans t z vs us (makes l (leave k c) ∷ ss) ahead h n =
-    let ih = fewer p plans t (after p plans z (makes l (leave k c))) vs us ss ahead h.1 n in ((h.0, ih.0), ih.1)
+    let ih = fewer p plans t (walk_behind p plans z (makes l (leave k c))) vs us ss ahead h.1 n in ((h.0, ih.0), ih.1)
 fewer p plans t z vs us (makes l back ∷ ss) ahead h n =
-    let ih = fewer p plans t (after p plans z (makes l back)) vs us ss ahead h.1 n in ((h.0, ih.0), ih.1)
+    let ih = fewer p plans t (walk_behind p plans z (makes l back)) vs us ss ahead h.1 n in ((h.0, ih.0), ih.1)
 fewer p plans t z vs us (makes l (tick x) ∷ ss) ahead h n =
-    let ih = fewer p plans t (after p plans z (makes l (tick x))) vs us ss ahead h.1 n in ((h.0, ih.0), ih.1)
+    let ih = fewer p plans t (walk_behind p plans z (makes l (tick x))) vs us ss ahead h.1 n in ((h.0, ih.0), ih.1)
 fewer p plans t z [] us (makes l (cross x m k) ∷ ss) ahead h n = let no : ⊥ = omega arith in absurd no
 fewer p plans t z (v ∷ vs) us (makes l (cross x m k) ∷ ss) ahead h n =
     let ih = fewer p plans t (crossing p plans z (v ∷ [])) vs us ss ahead h.1 (omega arith) in
@@ -389,7 +389,7 @@ fewer p plans t z (v ∷ vs) us (makes l (cross x m k) ∷ ss) ahead h n =
     } in
     ((d, ih.0), ih.1)
 fewer p plans t z vs us (makes l (blocked what) ∷ ss) ahead h n =
-    let ih = fewer p plans t (after p plans z (makes l (blocked what))) vs us ss ahead h.1 n in
+    let ih = fewer p plans t (walk_behind p plans z (makes l (blocked what))) vs us ss ahead h.1 n in
     let c : MayBlock (to_take z (vs ++ us)) (items ss ++ ahead) l what = h.0 in
     let d : MayBlock (to_take z vs) (items ss ++ ahead) l what = record { asks = asks_same z (vs ++ us) vs (items ss ++ ahead) l what c.asks; not_yet = c.not_yet } in
     ((d, ih.0), ih.1)
@@ -399,20 +399,20 @@ pub record CutSteps (t : ℕ) (ss : List PartStep) (es : List Entry) : Type 0 wh
   pub before : List PartStep
   pub behind : List PartStep
   pub whole : ss ≡ before ++ behind
-  pub same : told t before ≡ es
+  pub same : filter_entries t before ≡ es
 
-with_step : (t : ℕ) (s : PartStep) (ss : List PartStep) (es : List Entry) → ((us : List PartStep) → told t (s ∷ us) ≡ told t us) → CutSteps t ss es → CutSteps t (s ∷ ss) es
+with_step : (t : ℕ) (s : PartStep) (ss : List PartStep) (es : List Entry) → ((us : List PartStep) → filter_entries t (s ∷ us) ≡ filter_entries t us) → CutSteps t ss es → CutSteps t (s ∷ ss) es
 with_step t s ss es skips h = record { before = s ∷ h.before; behind = h.behind; whole = ap (◌∷◌ s) h.whole; same = skips h.before ∙ h.same }
 
-with_told : (t : ℕ) (s : PartStep) (ss : List PartStep) (x y : Entry) (es fs : List Entry) → ((us : List PartStep) → told t (s ∷ us) ≡ x ∷ told t us) → x ∷ told t ss ≡ (y ∷ es) ++ fs
-    → (told t ss ≡ es ++ fs → CutSteps t ss es) → CutSteps t (s ∷ ss) (y ∷ es)
+with_told : (t : ℕ) (s : PartStep) (ss : List PartStep) (x y : Entry) (es fs : List Entry) → ((us : List PartStep) → filter_entries t (s ∷ us) ≡ x ∷ filter_entries t us) → x ∷ filter_entries t ss ≡ (y ∷ es) ++ fs
+    → (filter_entries t ss ≡ es ++ fs → CutSteps t ss es) → CutSteps t (s ∷ ss) (y ∷ es)
 with_told t s ss x y es fs tells h go =
     let first : x ≡ y = cc in
-    let others : told t ss ≡ es ++ fs = cc in
+    let others : filter_entries t ss ≡ es ++ fs = cc in
     let c : CutSteps t ss es = go others in
-    record { before = s ∷ c.before; behind = c.behind; whole = ap (◌∷◌ s) c.whole; same = tells c.before ∙ (ap (λ z. z ∷ told t c.before) first ∙ ap (◌∷◌ y) c.same) }
+    record { before = s ∷ c.before; behind = c.behind; whole = ap (◌∷◌ s) c.whole; same = tells c.before ∙ (ap (λ z. z ∷ filter_entries t c.before) first ∙ ap (◌∷◌ y) c.same) }
 
-cut_steps : (t : ℕ) (ss : List PartStep) (es fs : List Entry) → told t ss ≡ es ++ fs → CutSteps t ss es
+cut_steps : (t : ℕ) (ss : List PartStep) (es fs : List Entry) → filter_entries t ss ≡ es ++ fs → CutSteps t ss es
 cut_steps t ss [] fs h = record { before = []; behind = ss; whole = refl; same = refl }
 cut_steps t [] (x ∷ es) fs h = cc
 cut_steps t (goes (made l a) ∷ ss) (x ∷ es) fs h = with_told t (goes (made l a)) ss (entry_by t l a) x es fs (λ us. refl) h (λ g. cut_steps t ss es fs g)
@@ -434,7 +434,7 @@ items_ahead us vs ahead = ap (λ z. z ++ ahead) (items_append us vs) ∙ append_
 pub woven_front : (p : Source) (plans : Plans) (z : Walk) (us vs : List PartStep) (ahead : List Item) → AreWoven p plans z (us ++ vs) ahead → AreWoven p plans z us (items vs ++ ahead)
 woven_front p plans z [] vs ahead h = tt
 woven_front p plans z (u ∷ us) vs ahead h =
-    (subst (MayStand p z u) (items_ahead us vs ahead) h.0, woven_front p plans (after p plans z u) us vs ahead h.1)
+    (subst (MayStand p z u) (items_ahead us vs ahead) h.0, woven_front p plans (walk_behind p plans z u) us vs ahead h.1)
 
 abbrev pub an_own : ℕ → ℕ → List ℤ → List Version → List Entry → Own
 an_own t f args vs es = record { thread = t; func = f; args = args; versions = vs; entries = es }
@@ -506,14 +506,14 @@ no_operation p vs is l (blocked what) b h = let c : MayBlock (unborn vs) is l wh
 
 -- the entry that the first step of a part tells
 pub first_begins : (p : Source) (plans : Plans) (t f : ℕ) (args : List ℤ) (vs : List Version) (ss : List PartStep) (ahead : List Item) (r : Outcome) (y : Entry) (ys : List Entry)
-    → IsTrace p f args (items ss ++ ahead) r → AreWoven p plans (unborn vs) ss ahead → told t ss ≡ y ∷ ys → IsBegin y
+    → IsTrace p f args (items ss ++ ahead) r → AreWoven p plans (unborn vs) ss ahead → filter_entries t ss ≡ y ∷ ys → IsBegin y
 first_begins p plans t f args vs [] ahead r y ys trace h g = cc
 first_begins p plans t f args vs (makes l o ∷ ss) ahead r y ys trace h g =
     absurd (no_operation p vs (items ss ++ ahead) l o (begins_so p f args (items ss ++ ahead) r trace) h.0)
 first_begins p plans t f args vs (goes i ∷ ss) ahead r y ys trace h g =
     let b = trace_begins p f args i (items ss ++ ahead) r trace in
-    let P : Item → Type 0 = λ j. told t (goes j ∷ ss) ≡ y ∷ ys in
-    let so : e.Begin t b.0 ∷ told t ss ≡ y ∷ ys = subst P b.1 g in
+    let P : Item → Type 0 = λ j. filter_entries t (goes j ∷ ss) ≡ y ∷ ys in
+    let so : e.Begin t b.0 ∷ filter_entries t ss ≡ y ∷ ys = subst P b.1 g in
     (t, (b.0, cc))
 
 -- A thread that begins has done something

@@ -17,12 +17,12 @@ use Rattle.loom_event.specs.Run.{AreRun}
 use Rattle.loom_event.proofs.Runs.{next, given, threads_traced, does}
 use Rattle.loom_event.proofs.Runs as runs
 use Rattle.loom_event.proofs.Stops as stops
-use Rattle.loom_event.proofs.Shown.{event, locks}
+use Rattle.loom_event.proofs.Examples.{event, locks}
 use Rattle.loom_law.specs.Filter.{plan_of}
 use Rattle.loom_law.specs.Walk.{wait, past, post, blocked, PartStep, goes, makes, items}
 use Rattle.loom_law.specs.Walk as walk
 use Rattle.loom_law.specs.Control.{refused, means, install, remove, Command, command_at, Control, first_control, listed_places}
-use Rattle.loom_law.specs.Lawful.{Setting, Front, front_of, HasPart, Lives, IsBlocked, IsHeldOff, IsStalled, IsTriggered, IsDue, over, is_cross, owes_cross, IsParked, MayMove, StandsAt, running_thread, IsOutside, MayInstall, front_at, IsLawful}
+use Rattle.loom_law.specs.Lawful.{Setting, Front, front_of, HasPart, Lives, IsBlocked, IsHeldOff, IsStalled, IsTriggered, IsDue, run_is_over, is_cross, owes_cross, IsParked, MayMove, StandsAt, running_thread, IsOutside, MayInstall, front_at, IsLawful}
 use Rattle.loom_law.proofs.Fronts.{Each, behind, each_one, FollowsBehind, nothing_made}
 use Rattle.loom_law.proofs.Journals.{not_due, are_free, not_off, moves}
 use Rattle.loom_law.proofs.EvacuationJournal.{evacuated, evacuation_setting}
@@ -440,7 +440,7 @@ not_stalled f first lives free off due =
     neither (inl h) = free h
     neither (inr h) = off h
 
-goes_on : {f : Front} {x : Entry} → over on_stall_setting f ≡ false → f.control ≡ first_control → Lives f.store 1 → (IsBlocked on_stall_setting f 1 → ⊥)
+goes_on : {f : Front} {x : Entry} → run_is_over on_stall_setting f ≡ false → f.control ≡ first_control → Lives f.store 1 → (IsBlocked on_stall_setting f 1 → ⊥)
     → is_cross x ≡ owes_cross x (listed_places 1 f.entries) → MayMove on_stall_setting f 1 x
 goes_on {f = f} {x = x} runs first lives free crosses =
     let off : IsHeldOff on_stall_setting f 1 → ⊥ = not_off on_stall_setting f 1 (ap (λ (c : Control). are_free on_stall_setting 1 c.holders) first) in

@@ -10,7 +10,7 @@ use Rattle.loom_event.specs.Event.{Event, entry_by, entry_of, is_target, targets
 use Rattle.loom_event.specs.Entries.{thread_of, is_thread}
 use Rattle.loom_event.specs.Replay.{ThreadState, start, thread_at, replay}
 use Rattle.loom_event.specs.Run.{AreRun}
-use Rattle.loom_law.specs.Walk.{Version, PartStep, goes, makes, items, told, entry_of_operation, unborn, AreWoven}
+use Rattle.loom_law.specs.Walk.{Version, PartStep, goes, makes, items, filter_entries, entry_of_operation, unborn, AreWoven}
 use Rattle.loom_law.specs.ThreadPart.{Own, IsPart}
 use Rattle.loom_law.specs.Control.{Holder, Control, control, first_control, versions_of, entries_of}
 use Rattle.loom_law.specs.Lawful.{Setting, Front, front_of, plans, own, HasPart, MayMove, Permits, MayFollow, MayFollowBy, IsLawful}
@@ -34,29 +34,29 @@ record LastTold (t : ℕ) (ss : List PartStep) (es : List Entry) (x : Entry) : T
   step : PartStep
   behind : List PartStep
   whole : ss ≡ before ++ step ∷ behind
-  same : told t before ≡ es
+  same : filter_entries t before ≡ es
   tells : Tells t x step
 
-with_mark : (t : ℕ) (s : PartStep) (ss : List PartStep) (es : List Entry) (x : Entry) → ((us : List PartStep) → told t (s ∷ us) ≡ told t us) → LastTold t ss es x → LastTold t (s ∷ ss) es x
+with_mark : (t : ℕ) (s : PartStep) (ss : List PartStep) (es : List Entry) (x : Entry) → ((us : List PartStep) → filter_entries t (s ∷ us) ≡ filter_entries t us) → LastTold t ss es x → LastTold t (s ∷ ss) es x
 with_mark t s ss es x skips h =
     record { before = s ∷ h.before; step = h.step; behind = h.behind; whole = ap (◌∷◌ s) h.whole; same = skips h.before ∙ h.same; tells = h.tells }
 
-with_told : (t : ℕ) (s : PartStep) (ss : List PartStep) (u y : Entry) (es : List Entry) (x : Entry) → ((us : List PartStep) → told t (s ∷ us) ≡ u ∷ told t us)
-    → u ∷ told t ss ≡ (y ∷ es) ++ x ∷ [] → (told t ss ≡ es ++ x ∷ [] → LastTold t ss es x) → LastTold t (s ∷ ss) (y ∷ es) x
+with_told : (t : ℕ) (s : PartStep) (ss : List PartStep) (u y : Entry) (es : List Entry) (x : Entry) → ((us : List PartStep) → filter_entries t (s ∷ us) ≡ u ∷ filter_entries t us)
+    → u ∷ filter_entries t ss ≡ (y ∷ es) ++ x ∷ [] → (filter_entries t ss ≡ es ++ x ∷ [] → LastTold t ss es x) → LastTold t (s ∷ ss) (y ∷ es) x
 with_told t s ss u y es x tells h go =
     let first : u ≡ y = cc in
-    let others : told t ss ≡ es ++ x ∷ [] = cc in
+    let others : filter_entries t ss ≡ es ++ x ∷ [] = cc in
     let c : LastTold t ss es x = go others in
     record {
       before = s ∷ c.before;
       step = c.step;
       behind = c.behind;
       whole = ap (◌∷◌ s) c.whole;
-      same = tells c.before ∙ (ap (λ z. z ∷ told t c.before) first ∙ ap (◌∷◌ y) c.same);
+      same = tells c.before ∙ (ap (λ z. z ∷ filter_entries t c.before) first ∙ ap (◌∷◌ y) c.same);
       tells = c.tells;
     }
 
-last_told : (t : ℕ) (ss : List PartStep) (es : List Entry) (x : Entry) → told t ss ≡ es ++ x ∷ [] → LastTold t ss es x
+last_told : (t : ℕ) (ss : List PartStep) (es : List Entry) (x : Entry) → filter_entries t ss ≡ es ++ x ∷ [] → LastTold t ss es x
 last_told t [] es x h = absurd (never_empty es x h)
 last_told t (makes m q ∷ ss) [] x h = record { before = []; step = makes m q; behind = ss; whole = refl; same = refl; tells = cc }
 last_told t (goes (made m a) ∷ ss) [] x h = record { before = []; step = goes (made m a); behind = ss; whole = refl; same = refl; tells = cc }
@@ -75,7 +75,7 @@ none_there t x es self h = never_empty (entries_of t es) x (sym h ∙ mine t x e
 
 -- the part that ends with the step that tells the entry
 cut_part : (s : Setting) (es : List Entry) (x : Entry) (t : ℕ) (z : ThreadState) (part : IsPart s.program (plans s) (own s (es ++ x ∷ []) t z)) (before : List PartStep) (step : PartStep)
-    (behind : List PartStep) → part.steps ≡ before ++ step ∷ behind → told t (before ++ step ∷ []) ≡ entries_of t (es ++ x ∷ [])
+    (behind : List PartStep) → part.steps ≡ before ++ step ∷ behind → filter_entries t (before ++ step ∷ []) ≡ entries_of t (es ++ x ∷ [])
     → (h : IsPart s.program (plans s) (own s (es ++ x ∷ []) t z)) × (h.steps ≡ before ++ step ∷ [])
 cut_part s es x t z part before step behind is tells =
     let p : Source = s.program in
@@ -92,7 +92,7 @@ cut_part s es x t z part before step behind is tells =
         woven = woven_front p (plans s) (unborn vs) us behind part.ahead (subst (λ ss. AreWoven p (plans s) (unborn vs) ss part.ahead) split part.woven);
         tells = tells;
         taken = walk_coming p (plans s) t (unborn vs) us
-            ∙ drop_all (takings (told t us)) vs (ap takings tells ∙ takings_taken s.commands t first_control (es ++ x ∷ []));
+            ∙ drop_all (takings (filter_entries t us)) vs (ap takings tells ∙ takings_taken s.commands t first_control (es ++ x ∷ []));
       },
       refl,
     )
@@ -100,7 +100,7 @@ cut_part s es x t z part before step behind is tells =
 stands_by : (s : Setting) (es : List Entry) (h : IsStrict s es) (x : Entry) (t : ℕ) (z : ThreadState) → is_thread t (thread_of x) ≡ true
     → (is_target x ≡ false → thread_at (replay (start s.program s.threads) h.events) t ≡ Some z)
     → (part : IsPart s.program (plans s) (own s (es ++ x ∷ []) t z)) (before : List PartStep) (step : PartStep) (behind : List PartStep) → part.steps ≡ before ++ step ∷ behind
-    → told t before ≡ entries_of t es → Tells t x step → MayMove s (front_of s es h.events) t x → Permits s (front_of s es h.events) x
+    → filter_entries t before ≡ entries_of t es → Tells t x step → MayMove s (front_of s es h.events) t x → Permits s (front_of s es h.events) x
     → Stands s (front_of s es h.events) x []
 stands_by s es h x t z self there part before (makes l o) behind is same e m n =
     let q : entry_of_operation t l o ≡ x = sym e in
@@ -112,7 +112,7 @@ stands_by s es h x t z self there part before (makes l o) behind is same e m n =
 stands_by s es h x t z self there part before (goes (made l a)) behind is same e m n =
     let f : Front = front_of s es h.events in
     let step : PartStep = goes (made l a) in
-    let tells : told t (before ++ step ∷ []) ≡ entries_of t (es ++ x ∷ []) =
+    let tells : filter_entries t (before ++ step ∷ []) ≡ entries_of t (es ++ x ∷ []) =
     told_append t before (step ∷ []) ∙ (ap (λ us. us ++ entry_by t l a ∷ []) same ∙ (ap (λ y. entries_of t es ++ y ∷ []) (sym e) ∙ sym (mine t x es self))) in
     let cut = cut_part s es x t z part before step behind is tells in
     subst (λ y. Stands s f y []) (sym e)

@@ -19,11 +19,11 @@ use Rattle.loom_event.specs.Run.{AreRun}
 use Rattle.loom_event.proofs.Runs.{next, given, threads_traced, does}
 use Rattle.loom_event.proofs.Runs as runs
 use Rattle.loom_event.proofs.Stops as stops
-use Rattle.loom_event.proofs.Shown.{event}
+use Rattle.loom_event.proofs.Examples.{event}
 use Rattle.loom_law.specs.Filter.{Watch, statement, Range, between, Plan, plan_of}
 use Rattle.loom_law.specs.Walk.{Version, enters, past, leave, cross, PartStep, goes, makes, items, unborn, AreWoven}
 use Rattle.loom_law.specs.Walk as walk
-use Rattle.loom_law.specs.Paths.{Node, leaves, complete, turns, links_of, statements, has_return, called_by, Begins, IsStatement, statements_of, places_of, Calls, Reaches, IsReached, IsReachedAt, watch_at, node_places, IsExit, Halts, Comes, IsUnsafeByEvent, IsUnsafeByPath, IsUnsafeByFunction, IsUnsafe}
+use Rattle.loom_law.specs.Paths.{Node, leaves, complete, turns, links_of, statements, has_return, called_by, Begins, IsStatement, statements_of, places_of, CallsFunction, Reaches, IsReached, IsReachedAt, watch_at, node_places, IsExit, Halts, Comes, IsUnsafeByEvent, IsUnsafeByPath, IsUnsafeByFunction, IsUnsafe}
 use Rattle.loom_law.specs.Paths as paths
 use Rattle.loom_law.specs.Control.{means, install, Command}
 use Rattle.loom_law.specs.Lawful.{Setting, plans, HasPart, StandsAt, running_thread, IsOutside, MayInstall, front_at, own, StaysAway, IsLawful}
@@ -96,19 +96,19 @@ none_calls n x = (name : List ℕ) → called_by x ≡ Some name → ⊥
 
 -- calls in such statements reach `step` alone
 abbrev OnlyStep : List Body → Type 0
-OnlyStep xs = (n : ℕ) → Calls evacuated xs n → n ≡ 0
+OnlyStep xs = (n : ℕ) → CallsFunction evacuated xs n → n ≡ 0
 
 no_call : (xs : List Body) → AllOf (none_calls 0) xs → OnlyStep xs
 no_call xs h n c = absurd (each (none_calls 0) xs h c.statement c.there c.name c.calls)
 
-in_step : (n : ℕ) → Calls evacuated (statements_of evacuated 0) n → ⊥
+in_step : (n : ℕ) → CallsFunction evacuated (statements_of evacuated 0) n → ⊥
 in_step n c = each (none_calls 0) (statements_of evacuated 0) ((λ name g. cc), tt) c.statement c.there c.name c.calls
 
 reach : (xs : List Body) → OnlyStep xs → {n : ℕ} → Reaches evacuated xs n → n ≡ 0
 reach xs only (paths.calls {h = n} c) = only n c
 reach xs only (paths.through {g = g} {h = n} r c) =
     let same : g ≡ 0 = reach xs only r in
-    absurd (in_step n (subst (λ f. Calls evacuated (statements_of evacuated f) n) same c))
+    absurd (in_step n (subst (λ f. CallsFunction evacuated (statements_of evacuated f) n) same c))
 
 not_reached : (xs : List Body) → OnlyStep xs → IsReached evacuated xs turn → ⊥
 not_reached xs only h =

@@ -10,7 +10,7 @@ use Rattle.loom_lang.specs.Trace.{division, begin, end, trap, read, write, lock,
 use Rattle.loom_event.proofs.Runs.{next, given}
 use Rattle.loom_command.specs.Filter.{Region, Clause}
 use Rattle.loom_law.specs.Filter.{plan_of}
-use Rattle.loom_law.specs.Walk.{wait, enters, past, post, leave, back, tick, cross, blocked, PartStep, goes, makes, told, unborn, AreWoven}
+use Rattle.loom_law.specs.Walk.{wait, enters, past, post, leave, back, tick, cross, blocked, PartStep, goes, makes, filter_entries, unborn, AreWoven}
 use Rattle.loom_law.specs.Walk as walk
 use Rattle.loom_command.specs.Script.{stall}
 use Rattle.loom_command.specs.Script as script
@@ -170,7 +170,7 @@ steps_r8_1 = (goes (made 8 begin) ∷ goes (enter 2 (((codes "t"), (pos 0)) ∷ 
 pub woven_r8_1 : AreWoven program_r8 (plans_of commands_r8) (unborn (Own.versions own_r8_1)) steps_r8_1 []
 woven_r8_1 = ((refl, tt), (refl, (refl, (refl, (refl, (refl, (refl, (refl, (refl, (refl, (refl, (refl, (refl, (refl, (refl, (refl, (refl, (refl, (refl, (refl, (refl, (refl, (record { place = _; next = refl; number = refl; line = refl; version = refl; passed = refl }, (refl, (refl, (refl, (refl, (refl, (refl, (record { asks = refl; not_yet = refl }, (refl, (refl, (refl, (refl, tt))))))))))))))))))))))))))))))))))
 
-pub told_r8_1 : told 1 steps_r8_1 ≡ Own.entries own_r8_1
+pub told_r8_1 : filter_entries 1 steps_r8_1 ≡ Own.entries own_r8_1
 told_r8_1 = refl
 
 abbrev pub own_r8_2 : Own
@@ -307,7 +307,7 @@ steps_r9_1 = (goes (made 6 begin) ∷ goes (enter 1 (((codes "t"), (pos 0)) ∷ 
 pub woven_r9_1 : AreWoven program_r9 (plans_of commands_r9) (unborn (Own.versions own_r9_1)) steps_r9_1 []
 woven_r9_1 = ((refl, tt), (refl, (refl, (refl, (refl, (refl, (refl, (refl, (refl, (record { asks = refl; not_yet = refl }, (record { place = _; next = refl; number = refl; line = refl; version = refl; passed = refl }, (refl, (refl, (refl, (refl, (refl, (refl, (refl, (refl, (refl, (refl, (refl, (refl, (refl, (refl, (refl, (refl, (refl, (refl, (refl, (refl, (refl, (refl, (refl, (refl, (refl, (refl, (refl, (refl, (refl, (refl, (refl, (refl, (refl, (refl, (refl, (refl, (refl, (refl, (refl, (refl, (record { asks = refl; not_yet = refl }, (refl, (refl, (refl, (refl, tt))))))))))))))))))))))))))))))))))))))))))))))))))))))))
 
-pub told_r9_1 : told 1 steps_r9_1 ≡ Own.entries own_r9_1
+pub told_r9_1 : filter_entries 1 steps_r9_1 ≡ Own.entries own_r9_1
 told_r9_1 = refl
 
 abbrev pub own_r9_2 : Own
@@ -412,7 +412,7 @@ steps_r10_1 = (goes (made 5 begin) ∷ goes (enter 1 (((codes "t"), (pos 0)) ∷
 pub woven_r10_1 : AreWoven program_r10 (plans_of commands_r10) (unborn (Own.versions own_r10_1)) steps_r10_1 []
 woven_r10_1 = ((refl, tt), (refl, (refl, (refl, (refl, (refl, (refl, (refl, (refl, (refl, (refl, (refl, (refl, (record { place = _; next = refl; number = refl; line = refl; version = refl; passed = refl }, (refl, (refl, (refl, (refl, (refl, (refl, (refl, (refl, (refl, (refl, (refl, (refl, (refl, (refl, (refl, (refl, (refl, (refl, (refl, (refl, (refl, (refl, (refl, (refl, (refl, (refl, (refl, (refl, (refl, (refl, (refl, (refl, (refl, (refl, (refl, (refl, (refl, (refl, tt))))))))))))))))))))))))))))))))))))))))))))))))))))
 
-pub told_r10_1 : told 1 steps_r10_1 ≡ Own.entries own_r10_1
+pub told_r10_1 : filter_entries 1 steps_r10_1 ≡ Own.entries own_r10_1
 told_r10_1 = refl
 
 abbrev pub own_r10_2 : Own
@@ -581,7 +581,7 @@ steps_r12_1 = (goes (made 6 begin) ∷ goes (enter 1 []) ∷ goes (begins 7 []) 
 pub woven_r12_1 : AreWoven program_r12 (plans_of commands_r12) (unborn (Own.versions own_r12_1)) steps_r12_1 []
 woven_r12_1 = ((refl, tt), (refl, (refl, (refl, (refl, (refl, (refl, (refl, (refl, (refl, (refl, (refl, (refl, (refl, (refl, (refl, (refl, (refl, (refl, (refl, (refl, (refl, (refl, (refl, (refl, (refl, (refl, (refl, (refl, (refl, (refl, (refl, (refl, (refl, tt))))))))))))))))))))))))))))))))))
 
-pub told_r12_1 : told 1 steps_r12_1 ≡ Own.entries own_r12_1
+pub told_r12_1 : filter_entries 1 steps_r12_1 ≡ Own.entries own_r12_1
 told_r12_1 = refl
 
 abbrev pub journal_r12 : List Entry

@@ -4,7 +4,7 @@ use Rattle.std.specs.List.{filter, list_any}
 use Rattle.std.proofs.lemmas.Bool.{and_parts}
 use Rattle.loom_lang.specs.Trace.{Locals}
 use Rattle.loom_law.specs.Filter.{Site, Range, Ruling, Plan, matching, share, entry_events, ranges_of, clauses, waits, posts}
-use Rattle.loom_law.specs.Walk.{Plans, Operation, enters, at, past, leave, back, Inside, OpenFrame, Queue, holds, begins_in, owed_waits, owed_enters, owed_by, owed_at, is_among, all_inside, is_left_with, completed, in_frame, owed_posts, owed_leaves, events_of, owed_past, owed_behind, all_leaves, with_back, entered_ranges, entered_regions, without_clause, without_first, Owes}
+use Rattle.loom_law.specs.Walk.{Plans, Operation, enters, at, past, leave, back, Inside, OpenFrame, Queue, holds, begins_in, owed_waits, owed_enters, owed_by, owed_at, is_inside_clause, all_inside, is_left_with, completed, in_frame, owed_posts, owed_leaves, events_of, owed_past, owed_behind, all_leaves, with_back, entered_ranges, entered_regions, without_clause, without_first, Owes}
 
 -- Bool
 
@@ -37,7 +37,7 @@ pick P false x y f g = g refl
 
 -- each clause of these regions is held
 abbrev pub HeldAll : List (ℕ × ℕ) → List Inside → Type 0
-HeldAll hs is = (k c : ℕ) → is_among is k c ≡ true → holds hs k c ≡ true
+HeldAll hs is = (k c : ℕ) → is_inside_clause is k c ≡ true → holds hs k c ≡ true
 
 abbrev pub HeldEach : List (ℕ × ℕ) → List (List Inside) → Type 0
 HeldEach hs [] = Unit {0}
@@ -167,28 +167,28 @@ enters_safe plans hs0 hs iss lv k l ns (c ∷ cs) more go h s =
 pub same_number : (m n : ℕ) → (m == n) ≡ true → m ≡ n
 same_number m n h = grind arith
 
-pub among_append : (a b : List Inside) (k c : ℕ) → is_among (a ++ b) k c ≡ true → (is_among a k c ≡ true) ⊎ (is_among b k c ≡ true)
+pub among_append : (a b : List Inside) (k c : ℕ) → is_inside_clause (a ++ b) k c ≡ true → (is_inside_clause a k c ≡ true) ⊎ (is_inside_clause b k c ≡ true)
 among_append [] b k c h = inr h
 among_append (i ∷ a) b k c h =
-    either_of (or_cases ((i.filter == k) && (i.clause == c)) (is_among (a ++ b) k c) h)
-    (λ m. inl (or_left ((i.filter == k) && (i.clause == c)) (is_among a k c) m))
-    (λ m. either_of (among_append a b k c m) (λ n. inl (or_right ((i.filter == k) && (i.clause == c)) (is_among a k c) n)) (λ n. inr n))
+    either_of (or_cases ((i.filter == k) && (i.clause == c)) (is_inside_clause (a ++ b) k c) h)
+    (λ m. inl (or_left ((i.filter == k) && (i.clause == c)) (is_inside_clause a k c) m))
+    (λ m. either_of (among_append a b k c m) (λ n. inl (or_right ((i.filter == k) && (i.clause == c)) (is_inside_clause a k c) n)) (λ n. inr n))
 
-append_left : (a b : List Inside) (k c : ℕ) → is_among a k c ≡ true → is_among (a ++ b) k c ≡ true
+append_left : (a b : List Inside) (k c : ℕ) → is_inside_clause a k c ≡ true → is_inside_clause (a ++ b) k c ≡ true
 append_left [] b k c h = cc
 append_left (i ∷ a) b k c h =
-    either_of (or_cases ((i.filter == k) && (i.clause == c)) (is_among a k c) h)
-    (λ m. or_left ((i.filter == k) && (i.clause == c)) (is_among (a ++ b) k c) m)
-    (λ m. or_right ((i.filter == k) && (i.clause == c)) (is_among (a ++ b) k c) (append_left a b k c m))
+    either_of (or_cases ((i.filter == k) && (i.clause == c)) (is_inside_clause a k c) h)
+    (λ m. or_left ((i.filter == k) && (i.clause == c)) (is_inside_clause (a ++ b) k c) m)
+    (λ m. or_right ((i.filter == k) && (i.clause == c)) (is_inside_clause (a ++ b) k c) (append_left a b k c m))
 
-append_right : (a b : List Inside) (k c : ℕ) → is_among b k c ≡ true → is_among (a ++ b) k c ≡ true
+append_right : (a b : List Inside) (k c : ℕ) → is_inside_clause b k c ≡ true → is_inside_clause (a ++ b) k c ≡ true
 append_right [] b k c h = h
-append_right (i ∷ a) b k c h = or_right ((i.filter == k) && (i.clause == c)) (is_among (a ++ b) k c) (append_right a b k c h)
+append_right (i ∷ a) b k c h = or_right ((i.filter == k) && (i.clause == c)) (is_inside_clause (a ++ b) k c) (append_right a b k c h)
 
 pub held_append : (hs : List (ℕ × ℕ)) (a b : List Inside) → HeldAll hs a → HeldAll hs b → HeldAll hs (a ++ b)
 held_append hs a b h g k c m = by_part (among_append a b k c m)
   where
-    by_part : (is_among a k c ≡ true) ⊎ (is_among b k c ≡ true) → holds hs k c ≡ true
+    by_part : (is_inside_clause a k c ≡ true) ⊎ (is_inside_clause b k c ≡ true) → holds hs k c ≡ true
     by_part (inl n) = h k c n
     by_part (inr n) = g k c n
 
@@ -205,12 +205,12 @@ first_entered k ns c x xs j d b m =
     let parts = and_parts (k == j) (c == d) m in
     (or_left (share (entry_events x) ns) (list_any (λ (y : Range). share (entry_events y) ns) xs) b, (same_number k j parts.0, same_number c d parts.1))
 
-ranges_among : (k : ℕ) (ns : List ℕ) (c : ℕ) (rs : List Range) (j d : ℕ) → is_among (entered_ranges k ns c rs) j d ≡ true → Entered k ns c rs j d
+ranges_among : (k : ℕ) (ns : List ℕ) (c : ℕ) (rs : List Range) (j d : ℕ) → is_inside_clause (entered_ranges k ns c rs) j d ≡ true → Entered k ns c rs j d
 ranges_among k ns c [] j d h = cc
 ranges_among k ns c (x ∷ xs) j d h =
-    pick (λ is. is_among is j d ≡ true → Entered k ns c (x ∷ xs) j d) (share (entry_events x) ns)
+    pick (λ is. is_inside_clause is j d ≡ true → Entered k ns c (x ∷ xs) j d) (share (entry_events x) ns)
     (record { filter = k; clause = c; range = x } ∷ entered_ranges k ns c xs) (entered_ranges k ns c xs)
-    (λ b m. either_of (or_cases ((k == j) && (c == d)) (is_among (entered_ranges k ns c xs) j d) m) (λ n. first_entered k ns c x xs j d b n)
+    (λ b m. either_of (or_cases ((k == j) && (c == d)) (is_inside_clause (entered_ranges k ns c xs) j d) m) (λ n. first_entered k ns c x xs j d b n)
     (λ n. later_entered k ns c x xs j d (ranges_among k ns c xs j d n)))
     (λ b m. later_entered k ns c x xs j d (ranges_among k ns c xs j d m)) h
 
@@ -253,7 +253,7 @@ beginning_safe plans hs0 hs iss lv l site env (k ∷ ks) h s =
 
 -- each of these regions is of a clause of those
 abbrev pub Within : List Inside → List Inside → Type 0
-Within is js = (k c : ℕ) → is_among js k c ≡ true → is_among is k c ≡ true
+Within is js = (k c : ℕ) → is_inside_clause js k c ≡ true → is_inside_clause is k c ≡ true
 
 abbrev pub WithinEach : List Inside → List (List Inside) → Type 0
 WithinEach is [] = Unit {0}
@@ -281,19 +281,19 @@ holds_without (g ∷ hs) k c j d h o =
     (λ m. let both : ((k == j) && (c == d)) ≡ true = both_same g.0 g.1 k c j d b m in cc)
     (λ m. holds_without hs k c j d m o))
 
-not_same : (is : List Inside) (k c j d : ℕ) → is_among is k c ≡ false → is_among is j d ≡ true → (b : Bool) → ((k == j) && (c == d)) ≡ b → b ≡ false
+not_same : (is : List Inside) (k c j d : ℕ) → is_inside_clause is k c ≡ false → is_inside_clause is j d ≡ true → (b : Bool) → ((k == j) && (c == d)) ≡ b → b ≡ false
 not_same is k c j d none among false e = refl
 not_same is k c j d none among true e =
     let parts = and_parts (k == j) (c == d) e in
-    let P : ℕ → Type 0 = λ n. is_among is n c ≡ false in
-    let Q : ℕ → Type 0 = λ n. is_among is j n ≡ false in
-    let away : is_among is j d ≡ false = subst Q (same_number c d parts.1) (subst P (same_number k j parts.0) none) in
+    let P : ℕ → Type 0 = λ n. is_inside_clause is n c ≡ false in
+    let Q : ℕ → Type 0 = λ n. is_inside_clause is j n ≡ false in
+    let away : is_inside_clause is j d ≡ false = subst Q (same_number c d parts.1) (subst P (same_number k j parts.0) none) in
     cc
 
-less_all : (hs : List (ℕ × ℕ)) (is js : List Inside) (k c : ℕ) → is_among is k c ≡ false → Within is js → HeldAll hs js → HeldAll (without_clause k c hs) js
+less_all : (hs : List (ℕ × ℕ)) (is js : List Inside) (k c : ℕ) → is_inside_clause is k c ≡ false → Within is js → HeldAll hs js → HeldAll (without_clause k c hs) js
 less_all hs is js k c none w h j d m = holds_without hs k c j d (h j d m) (not_same is k c j d none (w j d m) ((k == j) && (c == d)) refl)
 
-less_each : (hs : List (ℕ × ℕ)) (is : List Inside) (iss : List (List Inside)) (k c : ℕ) → is_among is k c ≡ false → WithinEach is iss → HeldEach hs iss
+less_each : (hs : List (ℕ × ℕ)) (is : List Inside) (iss : List (List Inside)) (k c : ℕ) → is_inside_clause is k c ≡ false → WithinEach is iss → HeldEach hs iss
     → HeldEach (without_clause k c hs) iss
 less_each hs is [] k c none w h = tt
 less_each hs is (js ∷ jss) k c none w h = (less_all hs is js k c none w.0 h.0, less_each hs is jss k c none w.1 h.1)
@@ -307,14 +307,14 @@ pub leaves_safe : (plans : Plans) (hs0 : List (ℕ × ℕ)) (is : List Inside) (
     → WithinEach is iss → Within is lv → Safe plans hs iss lv (owed_leaves hs0 is k l cs more)
 leaves_safe plans hs0 is hs iss lv k l [] more go h w v = go hs h
 leaves_safe plans hs0 is hs iss lv k l (c ∷ cs) more go h w v =
-    pick (Safe plans hs iss lv) (holds hs0 k c.0 && not (is_among is k c.0)) _ _
+    pick (Safe plans hs iss lv) (holds hs0 k c.0 && not (is_inside_clause is k c.0)) _ _
     (λ b. (h, tt, leaves_safe plans hs0 is (without_clause k c.0 hs) iss lv k l cs more go (lessened b) w v))
     (λ b. leaves_safe plans hs0 is hs iss lv k l cs more go h w v)
   where
-    lessened : (holds hs0 k c.0 && not (is_among is k c.0)) ≡ true → AllHeld (without_clause k c.0 hs) iss lv
+    lessened : (holds hs0 k c.0 && not (is_inside_clause is k c.0)) ≡ true → AllHeld (without_clause k c.0 hs) iss lv
     lessened b =
-        let parts = and_parts (holds hs0 k c.0) (not (is_among is k c.0)) b in
-        let none : is_among is k c.0 ≡ false = not_true (is_among is k c.0) parts.1 in
+        let parts = and_parts (holds hs0 k c.0) (not (is_inside_clause is k c.0)) b in
+        let none : is_inside_clause is k c.0 ≡ false = not_true (is_inside_clause is k c.0) parts.1 in
         (less_each hs is iss k c.0 none w h.0, less_all hs is lv k c.0 none v h.1)
 
 pub all_leaves_safe : (plans : Plans) (hs0 : List (ℕ × ℕ)) (is : List Inside) (hs : List (ℕ × ℕ)) (iss : List (List Inside)) (lv : List Inside) (l : ℕ)

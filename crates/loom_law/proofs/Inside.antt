@@ -12,7 +12,7 @@ use Rattle.loom_lang.specs.Trace.{Act, begin, end, trap, read, write, lock, unlo
 use Rattle.loom_event.specs.Event.{entry_by}
 use Rattle.loom_law.specs.Walk.{tick_after}
 use Rattle.loom_law.specs.Filter.{statement, function, clauses}
-use Rattle.loom_law.specs.Walk.{Version, Plans, Operation, wait, enters, at, past, post, leave, back, tick, cross, blocked, PartStep, goes, makes, told, entry_of_operation, Inside, OpenFrame, Spot, elsewhere, beginning, entered, complete, left, trapped, Queue, Walk, unborn, holds, all_inside, is_left_with, completed, in_frame, opened, closed, without_first, inside_first, function_line, with_tick, taking, behind_entry, after_item, noted_at, begun_at, entered_regions, without_clause, left_behind, after_operation, walk_from, all_leaves, with_back, without_filters, frames_without, spot_without, new_filters, owed_fresh, owed_behind_cross, crossing, begun_with, MayStand, AreWoven}
+use Rattle.loom_law.specs.Walk.{Version, Plans, Operation, wait, enters, at, past, post, leave, back, tick, cross, blocked, PartStep, goes, makes, filter_entries, entry_of_operation, Inside, OpenFrame, Spot, elsewhere, beginning, entered, complete, left, trapped, Queue, Walk, unborn, holds, all_inside, is_left_with, completed, in_frame, open_statement, close_statement, without_first, inside_first, function_line, with_tick, taking, behind_entry, after_item, noted_at, begun_at, entered_regions, without_clause, left_behind, after_operation, walk_from, all_leaves, with_back, without_filters, frames_without, spot_without, new_filters, owed_fresh, owed_behind_cross, crossing, begun_with, MayStand, AreWoven}
 use Rattle.loom_law.specs.ThreadPart.{leaving, is_inside}
 use Rattle.loom_law.specs.Laws.{HasHeldRegions}
 use Rattle.loom_law.proofs.Cross.{held_in, each_in, all_held_in, kept_safe}
@@ -83,11 +83,11 @@ item_good p plans z (made l (join c)) is h = resting_good plans z is h
 item_good p plans z (made l (print v)) is h = resting_good plans z is h
 item_good p plans z (begins l env) is h =
     let P : List (List Inside) → Type 0 = λ iss. Safe plans z.held iss [] (Walk.owed (after_item p plans z (begins l env))) in
-    subst P (sym (insides_same (opened l) (λ x. refl) z.frames))
+    subst P (sym (insides_same (open_statement l) (λ x. refl) z.frames))
     (beginning_safe plans z.held z.held (insides z.frames) [] l (statement l) env z.active h (λ k c m. m))
 item_good p plans z (done l) is h =
     let P : List (List Inside) → Type 0 = λ iss. Safe plans z.held iss [] (Walk.owed (after_item p plans z (done l))) in
-    subst P (sym (insides_same closed (λ x. refl) z.frames))
+    subst P (sym (insides_same close_statement (λ x. refl) z.frames))
     (behind_safe plans z.held z.held (insides z.frames) z.frames l (begun_with z.frames) z.active h (under_itself z.frames))
 item_good p plans z (edge l) is h = tick_safe p plans z.held (insides z.frames) [] (place.back_edge l) (suc (length z.passed)) [] h
 item_good p plans z (enter f env) is h =
@@ -288,17 +288,17 @@ op_told p plans z t l (tick x) c = refl
 op_told p plans z t l (cross x v n) c = cc
 op_told p plans z t l (blocked w) c = refl
 
-pub held_told : (p : Source) (plans : Plans) (z : Walk) (t : ℕ) (ss : List PartStep) → NoneCross ss → Walk.held (walk_from p plans z ss) ≡ held_by z.held (told t ss)
+pub held_told : (p : Source) (plans : Plans) (z : Walk) (t : ℕ) (ss : List PartStep) → NoneCross ss → Walk.held (walk_from p plans z ss) ≡ held_by z.held (filter_entries t ss)
 held_told p plans z t [] c = refl
 held_told p plans z t (goes (made l a) ∷ ss) c =
     held_told p plans (after_item p plans z (made l a)) t ss c.1
-    ∙ ap (λ hs. held_by hs (told t ss)) (made_held p plans z l a ∙ sym (act_held z.held t l a))
+    ∙ ap (λ hs. held_by hs (filter_entries t ss)) (made_held p plans z l a ∙ sym (act_held z.held t l a))
 held_told p plans z t (goes (begins l env) ∷ ss) c = held_told p plans (after_item p plans z (begins l env)) t ss c.1
 held_told p plans z t (goes (done l) ∷ ss) c = held_told p plans (after_item p plans z (done l)) t ss c.1
 held_told p plans z t (goes (edge l) ∷ ss) c = held_told p plans (after_item p plans z (edge l)) t ss c.1
 held_told p plans z t (goes (enter f env) ∷ ss) c = held_told p plans (after_item p plans z (enter f env)) t ss c.1
 held_told p plans z t (goes (out f) ∷ ss) c = held_told p plans (after_item p plans z (out f)) t ss c.1
-held_told p plans z t (makes l o ∷ ss) c = held_told p plans (after_operation p plans z o) t ss c.1 ∙ ap (λ hs. held_by hs (told t ss)) (op_told p plans z t l o c.0)
+held_told p plans z t (makes l o ∷ ss) c = held_told p plans (after_operation p plans z o) t ss c.1 ∙ ap (λ hs. held_by hs (filter_entries t ss)) (op_told p plans z t l o c.0)
 
 -- Entries without a `Cross`
 
@@ -336,7 +336,7 @@ act_cross t l (spawn c f vs) b h = h
 act_cross t l (join c) b h = h
 act_cross t l (print v) b h = h
 
-pub steps_cross : (t : ℕ) (ss : List PartStep) → none_cross (told t ss) ≡ true → NoneCross ss
+pub steps_cross : (t : ℕ) (ss : List PartStep) → none_cross (filter_entries t ss) ≡ true → NoneCross ss
 steps_cross t [] h = tt
 steps_cross t (goes (made l a) ∷ ss) h = (refl, steps_cross t ss (act_cross t l a _ h))
 steps_cross t (goes (begins l env) ∷ ss) h = (refl, steps_cross t ss h)
@@ -345,7 +345,7 @@ steps_cross t (goes (edge l) ∷ ss) h = (refl, steps_cross t ss h)
 steps_cross t (goes (enter f env) ∷ ss) h = (refl, steps_cross t ss h)
 steps_cross t (goes (out f) ∷ ss) h = (refl, steps_cross t ss h)
 steps_cross t (makes l o ∷ ss) h =
-    let parts = and_parts (not (is_cross (entry_of_operation t l o))) (none_cross (told t ss)) h in
+    let parts = and_parts (not (is_cross (entry_of_operation t l o))) (none_cross (filter_entries t ss)) h in
     (op_cross t l o parts.0, steps_cross t ss parts.1)
 
 -- An `At` stands only where each clause that begins with its events is held
@@ -387,7 +387,7 @@ at_covered p plans z t l (cross x v n) rest m k ns s h is = cc
 at_covered p plans z t l (blocked w) rest m k ns s h is = cc
 
 pub covered : (p : Source) (plans : Plans) (z : Walk) (t : ℕ) (ss : List PartStep) (ahead : List Item) (front : List Entry) (m k : ℕ) (ns : List ℕ) (rest : List Entry)
-    → NoneCross ss → AreWoven p plans z ss ahead → Good plans z → told t ss ≡ front ++ e.At t m k ns ∷ rest
+    → NoneCross ss → AreWoven p plans z ss ahead → Good plans z → filter_entries t ss ≡ front ++ e.At t m k ns ∷ rest
     → Covers (held_by z.held front) k ns (clauses (plans k))
 covered p plans z t [] ahead [] m k ns rest c w h is = cc
 covered p plans z t [] ahead (y ∷ front) m k ns rest c w h is = cc
@@ -396,7 +396,7 @@ covered p plans z t (goes (made l a) ∷ ss) ahead [] m k ns rest c w h is =
     absurd (act_is_no_at t l a m k ns first)
 covered p plans z t (goes (made l a) ∷ ss) ahead (y ∷ front) m k ns rest c w h is =
     let first : entry_by t l a ≡ y = cc in
-    let others : told t ss ≡ front ++ e.At t m k ns ∷ rest = cc in
+    let others : filter_entries t ss ≡ front ++ e.At t m k ns ∷ rest = cc in
     let z1 : Walk = after_item p plans z (made l a) in
     let held : z1.held ≡ held_after z.held y = made_held p plans z l a ∙ sym (act_held z.held t l a) ∙ ap (held_after z.held) first in
     let P : List (ℕ × ℕ) → Type 0 = λ hs. Covers (held_by hs front) k ns (clauses (plans k)) in
@@ -416,7 +416,7 @@ covered p plans z t (makes l o ∷ ss) ahead [] m k ns rest c w h is =
     at_covered p plans z t l o _ m k ns w.0 h first
 covered p plans z t (makes l o ∷ ss) ahead (y ∷ front) m k ns rest c w h is =
     let first : entry_of_operation t l o ≡ y = cc in
-    let others : told t ss ≡ front ++ e.At t m k ns ∷ rest = cc in
+    let others : filter_entries t ss ≡ front ++ e.At t m k ns ∷ rest = cc in
     let z1 : Walk = after_operation p plans z o in
     let held : z1.held ≡ held_after z.held y = op_told p plans z t l o c.0 ∙ ap (held_after z.held) first in
     let P : List (ℕ × ℕ) → Type 0 = λ hs. Covers (held_by hs front) k ns (clauses (plans k)) in

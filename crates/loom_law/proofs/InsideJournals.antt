@@ -16,14 +16,14 @@ use Rattle.loom_event.specs.Run.{AreRun}
 use Rattle.loom_event.proofs.Runs.{next, given, threads_traced, does}
 use Rattle.loom_event.proofs.Runs as runs
 use Rattle.loom_event.proofs.Stops as stops
-use Rattle.loom_event.proofs.Shown.{event, adds}
+use Rattle.loom_event.proofs.Examples.{event, adds}
 use Rattle.loom_law.specs.Filter.{plan_of}
 use Rattle.loom_law.specs.Walk.{enters, past, leave, back, PartStep, goes, makes, items}
 use Rattle.loom_law.specs.Walk as walk
 use Rattle.loom_law.specs.Control.{means, install, Command}
 use Rattle.loom_law.specs.Lawful.{Setting, HasPart, StandsAt, running_thread, IsOutside, MayInstall, front_at, IsLawful}
 use Rattle.loom_law.proofs.Fronts.{Each, behind, each_one, FollowsBehind, nothing_made}
-use Rattle.loom_law.proofs.Shown.{on_line}
+use Rattle.loom_law.proofs.Examples.{on_line}
 use Rattle.loom_law.proofs.Journals.{not_due, moves}
 
 -- While a thread is inside nobody else goes on; the old read still loses an update.

@@ -7,7 +7,7 @@ use Rattle.loom_command.specs.Script.{Trigger, at, stall}
 use Rattle.loom_event.specs.Entries.{thread_entries}
 use Rattle.loom_law.specs.Filter.{is_alone}
 use Rattle.loom_law.specs.Control.{Command, command_at, Holder, listed_places}
-use Rattle.loom_law.specs.Lawful.{Setting, Front, plans, over, refusal, IsHeldOff, IsDue, IsTriggered, IsOpen, is_cross, owes_cross, IsParked, MayMove}
+use Rattle.loom_law.specs.Lawful.{Setting, Front, plans, run_is_over, refusal, IsHeldOff, IsDue, IsTriggered, IsOpen, is_cross, owes_cross, IsParked, MayMove}
 use Rattle.loom_law.proofs.Earlier.{same_number}
 
 -- No command is due
@@ -110,7 +110,7 @@ none_refused s f (Some k) = is_none (refusal s f.control k)
 
 abbrev pub is_quiet : Setting → Front → ℕ → Entry → Bool
 is_quiet s f t x =
-    (not (over s f) && not f.control.closing) && ((none_due s f && none_refused s f f.control.asked)
+    (not (run_is_over s f) && not f.control.closing) && ((none_due s f && none_refused s f f.control.asked)
     && (are_free s t f.control.holders && same_bools (is_cross x) (owes_cross x (listed_places t f.entries))))
 
 same_are : (a b : Bool) → same_bools a b ≡ true → a ≡ b
@@ -126,7 +126,7 @@ not_refused s f (Some j) h k is = let same : j ≡ k = cc in none_there (refusal
     none_there None h = refl
     none_there (Some x) h = cc
 
-pub opens : {s : Setting} {f : Front} → over s f ≡ false → f.control.closing ≡ false → none_due s f ≡ true → none_refused s f f.control.asked ≡ true → IsOpen s f
+pub opens : {s : Setting} {f : Front} → run_is_over s f ≡ false → f.control.closing ≡ false → none_due s f ≡ true → none_refused s f f.control.asked ≡ true → IsOpen s f
 opens {s = s} {f = f} runs closing due refused = record {
   runs = runs;
   not_closing = closing;
@@ -136,13 +136,13 @@ opens {s = s} {f = f} runs closing due refused = record {
 
 pub moves : {s : Setting} {f : Front} {t : ℕ} {x : Entry} → is_quiet s f t x ≡ true → IsParked s f t x f.control.asked → MayMove s f t x
 moves {s = s} {f = f} {t = t} {x = x} quiet parked =
-    let a = and_parts (not (over s f) && not f.control.closing) _ quiet in
-    let b = and_parts (not (over s f)) (not f.control.closing) a.0 in
+    let a = and_parts (not (run_is_over s f) && not f.control.closing) _ quiet in
+    let b = and_parts (not (run_is_over s f)) (not f.control.closing) a.0 in
     let c = and_parts (none_due s f && none_refused s f f.control.asked) _ a.1 in
     let d = and_parts (none_due s f) (none_refused s f f.control.asked) c.0 in
     let g = and_parts (are_free s t f.control.holders) _ c.1 in
     record {
-      goes_on = opens {s = s} {f = f} (not-true (over s f) b.0) (not-true f.control.closing b.1) d.0 d.1;
+      goes_on = opens {s = s} {f = f} (not-true (run_is_over s f) b.0) (not-true f.control.closing b.1) d.0 d.1;
       not_held_off = not_off s f t g.0;
       crosses = same_are (is_cross x) (owes_cross x (listed_places t f.entries)) g.1;
       parked = parked;

@@ -8,7 +8,7 @@ use Rattle.loom_lang.specs.Places as place
 use Rattle.loom_lang.specs.Trace.{Locals, begin, end, trap, read, write, lock, unlock, down, up, spawn, join, print, Item, made, begins, done, edge, enter, out, Outcome, IsTrace}
 use Rattle.loom_law.specs.Walk.{tick_after}
 use Rattle.loom_law.specs.Filter.{Site, statement, function, Ruling, Plan, matching, has, waits, posts, clauses}
-use Rattle.loom_law.specs.Walk.{Version, Plans, Operation, wait, enters, at, past, post, leave, back, tick, cross, blocked, PartStep, goes, makes, items, Inside, OpenFrame, Spot, elsewhere, beginning, entered, complete, left, trapped, Queue, Walk, unborn, holds, begins_in, owed_waits, owed_enters, owed_by, owed_at, is_among, all_inside, completed, in_frame, owed_posts, owed_leaves, events_of, owed_past, owed_behind, all_leaves, with_back, with_tick, begun_with, function_line, without_first, without_clause, taking, behind_entry, after_item, filter_of, stays, still_owed, new_filters, owed_fresh, owed_behind_cross, crossing, frames_without, opened, closed, owed_out, begun_at, made_one, spot_without, left_behind, after_operation, after, walk_from, Owes, MayStand, AreWoven}
+use Rattle.loom_law.specs.Walk.{Version, Plans, Operation, wait, enters, at, past, post, leave, back, tick, cross, blocked, PartStep, goes, makes, items, Inside, OpenFrame, Spot, elsewhere, beginning, entered, complete, left, trapped, Queue, Walk, unborn, holds, begins_in, owed_waits, owed_enters, owed_by, owed_at, is_inside_clause, all_inside, completed, in_frame, owed_posts, owed_leaves, events_of, owed_past, owed_behind, all_leaves, with_back, with_tick, begun_with, function_line, without_first, without_clause, taking, behind_entry, after_item, filter_of, stays, still_owed, new_filters, owed_fresh, owed_behind_cross, crossing, frames_without, open_statement, close_statement, owed_out, begun_at, made_one, spot_without, left_behind, after_operation, walk_behind, walk_from, Owes, MayStand, AreWoven}
 use Rattle.loom_law.proofs.Holdings.{or_left, or_right, pick, same_number}
 use Rattle.loom_law.proofs.ActiveFilters.{Among, first_in, others_in, fresh_among, itself}
 use Rattle.loom_law.proofs.Ends.{IsOpened, one_less, EndsWell, trace_ends}
@@ -64,7 +64,7 @@ leaves_well : (plans : Plans) (ks : List ℕ) (hs : List (ℕ × ℕ)) (is : Lis
 leaves_well plans ks hs is k l [] more h = h
 leaves_well plans ks hs is k l (c ∷ cs) more h =
     let ih : AllWell plans ks (owed_leaves hs is k l cs more) = leaves_well plans ks hs is k l cs more h in
-    pick (AllWell plans ks) (holds hs k c.0 && not (is_among is k c.0)) _ _ (λ b. (tt, ih)) (λ b. ih)
+    pick (AllWell plans ks) (holds hs k c.0 && not (is_inside_clause is k c.0)) _ _ (λ b. (tt, ih)) (λ b. ih)
 
 by_well : (plans : Plans) (ks : List ℕ) (k : ℕ) (hs : List (ℕ × ℕ)) (l : ℕ) (ns : List ℕ) (more : Queue) → has ks k ≡ true → AllWell plans ks more
     → AllWell plans ks (owed_by (plans k) k hs l ns more)
@@ -199,7 +199,7 @@ leave_more : (hs : List (ℕ × ℕ)) (is : List Inside) (j l : ℕ) (cs : List 
 leave_more hs is j l [] more k c h = h
 leave_more hs is j l (x ∷ cs) more k c h =
     let ih : has_leave k c (owed_leaves hs is j l cs more) ≡ true = leave_more hs is j l cs more k c h in
-    pick (λ os. has_leave k c os ≡ true) (holds hs j x.0 && not (is_among is j x.0)) ((l, leave j x.0) ∷ owed_leaves hs is j l cs more) (owed_leaves hs is j l cs more)
+    pick (λ os. has_leave k c os ≡ true) (holds hs j x.0 && not (is_inside_clause is j x.0)) ((l, leave j x.0) ∷ owed_leaves hs is j l cs more) (owed_leaves hs is j l cs more)
     (λ b. or_right ((k == j) && (c == x.0)) (has_leave k c (owed_leaves hs is j l cs more)) ih) (λ b. ih)
 
 leave_there : (hs : List (ℕ × ℕ)) (k l : ℕ) (cs : List (ℕ × Ruling)) (more : Queue) (c : ℕ) → holds hs k c ≡ true → list_any (λ (x : ℕ × Ruling). x.0 == c) cs ≡ true
@@ -210,14 +210,14 @@ leave_there hs k l (x ∷ cs) more c h a =
     (λ b.
     let same : x.0 ≡ c = same_number x.0 c b in
     let os : Queue = owed_leaves hs [] k l cs more in
-    let test : (holds hs k x.0 && not (is_among [] k x.0)) ≡ true = and_true (holds hs k x.0) (not (is_among [] k x.0)) (ap (holds hs k) same ∙ h) refl in
+    let test : (holds hs k x.0 && not (is_inside_clause [] k x.0)) ≡ true = and_true (holds hs k x.0) (not (is_inside_clause [] k x.0)) (ap (holds hs k) same ∙ h) refl in
     let here : has_leave k c ((l, leave k x.0) ∷ os) ≡ true =
     or_left ((k == k) && (c == x.0)) (has_leave k c os) (and_true (k == k) (c == x.0) (eq_same k) (ap (λ m. c == m) same ∙ eq_same c)) in
-    ap (has_leave k c) (if_true (holds hs k x.0 && not (is_among [] k x.0)) ((l, leave k x.0) ∷ os) os test) ∙ here)
+    ap (has_leave k c) (if_true (holds hs k x.0 && not (is_inside_clause [] k x.0)) ((l, leave k x.0) ∷ os) os test) ∙ here)
     (λ b.
     let ih : has_leave k c (owed_leaves hs [] k l cs more) ≡ true =
     leave_there hs k l cs more c h (or_rest (x.0 == c) (list_any (λ (x : ℕ × Ruling). x.0 == c) cs) b a) in
-    pick (λ os. has_leave k c os ≡ true) (holds hs k x.0 && not (is_among [] k x.0)) ((l, leave k x.0) ∷ owed_leaves hs [] k l cs more) (owed_leaves hs [] k l cs more)
+    pick (λ os. has_leave k c os ≡ true) (holds hs k x.0 && not (is_inside_clause [] k x.0)) ((l, leave k x.0) ∷ owed_leaves hs [] k l cs more) (owed_leaves hs [] k l cs more)
     (λ g. or_right ((k == k) && (c == x.0)) (has_leave k c (owed_leaves hs [] k l cs more)) ih) (λ g. ih))
 
 all_left : (plans : Plans) (hs : List (ℕ × ℕ)) (l : ℕ) (ks : List ℕ) (k c : ℕ) → has ks k ≡ true → has_clause plans k c ≡ true → holds hs k c ≡ true
@@ -256,7 +256,7 @@ leaves_none : (hs : List (ℕ × ℕ)) (is : List Inside) (k l : ℕ) (cs : List
 leaves_none hs is k l [] more h = h
 leaves_none hs is k l (c ∷ cs) more h =
     let ih : NoEnters (owed_leaves hs is k l cs more) = leaves_none hs is k l cs more h in
-    pick NoEnters (holds hs k c.0 && not (is_among is k c.0)) _ _ (λ b. (tt, ih)) (λ b. ih)
+    pick NoEnters (holds hs k c.0 && not (is_inside_clause is k c.0)) _ _ (λ b. (tt, ih)) (λ b. ih)
 
 all_leaves_none : (plans : Plans) (hs : List (ℕ × ℕ)) (is : List Inside) (l : ℕ) (js : List ℕ) → NoEnters (all_leaves plans hs is l js)
 all_leaves_none plans hs is l [] = tt
@@ -448,17 +448,17 @@ item_good p plans z (begins l env) rest e h = (
   record {
     well = at_well plans z.active z.held l (statement l) env z.active (itself z.active);
     held = h.held;
-    over = λ n. absurd (not_here z.frames e.0 (in_frame_none (opened l) z.frames n));
+    over = λ n. absurd (not_here z.frames e.0 (in_frame_none (open_statement l) z.frames n));
   },
-  subst (λ q. EndsWell q rest) (sym (in_frame_length (opened l) z.frames)) e.1,
+  subst (λ q. EndsWell q rest) (sym (in_frame_length (open_statement l) z.frames)) e.1,
 )
 item_good p plans z (done l) rest e h = (
   record {
     well = behind_well plans z.active z.held z.frames l (begun_with z.frames) z.active;
     held = h.held;
-    over = λ n. absurd (not_here z.frames e.0 (in_frame_none closed z.frames n));
+    over = λ n. absurd (not_here z.frames e.0 (in_frame_none close_statement z.frames n));
   },
-  subst (λ q. EndsWell q rest) (sym (in_frame_length closed z.frames)) e.1,
+  subst (λ q. EndsWell q rest) (sym (in_frame_length close_statement z.frames)) e.1,
 )
 item_good p plans z (edge l) rest e h = (
   record {
@@ -606,7 +606,7 @@ at_end p plans z l rest is h = nothing_held z.held z.owed is ((h.0.over (no_fram
 last_there : (p : Source) (plans : Plans) (z : Walk) (ss : List PartStep) (s : PartStep) (ahead : List Item) → AreWoven p plans z (ss ++ s ∷ []) ahead
     → MayStand p (walk_from p plans z ss) s ahead
 last_there p plans z [] s ahead h = h.0
-last_there p plans z (u ∷ ss) s ahead h = last_there p plans (after p plans z u) ss s ahead h.1
+last_there p plans z (u ∷ ss) s ahead h = last_there p plans (walk_behind p plans z u) ss s ahead h.1
 
 -- these steps lead to an end
 pub end_holds : (p : Source) (plans : Plans) (f : ℕ) (args : List ℤ) (vs : List Version) (before : List PartStep) (l : ℕ) (ahead : List Item) (r : Outcome)

@@ -14,7 +14,7 @@ use Rattle.loom_lang.specs.Places as place
 use Rattle.loom_lang.specs.Trace.{Locals, begin, end, trap, read, write, lock, unlock, down, up, spawn, join, print, Item, made, begins, done, edge, enter, out}
 use Rattle.loom_law.specs.Walk.{tick_after}
 use Rattle.loom_law.specs.Filter.{Site, statement, function, Ruling, Plan, matching, has, waits, posts, numbered_from, clauses}
-use Rattle.loom_law.specs.Walk.{Version, Plans, Operation, wait, enters, at, past, post, leave, back, tick, cross, blocked, PartStep, goes, makes, Inside, OpenFrame, Spot, elsewhere, beginning, entered, complete, left, trapped, Queue, Walk, unborn, holds, begins_in, owed_waits, owed_enters, owed_by, owed_at, is_among, all_inside, completed, in_frame, owed_posts, owed_leaves, events_of, owed_past, owed_behind, all_leaves, with_back, with_tick, begun_with, function_line, without_first, taking, behind_entry, after_item, without_clause, still_owed, new_filters, owed_fresh, owed_behind_cross, crossing, after_operation, walk_from, Owes, MayStand, AreWoven}
+use Rattle.loom_law.specs.Walk.{Version, Plans, Operation, wait, enters, at, past, post, leave, back, tick, cross, blocked, PartStep, goes, makes, Inside, OpenFrame, Spot, elsewhere, beginning, entered, complete, left, trapped, Queue, Walk, unborn, holds, begins_in, owed_waits, owed_enters, owed_by, owed_at, is_inside_clause, all_inside, completed, in_frame, owed_posts, owed_leaves, events_of, owed_past, owed_behind, all_leaves, with_back, with_tick, begun_with, function_line, without_first, taking, behind_entry, after_item, without_clause, still_owed, new_filters, owed_fresh, owed_behind_cross, crossing, after_operation, walk_from, Owes, MayStand, AreWoven}
 use Rattle.loom_law.specs.ThreadPart.{walk_of, IsPart}
 use Rattle.loom_law.specs.Control.{Command, have_one_name, Control, first_control, control, after_entry, takes_version, versions_from, versions_of, entries_of, listed_places}
 use Rattle.loom_law.specs.Lawful.{plans, own, is_installed, Setting, is_held_by}
@@ -130,9 +130,9 @@ leaves_left : (gs hs : List (ℕ × ℕ)) (is : List Inside) (k l : ℕ) (cs : L
     → ((js : List (ℕ × ℕ)) → Others k hs js → AllLeft js more) → AllLeft hs (owed_leaves gs is k l cs more)
 leaves_left gs hs is k l [] more o s go = go hs (λ j m q h. h)
 leaves_left gs hs is k l (c ∷ cs) more o s go =
-    pick (AllLeft hs) (holds gs k c.0 && not (is_among is k c.0)) _ _
+    pick (AllLeft hs) (holds gs k c.0 && not (is_inside_clause is k c.0)) _ _
     (λ b. (
-      s.0 (and_parts (holds gs k c.0) (not (is_among is k c.0)) b).0,
+      s.0 (and_parts (holds gs k c.0) (not (is_inside_clause is k c.0)) b).0,
       leaves_left gs (without_clause k c.0 hs) is k l cs more o.1 (still_less gs hs k c.0 cs o.0 s.1)
           (λ js others. go js (λ j m q h. others j m q (holds_other k c.0 hs j m (and_left (j == k) (m == c.0) q) h))),
     ))

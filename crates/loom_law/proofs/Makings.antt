@@ -5,7 +5,7 @@ use Rattle.loom_trace.specs.declared.entry.Entry.{Entry}
 use Rattle.loom_trace.specs.declared.entry.Entry.TheVariants as e
 use Rattle.loom_lang.specs.Trace.{begin, end, trap, read, write, lock, unlock, down, up, spawn, join, print, Item, made, begins, done, edge, enter, out, IsTrace}
 use Rattle.loom_event.specs.Replay.{ThreadState}
-use Rattle.loom_law.specs.Walk.{Version, Plans, Operation, wait, enters, at, past, post, leave, back, tick, cross, blocked, PartStep, goes, makes, items, told, entry_of_operation, Walk, unborn, behind_entry, taking, crossing, after, walk_from, first_number, MayCross, AreWoven}
+use Rattle.loom_law.specs.Walk.{Version, Plans, Operation, wait, enters, at, past, post, leave, back, tick, cross, blocked, PartStep, goes, makes, items, filter_entries, entry_of_operation, Walk, unborn, behind_entry, taking, crossing, walk_behind, walk_from, first_number, MayCross, AreWoven}
 use Rattle.loom_law.specs.ThreadPart.{Own, walk_of, IsPart, HasMoved, KeepsAway}
 use Rattle.loom_law.specs.Control.{entries_of}
 use Rattle.loom_law.specs.Lawful.{Setting, plans, own, IsFlagged, is_begin, StaysAway}
@@ -54,7 +54,7 @@ cut_part p plans x es l o is h =
     let steps : List PartStep = c.before ++ makes l o ∷ [] in
     let ahead : List Item = items c.behind ++ h.ahead in
     let whole : h.steps ≡ steps ++ c.behind = c.whole ∙ sym (append_assoc c.before (makes l o ∷ []) c.behind) in
-    let tells : told t steps ≡ x.entries = told_append t c.before (makes l o ∷ []) ∙ (ap (λ us. us ++ entry_of_operation t l o ∷ []) c.same ∙ sym is) in
+    let tells : filter_entries t steps ≡ x.entries = told_append t c.before (makes l o ∷ []) ∙ (ap (λ us. us ++ entry_of_operation t l o ∷ []) c.same ∙ sym is) in
     record {
       part = record {
         steps = steps;
@@ -70,7 +70,7 @@ cut_part p plans x es l o is h =
       last = refl;
     }
 
-op_told : (t l : ℕ) (o : Operation) → told t (makes l o ∷ []) ≡ entry_of_operation t l o ∷ []
+op_told : (t l : ℕ) (o : Operation) → filter_entries t (makes l o ∷ []) ≡ entry_of_operation t l o ∷ []
 op_told t l o = refl
 
 pub making_turns : HasMakingTurns
@@ -106,37 +106,37 @@ crossing_blocked p plans z [] v h = cc
 crossing_blocked p plans z (u ∷ vs) v h = refl
 
 pub walk_blocked : (p : Source) (plans : Plans) (t : ℕ) (z : Walk) (ss : List PartStep) (ahead : List Item) → AreWoven p plans z ss ahead
-    → Walk.is_blocked (walk_from p plans z ss) ≡ blocked_behind z.is_blocked (told t ss)
+    → Walk.is_blocked (walk_from p plans z ss) ≡ blocked_behind z.is_blocked (filter_entries t ss)
 walk_blocked p plans t z [] ahead h = refl
 walk_blocked p plans t z (goes (made l begin) ∷ ss) ahead h =
     walk_blocked p plans t (taking (behind_entry z) z.coming) ss ahead h.1
-    ∙ ap (λ b. blocked_behind b (told t ss)) (taking_blocked (behind_entry z) z.coming)
+    ∙ ap (λ b. blocked_behind b (filter_entries t ss)) (taking_blocked (behind_entry z) z.coming)
 walk_blocked p plans t z (makes l (cross x v n) ∷ ss) ahead h =
     let c : MayCross p z (items ss ++ ahead) l x v n = h.0 in
     walk_blocked p plans t (crossing p plans z z.coming) ss ahead h.1
-    ∙ ap (λ b. blocked_behind b (told t ss)) (crossing_blocked p plans z z.coming v c.version)
-walk_blocked p plans t z (goes (made l end) ∷ ss) ahead h = walk_blocked p plans t (after p plans z (goes (made l end))) ss ahead h.1
-walk_blocked p plans t z (goes (made l (trap c)) ∷ ss) ahead h = walk_blocked p plans t (after p plans z (goes (made l (trap c)))) ss ahead h.1
-walk_blocked p plans t z (goes (made l (read x v)) ∷ ss) ahead h = walk_blocked p plans t (after p plans z (goes (made l (read x v)))) ss ahead h.1
-walk_blocked p plans t z (goes (made l (write x v)) ∷ ss) ahead h = walk_blocked p plans t (after p plans z (goes (made l (write x v)))) ss ahead h.1
-walk_blocked p plans t z (goes (made l (lock x)) ∷ ss) ahead h = walk_blocked p plans t (after p plans z (goes (made l (lock x)))) ss ahead h.1
-walk_blocked p plans t z (goes (made l (unlock x)) ∷ ss) ahead h = walk_blocked p plans t (after p plans z (goes (made l (unlock x)))) ss ahead h.1
-walk_blocked p plans t z (goes (made l (down x)) ∷ ss) ahead h = walk_blocked p plans t (after p plans z (goes (made l (down x)))) ss ahead h.1
-walk_blocked p plans t z (goes (made l (up x)) ∷ ss) ahead h = walk_blocked p plans t (after p plans z (goes (made l (up x)))) ss ahead h.1
-walk_blocked p plans t z (goes (made l (spawn c f ws)) ∷ ss) ahead h = walk_blocked p plans t (after p plans z (goes (made l (spawn c f ws)))) ss ahead h.1
-walk_blocked p plans t z (goes (made l (join c)) ∷ ss) ahead h = walk_blocked p plans t (after p plans z (goes (made l (join c)))) ss ahead h.1
-walk_blocked p plans t z (goes (made l (print v)) ∷ ss) ahead h = walk_blocked p plans t (after p plans z (goes (made l (print v)))) ss ahead h.1
-walk_blocked p plans t z (goes (begins l env) ∷ ss) ahead h = walk_blocked p plans t (after p plans z (goes (begins l env))) ss ahead h.1
-walk_blocked p plans t z (goes (done l) ∷ ss) ahead h = walk_blocked p plans t (after p plans z (goes (done l))) ss ahead h.1
-walk_blocked p plans t z (goes (edge l) ∷ ss) ahead h = walk_blocked p plans t (after p plans z (goes (edge l))) ss ahead h.1
-walk_blocked p plans t z (goes (enter f env) ∷ ss) ahead h = walk_blocked p plans t (after p plans z (goes (enter f env))) ss ahead h.1
-walk_blocked p plans t z (goes (out f) ∷ ss) ahead h = walk_blocked p plans t (after p plans z (goes (out f))) ss ahead h.1
-walk_blocked p plans t z (makes l (wait k n) ∷ ss) ahead h = walk_blocked p plans t (after p plans z (makes l (wait k n))) ss ahead h.1
-walk_blocked p plans t z (makes l (enters k c) ∷ ss) ahead h = walk_blocked p plans t (after p plans z (makes l (enters k c))) ss ahead h.1
-walk_blocked p plans t z (makes l (at k ns) ∷ ss) ahead h = walk_blocked p plans t (after p plans z (makes l (at k ns))) ss ahead h.1
-walk_blocked p plans t z (makes l (past k ns) ∷ ss) ahead h = walk_blocked p plans t (after p plans z (makes l (past k ns))) ss ahead h.1
-walk_blocked p plans t z (makes l (post k n) ∷ ss) ahead h = walk_blocked p plans t (after p plans z (makes l (post k n))) ss ahead h.1
-walk_blocked p plans t z (makes l (leave k c) ∷ ss) ahead h = walk_blocked p plans t (after p plans z (makes l (leave k c))) ss ahead h.1
-walk_blocked p plans t z (makes l back ∷ ss) ahead h = walk_blocked p plans t (after p plans z (makes l back)) ss ahead h.1
-walk_blocked p plans t z (makes l (tick x) ∷ ss) ahead h = walk_blocked p plans t (after p plans z (makes l (tick x))) ss ahead h.1
-walk_blocked p plans t z (makes l (blocked what) ∷ ss) ahead h = walk_blocked p plans t (after p plans z (makes l (blocked what))) ss ahead h.1
+    ∙ ap (λ b. blocked_behind b (filter_entries t ss)) (crossing_blocked p plans z z.coming v c.version)
+walk_blocked p plans t z (goes (made l end) ∷ ss) ahead h = walk_blocked p plans t (walk_behind p plans z (goes (made l end))) ss ahead h.1
+walk_blocked p plans t z (goes (made l (trap c)) ∷ ss) ahead h = walk_blocked p plans t (walk_behind p plans z (goes (made l (trap c)))) ss ahead h.1
+walk_blocked p plans t z (goes (made l (read x v)) ∷ ss) ahead h = walk_blocked p plans t (walk_behind p plans z (goes (made l (read x v)))) ss ahead h.1
+walk_blocked p plans t z (goes (made l (write x v)) ∷ ss) ahead h = walk_blocked p plans t (walk_behind p plans z (goes (made l (write x v)))) ss ahead h.1
+walk_blocked p plans t z (goes (made l (lock x)) ∷ ss) ahead h = walk_blocked p plans t (walk_behind p plans z (goes (made l (lock x)))) ss ahead h.1
+walk_blocked p plans t z (goes (made l (unlock x)) ∷ ss) ahead h = walk_blocked p plans t (walk_behind p plans z (goes (made l (unlock x)))) ss ahead h.1
+walk_blocked p plans t z (goes (made l (down x)) ∷ ss) ahead h = walk_blocked p plans t (walk_behind p plans z (goes (made l (down x)))) ss ahead h.1
+walk_blocked p plans t z (goes (made l (up x)) ∷ ss) ahead h = walk_blocked p plans t (walk_behind p plans z (goes (made l (up x)))) ss ahead h.1
+walk_blocked p plans t z (goes (made l (spawn c f ws)) ∷ ss) ahead h = walk_blocked p plans t (walk_behind p plans z (goes (made l (spawn c f ws)))) ss ahead h.1
+walk_blocked p plans t z (goes (made l (join c)) ∷ ss) ahead h = walk_blocked p plans t (walk_behind p plans z (goes (made l (join c)))) ss ahead h.1
+walk_blocked p plans t z (goes (made l (print v)) ∷ ss) ahead h = walk_blocked p plans t (walk_behind p plans z (goes (made l (print v)))) ss ahead h.1
+walk_blocked p plans t z (goes (begins l env) ∷ ss) ahead h = walk_blocked p plans t (walk_behind p plans z (goes (begins l env))) ss ahead h.1
+walk_blocked p plans t z (goes (done l) ∷ ss) ahead h = walk_blocked p plans t (walk_behind p plans z (goes (done l))) ss ahead h.1
+walk_blocked p plans t z (goes (edge l) ∷ ss) ahead h = walk_blocked p plans t (walk_behind p plans z (goes (edge l))) ss ahead h.1
+walk_blocked p plans t z (goes (enter f env) ∷ ss) ahead h = walk_blocked p plans t (walk_behind p plans z (goes (enter f env))) ss ahead h.1
+walk_blocked p plans t z (goes (out f) ∷ ss) ahead h = walk_blocked p plans t (walk_behind p plans z (goes (out f))) ss ahead h.1
+walk_blocked p plans t z (makes l (wait k n) ∷ ss) ahead h = walk_blocked p plans t (walk_behind p plans z (makes l (wait k n))) ss ahead h.1
+walk_blocked p plans t z (makes l (enters k c) ∷ ss) ahead h = walk_blocked p plans t (walk_behind p plans z (makes l (enters k c))) ss ahead h.1
+walk_blocked p plans t z (makes l (at k ns) ∷ ss) ahead h = walk_blocked p plans t (walk_behind p plans z (makes l (at k ns))) ss ahead h.1
+walk_blocked p plans t z (makes l (past k ns) ∷ ss) ahead h = walk_blocked p plans t (walk_behind p plans z (makes l (past k ns))) ss ahead h.1
+walk_blocked p plans t z (makes l (post k n) ∷ ss) ahead h = walk_blocked p plans t (walk_behind p plans z (makes l (post k n))) ss ahead h.1
+walk_blocked p plans t z (makes l (leave k c) ∷ ss) ahead h = walk_blocked p plans t (walk_behind p plans z (makes l (leave k c))) ss ahead h.1
+walk_blocked p plans t z (makes l back ∷ ss) ahead h = walk_blocked p plans t (walk_behind p plans z (makes l back)) ss ahead h.1
+walk_blocked p plans t z (makes l (tick x) ∷ ss) ahead h = walk_blocked p plans t (walk_behind p plans z (makes l (tick x))) ss ahead h.1
+walk_blocked p plans t z (makes l (blocked what) ∷ ss) ahead h = walk_blocked p plans t (walk_behind p plans z (makes l (blocked what))) ss ahead h.1

@@ -6,7 +6,7 @@ use Rattle.loom_trace.specs.declared.entry.Entry.TheVariants as e
 use Rattle.loom_lang.specs.Trace.{begin, end, trap, read, write, lock, unlock, down, up, spawn, join, print, made, begins, done, edge, enter, out}
 use Rattle.loom_event.specs.Entries.{thread_of, is_thread}
 use Rattle.loom_event.specs.Replay.{ThreadState}
-use Rattle.loom_law.specs.Walk.{Version, Plans, wait, enters, at, past, post, leave, back, tick, cross, blocked, PartStep, goes, makes, told, Walk, unborn, without_first, taking, behind_entry, crossing, after, walk_from}
+use Rattle.loom_law.specs.Walk.{Version, Plans, wait, enters, at, past, post, leave, back, tick, cross, blocked, PartStep, goes, makes, filter_entries, Walk, unborn, without_first, taking, behind_entry, crossing, walk_behind, walk_from}
 use Rattle.loom_law.specs.ThreadPart.{walk_of, IsPart}
 use Rattle.loom_law.specs.Control.{Command, Control, first_control, after_entry, control_after, versions_from, versions_of, entries_of, row_at, listed_places_after, listed_places_from, listed_places, control}
 use Rattle.loom_law.specs.Lawful.{Setting, Front, plans, own, MayMove, is_cross, owes_cross, front_at}
@@ -45,39 +45,39 @@ crossing_coming p plans z (v ∷ vs) is = refl
 both_with : (vs vs' : List Version) (ks ks' : List ℕ) (es : List Entry) → vs ≡ vs' → ks ≡ ks' → active_with vs ks es ≡ active_with vs' ks' es
 both_with vs vs' ks ks' es v h = ap (λ x. active_with x ks es) v ∙ ap (λ x. active_with vs' x es) h
 
-walk_active : (p : Source) (plans : Plans) (t : ℕ) (z : Walk) (ss : List PartStep) → Walk.active (walk_from p plans z ss) ≡ active_with z.coming z.active (told t ss)
+walk_active : (p : Source) (plans : Plans) (t : ℕ) (z : Walk) (ss : List PartStep) → Walk.active (walk_from p plans z ss) ≡ active_with z.coming z.active (filter_entries t ss)
 walk_active p plans t z [] = refl
 walk_active p plans t z (goes (made l begin) ∷ ss) =
     walk_active p plans t (taking (behind_entry z) z.coming) ss
-    ∙ both_with _ _ _ _ (told t ss) (taking_coming (behind_entry z) z.coming refl) (taking_active (behind_entry z) z.coming)
+    ∙ both_with _ _ _ _ (filter_entries t ss) (taking_coming (behind_entry z) z.coming refl) (taking_active (behind_entry z) z.coming)
 walk_active p plans t z (makes l (cross x v n) ∷ ss) =
     walk_active p plans t (crossing p plans z z.coming) ss
-    ∙ both_with _ _ _ _ (told t ss) (crossing_coming p plans z z.coming refl) (crossing_active p plans z z.coming)
-walk_active p plans t z (goes (made l end) ∷ ss) = walk_active p plans t (after p plans z (goes (made l end))) ss
-walk_active p plans t z (goes (made l (trap c)) ∷ ss) = walk_active p plans t (after p plans z (goes (made l (trap c)))) ss
-walk_active p plans t z (goes (made l (read x v)) ∷ ss) = walk_active p plans t (after p plans z (goes (made l (read x v)))) ss
-walk_active p plans t z (goes (made l (write x v)) ∷ ss) = walk_active p plans t (after p plans z (goes (made l (write x v)))) ss
-walk_active p plans t z (goes (made l (lock x)) ∷ ss) = walk_active p plans t (after p plans z (goes (made l (lock x)))) ss
-walk_active p plans t z (goes (made l (unlock x)) ∷ ss) = walk_active p plans t (after p plans z (goes (made l (unlock x)))) ss
-walk_active p plans t z (goes (made l (down x)) ∷ ss) = walk_active p plans t (after p plans z (goes (made l (down x)))) ss
-walk_active p plans t z (goes (made l (up x)) ∷ ss) = walk_active p plans t (after p plans z (goes (made l (up x)))) ss
-walk_active p plans t z (goes (made l (spawn c f ws)) ∷ ss) = walk_active p plans t (after p plans z (goes (made l (spawn c f ws)))) ss
-walk_active p plans t z (goes (made l (join c)) ∷ ss) = walk_active p plans t (after p plans z (goes (made l (join c)))) ss
-walk_active p plans t z (goes (made l (print v)) ∷ ss) = walk_active p plans t (after p plans z (goes (made l (print v)))) ss
-walk_active p plans t z (goes (begins l env) ∷ ss) = walk_active p plans t (after p plans z (goes (begins l env))) ss
-walk_active p plans t z (goes (done l) ∷ ss) = walk_active p plans t (after p plans z (goes (done l))) ss
-walk_active p plans t z (goes (edge l) ∷ ss) = walk_active p plans t (after p plans z (goes (edge l))) ss
-walk_active p plans t z (goes (enter f env) ∷ ss) = walk_active p plans t (after p plans z (goes (enter f env))) ss
-walk_active p plans t z (goes (out f) ∷ ss) = walk_active p plans t (after p plans z (goes (out f))) ss
-walk_active p plans t z (makes l (wait k n) ∷ ss) = walk_active p plans t (after p plans z (makes l (wait k n))) ss
-walk_active p plans t z (makes l (enters k c) ∷ ss) = walk_active p plans t (after p plans z (makes l (enters k c))) ss
-walk_active p plans t z (makes l (at k ns) ∷ ss) = walk_active p plans t (after p plans z (makes l (at k ns))) ss
-walk_active p plans t z (makes l (past k ns) ∷ ss) = walk_active p plans t (after p plans z (makes l (past k ns))) ss
-walk_active p plans t z (makes l (post k n) ∷ ss) = walk_active p plans t (after p plans z (makes l (post k n))) ss
-walk_active p plans t z (makes l (leave k c) ∷ ss) = walk_active p plans t (after p plans z (makes l (leave k c))) ss
-walk_active p plans t z (makes l back ∷ ss) = walk_active p plans t (after p plans z (makes l back)) ss
-walk_active p plans t z (makes l (tick x) ∷ ss) = walk_active p plans t (after p plans z (makes l (tick x))) ss
-walk_active p plans t z (makes l (blocked what) ∷ ss) = walk_active p plans t (after p plans z (makes l (blocked what))) ss
+    ∙ both_with _ _ _ _ (filter_entries t ss) (crossing_coming p plans z z.coming refl) (crossing_active p plans z z.coming)
+walk_active p plans t z (goes (made l end) ∷ ss) = walk_active p plans t (walk_behind p plans z (goes (made l end))) ss
+walk_active p plans t z (goes (made l (trap c)) ∷ ss) = walk_active p plans t (walk_behind p plans z (goes (made l (trap c)))) ss
+walk_active p plans t z (goes (made l (read x v)) ∷ ss) = walk_active p plans t (walk_behind p plans z (goes (made l (read x v)))) ss
+walk_active p plans t z (goes (made l (write x v)) ∷ ss) = walk_active p plans t (walk_behind p plans z (goes (made l (write x v)))) ss
+walk_active p plans t z (goes (made l (lock x)) ∷ ss) = walk_active p plans t (walk_behind p plans z (goes (made l (lock x)))) ss
+walk_active p plans t z (goes (made l (unlock x)) ∷ ss) = walk_active p plans t (walk_behind p plans z (goes (made l (unlock x)))) ss
+walk_active p plans t z (goes (made l (down x)) ∷ ss) = walk_active p plans t (walk_behind p plans z (goes (made l (down x)))) ss
+walk_active p plans t z (goes (made l (up x)) ∷ ss) = walk_active p plans t (walk_behind p plans z (goes (made l (up x)))) ss
+walk_active p plans t z (goes (made l (spawn c f ws)) ∷ ss) = walk_active p plans t (walk_behind p plans z (goes (made l (spawn c f ws)))) ss
+walk_active p plans t z (goes (made l (join c)) ∷ ss) = walk_active p plans t (walk_behind p plans z (goes (made l (join c)))) ss
+walk_active p plans t z (goes (made l (print v)) ∷ ss) = walk_active p plans t (walk_behind p plans z (goes (made l (print v)))) ss
+walk_active p plans t z (goes (begins l env) ∷ ss) = walk_active p plans t (walk_behind p plans z (goes (begins l env))) ss
+walk_active p plans t z (goes (done l) ∷ ss) = walk_active p plans t (walk_behind p plans z (goes (done l))) ss
+walk_active p plans t z (goes (edge l) ∷ ss) = walk_active p plans t (walk_behind p plans z (goes (edge l))) ss
+walk_active p plans t z (goes (enter f env) ∷ ss) = walk_active p plans t (walk_behind p plans z (goes (enter f env))) ss
+walk_active p plans t z (goes (out f) ∷ ss) = walk_active p plans t (walk_behind p plans z (goes (out f))) ss
+walk_active p plans t z (makes l (wait k n) ∷ ss) = walk_active p plans t (walk_behind p plans z (makes l (wait k n))) ss
+walk_active p plans t z (makes l (enters k c) ∷ ss) = walk_active p plans t (walk_behind p plans z (makes l (enters k c))) ss
+walk_active p plans t z (makes l (at k ns) ∷ ss) = walk_active p plans t (walk_behind p plans z (makes l (at k ns))) ss
+walk_active p plans t z (makes l (past k ns) ∷ ss) = walk_active p plans t (walk_behind p plans z (makes l (past k ns))) ss
+walk_active p plans t z (makes l (post k n) ∷ ss) = walk_active p plans t (walk_behind p plans z (makes l (post k n))) ss
+walk_active p plans t z (makes l (leave k c) ∷ ss) = walk_active p plans t (walk_behind p plans z (makes l (leave k c))) ss
+walk_active p plans t z (makes l back ∷ ss) = walk_active p plans t (walk_behind p plans z (makes l back)) ss
+walk_active p plans t z (makes l (tick x) ∷ ss) = walk_active p plans t (walk_behind p plans z (makes l (tick x))) ss
+walk_active p plans t z (makes l (blocked what) ∷ ss) = walk_active p plans t (walk_behind p plans z (makes l (blocked what))) ss
 
 -- The same, read off the journal
 

@@ -15,7 +15,7 @@ use Rattle.loom_event.specs.Replay.{ThreadState, start, thread_at, replay, IsAll
 use Rattle.loom_law.specs.Walk.{tick, blocked}
 use Rattle.loom_law.specs.ThreadPart.{AsksToMake, AsksToAct}
 use Rattle.loom_law.specs.Control.{Command, command_at, Control, control, first_control, control_after, after_entry, listed_places_after, listed_places, listed_places_from}
-use Rattle.loom_law.specs.Lawful.{Setting, Front, front_of, plans, own, over, owes_cross, is_held_by, is_installed, IsDisabledFor, IsHeldOff, IsDue, IsStalled, IsOpen, Ends, front_at, MayFollow, IsLawful}
+use Rattle.loom_law.specs.Lawful.{Setting, Front, front_of, plans, own, run_is_over, owes_cross, is_held_by, is_installed, IsDisabledFor, IsHeldOff, IsDue, IsStalled, IsOpen, Ends, front_at, MayFollow, IsLawful}
 use Rattle.loom_law.specs.Laws.{Balances, IsUnfinished}
 use Rattle.loom_law.proofs.Lawful.{always_balanced, control_turns}
 use Rattle.loom_law.proofs.Answers.{answer_turns}
@@ -140,7 +140,7 @@ pub nobody_held_off : (s : Setting) (es : List Entry) → IsLawful s es → s.co
 nobody_held_off s es h none xs t g = none_held (front_of s es xs) g.filter g.clause g.held.by (nothing_controlled s es h none) g.held.holds
 
 -- A journal that isn't over is open.
-pub is_open : (s : Setting) (es : List Entry) → IsLawful s es → s.commands ≡ [] → (xs : List Event) → over s (front_of s es xs) ≡ false → IsOpen s (front_of s es xs)
+pub is_open : (s : Setting) (es : List Entry) → IsLawful s es → s.commands ≡ [] → (xs : List Event) → run_is_over s (front_of s es xs) ≡ false → IsOpen s (front_of s es xs)
 is_open s es h none xs runs = record {
   runs = runs;
   not_closing = ap (λ (c : Control). c.closing) (nothing_controlled s es h none);
@@ -159,7 +159,7 @@ owes_no_cross s es h none x t = ap (owes_cross x) (nothing_listed s es h none t)
 -- Turns
 
 -- An answer that the store allows to what a thread asks for.
-pub answer_without : (s : Setting) (es : List Entry) (h : IsLawful s es) → s.commands ≡ [] → IsUnfinished es → over s (front_of s es h.events) ≡ false
+pub answer_without : (s : Setting) (es : List Entry) (h : IsLawful s es) → s.commands ≡ [] → IsUnfinished es → run_is_over s (front_of s es h.events) ≡ false
     → (t : ℕ) (z : ThreadState) → thread_at (replay (start s.program s.threads) h.events) t ≡ Some z
     → (q : Request) (d : Deed) → AsksToAct s.program (plans s) (own s es t z) q → IsAnswered q d → IsAllowed (replay (start s.program s.threads) h.events) (event_of_deed t d)
     → (h' : IsLawful s (es ++ entry_by t d.line d.act ∷ [])) × (h'.events ≡ h.events ++ event_of_deed t d ∷ [])
@@ -180,7 +180,7 @@ answer_without s es h none open_ runs t z there q d asks answer allowed =
     })
 
 -- A tick that a thread asks for.
-pub tick_without : (s : Setting) (es : List Entry) (h : IsLawful s es) → s.commands ≡ [] → IsUnfinished es → over s (front_of s es h.events) ≡ false
+pub tick_without : (s : Setting) (es : List Entry) (h : IsLawful s es) → s.commands ≡ [] → IsUnfinished es → run_is_over s (front_of s es h.events) ≡ false
     → (t : ℕ) (z : ThreadState) → thread_at (replay (start s.program s.threads) h.events) t ≡ Some z
     → (l n : ℕ) → AsksToMake s.program (plans s) (own s es t z) l (tick n) → (h' : IsLawful s (es ++ e.Tick t l n ∷ [])) × (h'.events ≡ h.events)
 tick_without s es h none open_ runs t z there l n asks =
@@ -198,7 +198,7 @@ tick_without s es h none open_ runs t z there l n asks =
     })
 
 -- A thread that is blocked.
-pub blocked_without : (s : Setting) (es : List Entry) (h : IsLawful s es) → s.commands ≡ [] → IsUnfinished es → over s (front_of s es h.events) ≡ false
+pub blocked_without : (s : Setting) (es : List Entry) (h : IsLawful s es) → s.commands ≡ [] → IsUnfinished es → run_is_over s (front_of s es h.events) ≡ false
     → (t : ℕ) (z : ThreadState) → thread_at (replay (start s.program s.threads) h.events) t ≡ Some z
     → (l : ℕ) (what : What) → AsksToMake s.program (plans s) (own s es t z) l (blocked what) → IsDisabledFor s (front_of s es h.events) t what
     → (h' : IsLawful s (es ++ e.Blocked t l what ∷ [])) × (h'.events ≡ h.events)
@@ -227,12 +227,12 @@ finish_without s es h none open_ kind ends =
     control_turns s es h open_ (e.Finish kind) refl (refl, (nothing_asked s es h none, (all, ends)))
 
 -- `Done`, where each thread has ended.
-pub done_without : (s : Setting) (es : List Entry) (h : IsLawful s es) → s.commands ≡ [] → IsUnfinished es → over s (front_of s es h.events) ≡ false
+pub done_without : (s : Setting) (es : List Entry) (h : IsLawful s es) → s.commands ≡ [] → IsUnfinished es → run_is_over s (front_of s es h.events) ≡ false
     → AllEnded (replay (start s.program s.threads) h.events) → (h' : IsLawful s (es ++ e.Finish k.Done ∷ [])) × (h'.events ≡ h.events)
 done_without s es h none open_ runs ended = finish_without s es h none open_ k.Done (runs, (ended, no_due s (front_of s es h.events) none))
 
 -- `Stuck`, where the threads that live are blocked.
-pub stuck_without : (s : Setting) (es : List Entry) (h : IsLawful s es) → s.commands ≡ [] → IsUnfinished es → over s (front_of s es h.events) ≡ false
+pub stuck_without : (s : Setting) (es : List Entry) (h : IsLawful s es) → s.commands ≡ [] → IsUnfinished es → run_is_over s (front_of s es h.events) ≡ false
     → IsStalled s (front_of s es h.events) → (h' : IsLawful s (es ++ e.Finish k.Stuck ∷ [])) × (h'.events ≡ h.events)
 stuck_without s es h none open_ runs stalled = finish_without s es h none open_ k.Stuck (runs, (stalled, no_due s (front_of s es h.events) none))
 

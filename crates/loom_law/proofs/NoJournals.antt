@@ -10,13 +10,13 @@ use Rattle.loom_lang.specs.Trace.{begin, spawn, print}
 use Rattle.loom_command.specs.Script as script
 use Rattle.loom_event.specs.Event.{Event}
 use Rattle.loom_event.proofs.Runs.{event_of, events_told}
-use Rattle.loom_event.proofs.Shown.{event, adds, changed_is_no_run}
+use Rattle.loom_event.proofs.Examples.{event, adds, changed_is_no_run}
 use Rattle.loom_law.specs.Filter.{plan_of}
 use Rattle.loom_law.specs.Walk.{place_number}
 use Rattle.loom_law.specs.Control.{Command, means, install, remove}
 use Rattle.loom_law.specs.Lawful.{Setting, Front, IsBlocked, IsHeldOff, IsTriggered, StandsAt, Ends, EndsSo, front_at, IsLawful}
 use Rattle.loom_law.proofs.Lawful.{always_balanced}
-use Rattle.loom_law.proofs.Shown.{setting, fix}
+use Rattle.loom_law.proofs.Examples.{setting, fix}
 use Rattle.loom_law.proofs.InsideJournals.{alone_setting, back_setting, caught_setting}
 use Rattle.loom_law.proofs.PlainJournals.{lost_setting, stop_setting, limit_setting}
 use Rattle.loom_law.proofs.EarlyJournals.{order_setting, nested_setting, unreached_setting, cut_setting, on_stall_setting, before_stall, on_stall_events, stall_due}

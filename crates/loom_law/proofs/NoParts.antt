@@ -16,9 +16,9 @@ use Rattle.loom_command.specs.Script as script
 use Rattle.loom_event.specs.Event.{Event}
 use Rattle.loom_event.specs.Replay.{start, thread_at, replay}
 use Rattle.loom_event.proofs.Runs.{next, given, event_of, events_told}
-use Rattle.loom_event.proofs.Shown.{event, adds}
+use Rattle.loom_event.proofs.Examples.{event, adds}
 use Rattle.loom_law.specs.Filter.{Plan, plan_of}
-use Rattle.loom_law.specs.Walk.{Plans, past, leave, blocked, PartStep, goes, makes, items, told, Queue, Walk, unborn, is_same_place, position_of, place_number, request_place, place_of_next, walk_from, MayBlock, AreWoven}
+use Rattle.loom_law.specs.Walk.{Plans, past, leave, blocked, PartStep, goes, makes, items, filter_entries, Queue, Walk, unborn, is_same_place, position_of, place_number, request_place, place_of_next, walk_from, MayBlock, AreWoven}
 use Rattle.loom_law.specs.ThreadPart.{Own, walk_of, IsPart, Point, IsPlaceOf, ComesTo, HasMoved, KeepsAway, AsksToMake}
 use Rattle.loom_law.specs.Paths.{IsUnsafe}
 use Rattle.loom_law.specs.FilterView.{IsClear, view_behind}
@@ -32,7 +32,7 @@ use Rattle.loom_law.proofs.Turns.{stands_there}
 use Rattle.loom_law.proofs.Makings.{OpPart, cut_part, walk_blocked}
 use Rattle.loom_law.proofs.OneRequest.{one_operation}
 use Rattle.loom_law.proofs.Journals.{not_off}
-use Rattle.loom_law.proofs.Shown.{setting, fix, version, events, main_part}
+use Rattle.loom_law.proofs.Examples.{setting, fix, version, events, main_part}
 use Rattle.loom_law.proofs.Inside.{owed_none}
 use Rattle.loom_law.proofs.RemovalJournal.{removal_program, removal_front, removal_setting}
 
@@ -82,9 +82,9 @@ blocked_once p ps x es l what is twice h =
     let woven : AreWoven p ps (unborn x.versions) (c.before ++ last) part.ahead = subst (λ ss. AreWoven p ps (unborn x.versions) ss part.ahead) c.last part.woven in
     let stands : MayBlock (walk_from p ps (unborn x.versions) c.before) part.ahead l what =
     stands_there p ps (unborn x.versions) c.before (makes l (blocked what)) [] part.ahead woven in
-    let tells : told t c.before ++ e.Blocked t l what ∷ [] ≡ es ++ e.Blocked t l what ∷ [] =
-    sym (told_append t c.before last) ∙ (ap (told t) (sym c.last) ∙ (part.tells ∙ is)) in
-    let same : told t c.before ≡ es = same_front (told t c.before) es (e.Blocked t l what) (e.Blocked t l what) tells in
+    let tells : filter_entries t c.before ++ e.Blocked t l what ∷ [] ≡ es ++ e.Blocked t l what ∷ [] =
+    sym (told_append t c.before last) ∙ (ap (filter_entries t) (sym c.last) ∙ (part.tells ∙ is)) in
+    let same : filter_entries t c.before ≡ es = same_front (filter_entries t c.before) es (e.Blocked t l what) (e.Blocked t l what) tells in
     let no : true ≡ false =
     sym twice
     ∙ (ap (blocked_behind false) (sym same)
@@ -179,9 +179,9 @@ blocked_stays s x n front y is blocked_ flagged h =
     let p : Source = s.program in
     let m : HasMoved p (plans s) x h.steps = h.moved in
     let last : List PartStep = m.last ∷ [] in
-    let tells : told t h.steps ++ m.entry ∷ [] ≡ front ++ y ∷ [] =
-    ap (λ us. told t h.steps ++ us) (sym m.is) ∙ (sym (told_append t h.steps last) ∙ (m.tells ∙ is)) in
-    let same : told t h.steps ≡ front = same_front (told t h.steps) front m.entry y tells in
+    let tells : filter_entries t h.steps ++ m.entry ∷ [] ≡ front ++ y ∷ [] =
+    ap (λ us. filter_entries t h.steps ++ us) (sym m.is) ∙ (sym (told_append t h.steps last) ∙ (m.tells ∙ is)) in
+    let same : filter_entries t h.steps ≡ front = same_front (filter_entries t h.steps) front m.entry y tells in
     let woven : AreWoven p (plans s) (unborn x.versions) h.steps (items last ++ m.ahead) = woven_front p (plans s) (unborn x.versions) h.steps last m.ahead m.woven in
     let stood : Walk.is_blocked (walk_of p (plans s) x h.steps) ≡ true =
     walk_blocked p (plans s) t (unborn x.versions) h.steps (items last ++ m.ahead) woven ∙ (ap (blocked_behind false) same ∙ blocked_) in
@@ -260,10 +260,10 @@ going_unlawful h =
 -- Where a thread stands
 
 -- nothing is told behind the last step that tells an entry
-ends_so : (t : ℕ) (ss front behind : List PartStep) (s : PartStep) (y : Entry) → ss ++ s ∷ [] ≡ front ++ behind → told t (s ∷ []) ≡ y ∷ [] → told t behind ≡ [] → front ≡ ss ++ s ∷ []
+ends_so : (t : ℕ) (ss front behind : List PartStep) (s : PartStep) (y : Entry) → ss ++ s ∷ [] ≡ front ++ behind → filter_entries t (s ∷ []) ≡ y ∷ [] → filter_entries t behind ≡ [] → front ≡ ss ++ s ∷ []
 ends_so t ss front [] s y is ends none = sym (is ∙ append_none front)
 ends_so t ss [] (u ∷ behind) s y is ends none =
-    absurd (never_empty (told t ss) y (sym none ∙ (ap (told t) (sym is) ∙ (told_append t ss (s ∷ []) ∙ ap (λ us. told t ss ++ us) ends))))
+    absurd (never_empty (filter_entries t ss) y (sym none ∙ (ap (filter_entries t) (sym is) ∙ (told_append t ss (s ∷ []) ∙ ap (λ us. filter_entries t ss ++ us) ends))))
 ends_so t [] (u ∷ []) (v ∷ behind) s y is ends none = cc
 ends_so t [] (u ∷ r ∷ front) (v ∷ behind) s y is ends none = cc
 ends_so t (v ∷ ss) (u ∷ front) (r ∷ behind) s y is ends none =
@@ -280,7 +280,7 @@ owing_place z [] rest y owes h = absurd (owes refl)
 owing_place z (o ∷ os) rest y owes h = cc
 
 -- Where the last step tells an entry, and something is owed behind it, the thread stands at the place of its request alone.
-stands_owing : (p : Source) (ps : Plans) (x : Own) (a h : Point p ps x) (ss : List PartStep) (s : PartStep) (y : Entry) → a.steps ≡ ss ++ s ∷ [] → told x.thread (s ∷ []) ≡ y ∷ []
+stands_owing : (p : Source) (ps : Plans) (x : Own) (a h : Point p ps x) (ss : List PartStep) (s : PartStep) (y : Entry) → a.steps ≡ ss ++ s ∷ [] → filter_entries x.thread (s ∷ []) ≡ y ∷ []
     → ((walk_of p ps x a.steps).owed ≡ [] → ⊥) → (z : Place) → IsPlaceOf p ps x h z → request_place (walk_of p ps x a.steps) ≡ z
 stands_owing p ps x a h ss s y last ends owes z at = by_rest same.behind' same.second same.marks'
   where
@@ -290,7 +290,7 @@ stands_owing p ps x a h ss s y last ends owes z at = by_rest same.behind' same.s
     whole : same.made ≡ a.steps
     whole = ends_so x.thread ss same.made same.behind s y (sym last ∙ same.first) ends same.marks ∙ sym last
 
-    by_rest : (behind : List PartStep) → h.steps ≡ same.made ++ behind → told x.thread behind ≡ [] → request_place (walk_of p ps x a.steps) ≡ z
+    by_rest : (behind : List PartStep) → h.steps ≡ same.made ++ behind → filter_entries x.thread behind ≡ [] → request_place (walk_of p ps x a.steps) ≡ z
     by_rest [] is none =
         let steps : h.steps ≡ a.steps = is ∙ (append_none same.made ∙ whole) in
         let there : place_of_next (walk_of p ps x a.steps) (walk_of p ps x a.steps).owed (h.next ∷ []) ≡ Some z =

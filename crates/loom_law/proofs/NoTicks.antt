@@ -12,9 +12,9 @@ use Rattle.loom_lang.specs.Trace.{Locals, Lists, Open, turns, IsTrace, begin, en
 use Rattle.loom_event.specs.Event.{Event}
 use Rattle.loom_event.specs.Replay.{start, thread_at, replay}
 use Rattle.loom_event.proofs.Runs.{next, given, event_of, events_told}
-use Rattle.loom_event.proofs.Shown.{event}
+use Rattle.loom_event.proofs.Examples.{event}
 use Rattle.loom_law.specs.Filter.{function}
-use Rattle.loom_law.specs.Walk.{Version, Plans, wait, enters, past, post, leave, back, tick, cross, blocked, Operation, PartStep, goes, makes, items, told, OpenStatement, OpenFrame, Spot, elsewhere, beginning, entered, complete, left, trapped, Queue, Walk, unborn, owed_at, function_line, place_number, tick_after, with_tick, taking, crossing, after, walk_from, place_of_request, request_place, innermost, place_in_top, place_of_next, first_number, MayCross, MayStand, AreWoven}
+use Rattle.loom_law.specs.Walk.{Version, Plans, wait, enters, past, post, leave, back, tick, cross, blocked, Operation, PartStep, goes, makes, items, filter_entries, OpenStatement, OpenFrame, Spot, elsewhere, beginning, entered, complete, left, trapped, Queue, Walk, unborn, owed_at, function_line, place_number, tick_after, with_tick, taking, crossing, walk_behind, walk_from, place_of_request, request_place, innermost, place_in_top, place_of_next, first_number, MayCross, MayStand, AreWoven}
 use Rattle.loom_law.specs.Walk as walk
 use Rattle.loom_law.specs.ThreadPart.{Own, IsPart, AsksToMake, AsksToAct}
 use Rattle.loom_law.specs.Lawful.{Setting, plans, HasPart, IsLawful}
@@ -74,19 +74,19 @@ crossing_passed : (p : Source) (ps : Plans) (z : Walk) (vs : List Version) (v : 
 crossing_passed p ps z [] v h = cc
 crossing_passed p ps z (w ∷ vs) v h = refl
 
-item_in_time : (p : Source) (ps : Plans) (z : Walk) (i : Item) (rest : List Item) → InTime z → MayStand p z (goes i) rest → InTime (after p ps z (goes i))
-item_in_time p ps z (made l begin) rest c h = none_passed (after p ps z (goes (made l begin))) (ap length (taking_passed (walk.behind_entry z) z.coming))
-item_in_time p ps z (made l end) rest c h = none_passed (after p ps z (goes (made l end))) refl
-item_in_time p ps z (made l (trap cause)) rest c h = none_passed (after p ps z (goes (made l (trap cause)))) refl
-item_in_time p ps z (made l (read x v)) rest c h = none_passed (after p ps z (goes (made l (read x v)))) refl
-item_in_time p ps z (made l (write x v)) rest c h = none_passed (after p ps z (goes (made l (write x v)))) refl
-item_in_time p ps z (made l (lock m)) rest c h = none_passed (after p ps z (goes (made l (lock m)))) refl
-item_in_time p ps z (made l (unlock m)) rest c h = none_passed (after p ps z (goes (made l (unlock m)))) refl
-item_in_time p ps z (made l (down m)) rest c h = none_passed (after p ps z (goes (made l (down m)))) refl
-item_in_time p ps z (made l (up m)) rest c h = none_passed (after p ps z (goes (made l (up m)))) refl
-item_in_time p ps z (made l (spawn t f vs)) rest c h = none_passed (after p ps z (goes (made l (spawn t f vs)))) refl
-item_in_time p ps z (made l (join t)) rest c h = none_passed (after p ps z (goes (made l (join t)))) refl
-item_in_time p ps z (made l (print v)) rest c h = none_passed (after p ps z (goes (made l (print v)))) refl
+item_in_time : (p : Source) (ps : Plans) (z : Walk) (i : Item) (rest : List Item) → InTime z → MayStand p z (goes i) rest → InTime (walk_behind p ps z (goes i))
+item_in_time p ps z (made l begin) rest c h = none_passed (walk_behind p ps z (goes (made l begin))) (ap length (taking_passed (walk.behind_entry z) z.coming))
+item_in_time p ps z (made l end) rest c h = none_passed (walk_behind p ps z (goes (made l end))) refl
+item_in_time p ps z (made l (trap cause)) rest c h = none_passed (walk_behind p ps z (goes (made l (trap cause)))) refl
+item_in_time p ps z (made l (read x v)) rest c h = none_passed (walk_behind p ps z (goes (made l (read x v)))) refl
+item_in_time p ps z (made l (write x v)) rest c h = none_passed (walk_behind p ps z (goes (made l (write x v)))) refl
+item_in_time p ps z (made l (lock m)) rest c h = none_passed (walk_behind p ps z (goes (made l (lock m)))) refl
+item_in_time p ps z (made l (unlock m)) rest c h = none_passed (walk_behind p ps z (goes (made l (unlock m)))) refl
+item_in_time p ps z (made l (down m)) rest c h = none_passed (walk_behind p ps z (goes (made l (down m)))) refl
+item_in_time p ps z (made l (up m)) rest c h = none_passed (walk_behind p ps z (goes (made l (up m)))) refl
+item_in_time p ps z (made l (spawn t f vs)) rest c h = none_passed (walk_behind p ps z (goes (made l (spawn t f vs)))) refl
+item_in_time p ps z (made l (join t)) rest c h = none_passed (walk_behind p ps z (goes (made l (join t)))) refl
+item_in_time p ps z (made l (print v)) rest c h = none_passed (walk_behind p ps z (goes (made l (print v)))) refl
 item_in_time p ps z (begins l env) rest c h = inl (few (length z.passed) z.owed h c)
 item_in_time p ps z (done l) rest c h = inl (few (length z.passed) z.owed h c)
 item_in_time p ps z (edge l) rest c h = counted p (place.back_edge l) (length z.passed) [] (few (length z.passed) z.owed h c)
@@ -95,25 +95,25 @@ item_in_time p ps z (enter f env) rest c h =
     (few (length z.passed) z.owed h c)
 item_in_time p ps z (out f) rest c h = inl (few (length z.passed) z.owed h c)
 
-operation_in_time : (p : Source) (ps : Plans) (z : Walk) (l : ℕ) (o : Operation) (rest : List Item) → MayStand p z (makes l o) rest → InTime (after p ps z (makes l o))
-operation_in_time p ps z l (wait k n) rest h = none_passed (after p ps z (makes l (wait k n))) refl
-operation_in_time p ps z l (enters k c) rest h = none_passed (after p ps z (makes l (enters k c))) refl
-operation_in_time p ps z l (walk.at k ns) rest h = none_passed (after p ps z (makes l (walk.at k ns))) refl
-operation_in_time p ps z l (past k ns) rest h = none_passed (after p ps z (makes l (past k ns))) refl
-operation_in_time p ps z l (post k n) rest h = none_passed (after p ps z (makes l (post k n))) refl
-operation_in_time p ps z l (leave k c) rest h = none_passed (after p ps z (makes l (leave k c))) refl
-operation_in_time p ps z l back rest h = none_passed (after p ps z (makes l back)) refl
-operation_in_time p ps z l (tick x) rest h = none_passed (after p ps z (makes l (tick x))) refl
+operation_in_time : (p : Source) (ps : Plans) (z : Walk) (l : ℕ) (o : Operation) (rest : List Item) → MayStand p z (makes l o) rest → InTime (walk_behind p ps z (makes l o))
+operation_in_time p ps z l (wait k n) rest h = none_passed (walk_behind p ps z (makes l (wait k n))) refl
+operation_in_time p ps z l (enters k c) rest h = none_passed (walk_behind p ps z (makes l (enters k c))) refl
+operation_in_time p ps z l (walk.at k ns) rest h = none_passed (walk_behind p ps z (makes l (walk.at k ns))) refl
+operation_in_time p ps z l (past k ns) rest h = none_passed (walk_behind p ps z (makes l (past k ns))) refl
+operation_in_time p ps z l (post k n) rest h = none_passed (walk_behind p ps z (makes l (post k n))) refl
+operation_in_time p ps z l (leave k c) rest h = none_passed (walk_behind p ps z (makes l (leave k c))) refl
+operation_in_time p ps z l back rest h = none_passed (walk_behind p ps z (makes l back)) refl
+operation_in_time p ps z l (tick x) rest h = none_passed (walk_behind p ps z (makes l (tick x))) refl
 operation_in_time p ps z l (cross x v n) rest h =
-    none_passed (after p ps z (makes l (cross x v n))) (ap length (crossing_passed p ps z z.coming v h.version))
-operation_in_time p ps z l (blocked what) rest h = none_passed (after p ps z (makes l (blocked what))) refl
+    none_passed (walk_behind p ps z (makes l (cross x v n))) (ap length (crossing_passed p ps z z.coming v h.version))
+operation_in_time p ps z l (blocked what) rest h = none_passed (walk_behind p ps z (makes l (blocked what))) refl
 
 steps_in_time : (p : Source) (ps : Plans) (z : Walk) (ss : List PartStep) (ahead : List Item) → InTime z → AreWoven p ps z ss ahead → InTime (walk_from p ps z ss)
 steps_in_time p ps z [] ahead c h = c
 steps_in_time p ps z (goes i ∷ ss) ahead c h =
-    steps_in_time p ps (after p ps z (goes i)) ss ahead (item_in_time p ps z i (items ss ++ ahead) c h.0) h.1
+    steps_in_time p ps (walk_behind p ps z (goes i)) ss ahead (item_in_time p ps z i (items ss ++ ahead) c h.0) h.1
 steps_in_time p ps z (makes l o ∷ ss) ahead c h =
-    steps_in_time p ps (after p ps z (makes l o)) ss ahead (operation_in_time p ps z l o (items ss ++ ahead) h.0) h.1
+    steps_in_time p ps (walk_behind p ps z (makes l o)) ss ahead (operation_in_time p ps z l o (items ss ++ ahead) h.0) h.1
 
 -- A thread that owes something doesn't stand at a back edge.
 
@@ -214,7 +214,7 @@ turns_of zero more = more
 turns_of (suc n) more =
     goes (begins 3 []) ∷ goes (enter 1 []) ∷ goes (out 1) ∷ goes (done 3) ∷ goes (begins 4 []) ∷ goes (enter 1 []) ∷ goes (out 1) ∷ goes (done 4) ∷ goes (edge 2) ∷ turns_of n more
 
-turns_told : (n : ℕ) (more : List PartStep) → told 1 (turns_of n more) ≡ told 1 more
+turns_told : (n : ℕ) (more : List PartStep) → filter_entries 1 (turns_of n more) ≡ filter_entries 1 more
 unfolding turns_of
 turns_told zero more = refl
 turns_told (suc n) more = turns_told n more
@@ -309,7 +309,7 @@ calling_own = an_own 1 0 [] (first_version ∷ []) (e.Begin 1 1 ∷ [])
 abbrev tick_steps : List PartStep
 tick_steps = goes (made 1 begin) ∷ goes (enter 0 []) ∷ goes (begins 2 []) ∷ turns_of 332 with_first_tick
 
-tick_told : told 1 tick_steps ≡ e.Begin 1 1 ∷ e.Tick 1 2 3 ∷ []
+tick_told : filter_entries 1 tick_steps ≡ e.Begin 1 1 ∷ e.Tick 1 2 3 ∷ []
 tick_told = ap (◌∷◌ (e.Begin 1 1)) (turns_told 332 with_first_tick ∙ turns_told 1 (makes 2 (tick 3) ∷ []))
 
 -- The thousandth place is a back edge, and there the thread asks to tell the tick.

@@ -7,7 +7,7 @@ use Rattle.loom_lang.specs.Trace.{begin, end, trap, read, write, lock, unlock, d
 use Rattle.loom_event.specs.Entries.{thread_of}
 use Rattle.loom_event.specs.Replay.{ThreadState, thread_at}
 use Rattle.loom_law.specs.Filter.{is_alone}
-use Rattle.loom_law.specs.Walk.{Version, Plans, wait, enters, at, past, post, leave, back, tick, cross, blocked, PartStep, goes, makes, told, Walk, unborn, holds, without_clause, without_first, taking, behind_entry, crossing, after, walk_from}
+use Rattle.loom_law.specs.Walk.{Version, Plans, wait, enters, at, past, post, leave, back, tick, cross, blocked, PartStep, goes, makes, filter_entries, Walk, unborn, holds, without_clause, without_first, taking, behind_entry, crossing, walk_behind, walk_from}
 use Rattle.loom_law.specs.ThreadPart.{walk_of, IsPart, IsInside}
 use Rattle.loom_law.specs.Control.{Command, Control, first_control, after_entry, control_after, control, versions_from, versions_of, entries_of}
 use Rattle.loom_law.specs.Lawful.{Setting, Front, plans, own, MayMove, IsHeldOff, is_held_by, is_installed, IsInsideIf, front_at, IsObeyed}
@@ -49,39 +49,39 @@ crossing_coming p plans z (v ∷ vs) is = refl
 both_with : (vs vs' : List Version) (hs hs' : List (ℕ × ℕ)) (es : List Entry) → vs ≡ vs' → hs ≡ hs' → held_with vs hs es ≡ held_with vs' hs' es
 both_with vs vs' hs hs' es v h = ap (λ x. held_with x hs es) v ∙ ap (λ x. held_with vs' x es) h
 
-walk_held : (p : Source) (plans : Plans) (t : ℕ) (z : Walk) (ss : List PartStep) → Walk.held (walk_from p plans z ss) ≡ held_with z.coming z.held (told t ss)
+walk_held : (p : Source) (plans : Plans) (t : ℕ) (z : Walk) (ss : List PartStep) → Walk.held (walk_from p plans z ss) ≡ held_with z.coming z.held (filter_entries t ss)
 walk_held p plans t z [] = refl
 walk_held p plans t z (goes (made l begin) ∷ ss) =
     walk_held p plans t (taking (behind_entry z) z.coming) ss
-    ∙ both_with _ _ _ _ (told t ss) (taking_coming (behind_entry z) z.coming refl) (taking_held (behind_entry z) z.coming)
-walk_held p plans t z (goes (made l end) ∷ ss) = walk_held p plans t (after p plans z (goes (made l end))) ss
-walk_held p plans t z (goes (made l (trap c)) ∷ ss) = walk_held p plans t (after p plans z (goes (made l (trap c)))) ss
-walk_held p plans t z (goes (made l (read x v)) ∷ ss) = walk_held p plans t (after p plans z (goes (made l (read x v)))) ss
-walk_held p plans t z (goes (made l (write x v)) ∷ ss) = walk_held p plans t (after p plans z (goes (made l (write x v)))) ss
-walk_held p plans t z (goes (made l (lock m)) ∷ ss) = walk_held p plans t (after p plans z (goes (made l (lock m)))) ss
-walk_held p plans t z (goes (made l (unlock m)) ∷ ss) = walk_held p plans t (after p plans z (goes (made l (unlock m)))) ss
-walk_held p plans t z (goes (made l (down m)) ∷ ss) = walk_held p plans t (after p plans z (goes (made l (down m)))) ss
-walk_held p plans t z (goes (made l (up m)) ∷ ss) = walk_held p plans t (after p plans z (goes (made l (up m)))) ss
-walk_held p plans t z (goes (made l (spawn c f vs)) ∷ ss) = walk_held p plans t (after p plans z (goes (made l (spawn c f vs)))) ss
-walk_held p plans t z (goes (made l (join c)) ∷ ss) = walk_held p plans t (after p plans z (goes (made l (join c)))) ss
-walk_held p plans t z (goes (made l (print v)) ∷ ss) = walk_held p plans t (after p plans z (goes (made l (print v)))) ss
-walk_held p plans t z (goes (begins l env) ∷ ss) = walk_held p plans t (after p plans z (goes (begins l env))) ss
-walk_held p plans t z (goes (done l) ∷ ss) = walk_held p plans t (after p plans z (goes (done l))) ss
-walk_held p plans t z (goes (edge l) ∷ ss) = walk_held p plans t (after p plans z (goes (edge l))) ss
-walk_held p plans t z (goes (enter f env) ∷ ss) = walk_held p plans t (after p plans z (goes (enter f env))) ss
-walk_held p plans t z (goes (out f) ∷ ss) = walk_held p plans t (after p plans z (goes (out f))) ss
-walk_held p plans t z (makes l (wait k n) ∷ ss) = walk_held p plans t (after p plans z (makes l (wait k n))) ss
-walk_held p plans t z (makes l (enters k c) ∷ ss) = walk_held p plans t (after p plans z (makes l (enters k c))) ss
-walk_held p plans t z (makes l (at k ns) ∷ ss) = walk_held p plans t (after p plans z (makes l (at k ns))) ss
-walk_held p plans t z (makes l (past k ns) ∷ ss) = walk_held p plans t (after p plans z (makes l (past k ns))) ss
-walk_held p plans t z (makes l (post k n) ∷ ss) = walk_held p plans t (after p plans z (makes l (post k n))) ss
-walk_held p plans t z (makes l (leave k c) ∷ ss) = walk_held p plans t (after p plans z (makes l (leave k c))) ss
-walk_held p plans t z (makes l back ∷ ss) = walk_held p plans t (after p plans z (makes l back)) ss
-walk_held p plans t z (makes l (tick x) ∷ ss) = walk_held p plans t (after p plans z (makes l (tick x))) ss
+    ∙ both_with _ _ _ _ (filter_entries t ss) (taking_coming (behind_entry z) z.coming refl) (taking_held (behind_entry z) z.coming)
+walk_held p plans t z (goes (made l end) ∷ ss) = walk_held p plans t (walk_behind p plans z (goes (made l end))) ss
+walk_held p plans t z (goes (made l (trap c)) ∷ ss) = walk_held p plans t (walk_behind p plans z (goes (made l (trap c)))) ss
+walk_held p plans t z (goes (made l (read x v)) ∷ ss) = walk_held p plans t (walk_behind p plans z (goes (made l (read x v)))) ss
+walk_held p plans t z (goes (made l (write x v)) ∷ ss) = walk_held p plans t (walk_behind p plans z (goes (made l (write x v)))) ss
+walk_held p plans t z (goes (made l (lock m)) ∷ ss) = walk_held p plans t (walk_behind p plans z (goes (made l (lock m)))) ss
+walk_held p plans t z (goes (made l (unlock m)) ∷ ss) = walk_held p plans t (walk_behind p plans z (goes (made l (unlock m)))) ss
+walk_held p plans t z (goes (made l (down m)) ∷ ss) = walk_held p plans t (walk_behind p plans z (goes (made l (down m)))) ss
+walk_held p plans t z (goes (made l (up m)) ∷ ss) = walk_held p plans t (walk_behind p plans z (goes (made l (up m)))) ss
+walk_held p plans t z (goes (made l (spawn c f vs)) ∷ ss) = walk_held p plans t (walk_behind p plans z (goes (made l (spawn c f vs)))) ss
+walk_held p plans t z (goes (made l (join c)) ∷ ss) = walk_held p plans t (walk_behind p plans z (goes (made l (join c)))) ss
+walk_held p plans t z (goes (made l (print v)) ∷ ss) = walk_held p plans t (walk_behind p plans z (goes (made l (print v)))) ss
+walk_held p plans t z (goes (begins l env) ∷ ss) = walk_held p plans t (walk_behind p plans z (goes (begins l env))) ss
+walk_held p plans t z (goes (done l) ∷ ss) = walk_held p plans t (walk_behind p plans z (goes (done l))) ss
+walk_held p plans t z (goes (edge l) ∷ ss) = walk_held p plans t (walk_behind p plans z (goes (edge l))) ss
+walk_held p plans t z (goes (enter f env) ∷ ss) = walk_held p plans t (walk_behind p plans z (goes (enter f env))) ss
+walk_held p plans t z (goes (out f) ∷ ss) = walk_held p plans t (walk_behind p plans z (goes (out f))) ss
+walk_held p plans t z (makes l (wait k n) ∷ ss) = walk_held p plans t (walk_behind p plans z (makes l (wait k n))) ss
+walk_held p plans t z (makes l (enters k c) ∷ ss) = walk_held p plans t (walk_behind p plans z (makes l (enters k c))) ss
+walk_held p plans t z (makes l (at k ns) ∷ ss) = walk_held p plans t (walk_behind p plans z (makes l (at k ns))) ss
+walk_held p plans t z (makes l (past k ns) ∷ ss) = walk_held p plans t (walk_behind p plans z (makes l (past k ns))) ss
+walk_held p plans t z (makes l (post k n) ∷ ss) = walk_held p plans t (walk_behind p plans z (makes l (post k n))) ss
+walk_held p plans t z (makes l (leave k c) ∷ ss) = walk_held p plans t (walk_behind p plans z (makes l (leave k c))) ss
+walk_held p plans t z (makes l back ∷ ss) = walk_held p plans t (walk_behind p plans z (makes l back)) ss
+walk_held p plans t z (makes l (tick x) ∷ ss) = walk_held p plans t (walk_behind p plans z (makes l (tick x))) ss
 walk_held p plans t z (makes l (cross x v n) ∷ ss) =
     walk_held p plans t (crossing p plans z z.coming) ss
-    ∙ both_with _ _ _ _ (told t ss) (crossing_coming p plans z z.coming refl) (crossing_held p plans z z.coming)
-walk_held p plans t z (makes l (blocked what) ∷ ss) = walk_held p plans t (after p plans z (makes l (blocked what))) ss
+    ∙ both_with _ _ _ _ (filter_entries t ss) (crossing_coming p plans z z.coming refl) (crossing_held p plans z z.coming)
+walk_held p plans t z (makes l (blocked what) ∷ ss) = walk_held p plans t (walk_behind p plans z (makes l (blocked what))) ss
 
 -- The same, read off the journal
 

@@ -11,7 +11,7 @@ use Rattle.loom_lang.specs.Acts.{AnswerTheSame}
 use Rattle.loom_lang.specs.Alike.{AreAlike}
 use Rattle.loom_lang.proofs.NextItem.{Agree, traces_agree}
 use Rattle.loom_event.specs.Event.{entry_by}
-use Rattle.loom_law.specs.Walk.{Plans, Operation, wait, enters, at, past, post, leave, back, tick, cross, blocked, PartStep, goes, makes, items, told_item, told, entry_of_operation, Queue, Walk, unborn, after, place_of_item, place_of_next, Owes, Acts, AsksFor, MayCross, MayBlock, MayStand, AreWoven}
+use Rattle.loom_law.specs.Walk.{Plans, Operation, wait, enters, at, past, post, leave, back, tick, cross, blocked, PartStep, goes, makes, items, told_item, filter_entries, entry_of_operation, Queue, Walk, unborn, walk_behind, place_of_item, place_of_next, Owes, Acts, AsksFor, MayCross, MayBlock, MayStand, AreWoven}
 use Rattle.loom_law.specs.ThreadPart.{Own}
 use Rattle.loom_law.specs.Laws.{EndsWithEntry, HasOnePart, HasOneMove, HasOneMade}
 
@@ -228,20 +228,20 @@ no_place z (out f ∷ is) y k h = cc
 
 -- places are passed until the next entry: a `Cross` that is told first counts at least those that were passed already
 later_cross : (p : Source) (plans : Plans) (t : ℕ) (z : Walk) (ss : List PartStep) (ahead : List Item) (l x v n : ℕ) (es : List Entry) → AreWoven p plans z ss ahead
-    → told t ss ≡ entry_of_operation t l (cross x v n) ∷ es → length z.passed ≤ n
+    → filter_entries t ss ≡ entry_of_operation t l (cross x v n) ∷ es → length z.passed ≤ n
 later_cross p plans t z [] ahead l x v n es h g = cc
 later_cross p plans t z (goes (made m a) ∷ ss) ahead l x v n es h g =
     let first : entry_by t m a ≡ entry_of_operation t l (cross x v n) = cc in
     absurd (act_is_no_op t m l a (cross x v n) first)
-later_cross p plans t z (goes (begins m env) ∷ ss) ahead l x v n es h g = later_cross p plans t (after p plans z (goes (begins m env))) ss ahead l x v n es h.1 g
-later_cross p plans t z (goes (done m) ∷ ss) ahead l x v n es h g = later_cross p plans t (after p plans z (goes (done m))) ss ahead l x v n es h.1 g
+later_cross p plans t z (goes (begins m env) ∷ ss) ahead l x v n es h g = later_cross p plans t (walk_behind p plans z (goes (begins m env))) ss ahead l x v n es h.1 g
+later_cross p plans t z (goes (done m) ∷ ss) ahead l x v n es h g = later_cross p plans t (walk_behind p plans z (goes (done m))) ss ahead l x v n es h.1 g
 later_cross p plans t z (goes (edge m) ∷ ss) ahead l x v n es h g =
-    let ih : suc (length z.passed) ≤ n = later_cross p plans t (after p plans z (goes (edge m))) ss ahead l x v n es h.1 g in
+    let ih : suc (length z.passed) ≤ n = later_cross p plans t (walk_behind p plans z (goes (edge m))) ss ahead l x v n es h.1 g in
     omega arith
 later_cross p plans t z (goes (enter f env) ∷ ss) ahead l x v n es h g =
-    let ih : suc (length z.passed) ≤ n = later_cross p plans t (after p plans z (goes (enter f env))) ss ahead l x v n es h.1 g in
+    let ih : suc (length z.passed) ≤ n = later_cross p plans t (walk_behind p plans z (goes (enter f env))) ss ahead l x v n es h.1 g in
     omega arith
-later_cross p plans t z (goes (out f) ∷ ss) ahead l x v n es h g = later_cross p plans t (after p plans z (goes (out f))) ss ahead l x v n es h.1 g
+later_cross p plans t z (goes (out f) ∷ ss) ahead l x v n es h g = later_cross p plans t (walk_behind p plans z (goes (out f))) ss ahead l x v n es h.1 g
 later_cross p plans t z (makes m o ∷ ss) ahead l x v n es h g =
     let first : entry_of_operation t m o ≡ entry_of_operation t l (cross x v n) = cc in
     let same : (m ≡ l) × (o ≡ cross x v n) = same_op t m l o (cross x v n) first in
@@ -297,7 +297,7 @@ act_told t l m a o es fs g =
     act_is_no_op t l m a o first
 
 no_split : (p : Source) (plans : Plans) (t : ℕ) (z : Walk) (i : Item) (ss : List PartStep) (ahead : List Item) (l : ℕ) (o : Operation) (rest : List Item) (es : List Entry)
-    → AreWoven p plans z (goes i ∷ ss) ahead → MayStand p z (makes l o) rest → Begins (kind i) rest → told t (goes i ∷ ss) ≡ entry_of_operation t l o ∷ es → ⊥
+    → AreWoven p plans z (goes i ∷ ss) ahead → MayStand p z (makes l o) rest → Begins (kind i) rest → filter_entries t (goes i ∷ ss) ≡ entry_of_operation t l o ∷ es → ⊥
 no_split p plans t z i ss ahead l (wait k n) rest es h m b g = owes_nothing z.owed l (wait k n) (goes_rest p z i (items ss ++ ahead) h.0) m
 no_split p plans t z i ss ahead l (enters k c) rest es h m b g = owes_nothing z.owed l (enters k c) (goes_rest p z i (items ss ++ ahead) h.0) m
 no_split p plans t z i ss ahead l (at k ns) rest es h m b g = owes_nothing z.owed l (at k ns) (goes_rest p z i (items ss ++ ahead) h.0) m
@@ -306,7 +306,7 @@ no_split p plans t z i ss ahead l (post k n) rest es h m b g = owes_nothing z.ow
 no_split p plans t z i ss ahead l (leave k c) rest es h m b g = owes_nothing z.owed l (leave k c) (goes_rest p z i (items ss ++ ahead) h.0) m
 no_split p plans t z i ss ahead l back rest es h m b g = owes_nothing z.owed l back (goes_rest p z i (items ss ++ ahead) h.0) m
 no_split p plans t z i ss ahead l (tick x) rest es h m b g = owes_nothing z.owed l (tick x) (goes_rest p z i (items ss ++ ahead) h.0) m
-no_split p plans t z (made k a) ss ahead l (cross x v n) rest es h m b g = act_told t k l a (cross x v n) (told t ss) es g
+no_split p plans t z (made k a) ss ahead l (cross x v n) rest es h m b g = act_told t k l a (cross x v n) (filter_entries t ss) es g
 no_split p plans t z (begins k env) ss ahead l (cross x v n) rest es h m b g =
     let c : MayCross p z rest l x v n = m in no_place z rest c.place b (cross_next z rest c.place h.0 c.next)
 no_split p plans t z (done k) ss ahead l (cross x v n) rest es h m b g =
@@ -316,14 +316,14 @@ no_split p plans t z (out f) ss ahead l (cross x v n) rest es h m b g =
 no_split p plans t z (edge k) ss ahead l (cross x v n) rest es h m b g =
     let c : MayCross p z rest l x v n = m in
     let few : n ≡ length z.passed = c.passed in
-    let many : suc (length z.passed) ≤ n = later_cross p plans t (after p plans z (goes (edge k))) ss ahead l x v n es h.1 g in
+    let many : suc (length z.passed) ≤ n = later_cross p plans t (walk_behind p plans z (goes (edge k))) ss ahead l x v n es h.1 g in
     omega arith
 no_split p plans t z (enter f env) ss ahead l (cross x v n) rest es h m b g =
     let c : MayCross p z rest l x v n = m in
     let few : n ≡ length z.passed = c.passed in
-    let many : suc (length z.passed) ≤ n = later_cross p plans t (after p plans z (goes (enter f env))) ss ahead l x v n es h.1 g in
+    let many : suc (length z.passed) ≤ n = later_cross p plans t (walk_behind p plans z (goes (enter f env))) ss ahead l x v n es h.1 g in
     omega arith
-no_split p plans t z (made k a) ss ahead l (blocked what) rest es h m b g = act_told t k l a (blocked what) (told t ss) es g
+no_split p plans t z (made k a) ss ahead l (blocked what) rest es h m b g = act_told t k l a (blocked what) (filter_entries t ss) es g
 no_split p plans t z (begins k env) ss ahead l (blocked what) rest es h m b g =
     let c : MayBlock z rest l what = m in let no : a_mark ≡ an_act = asks_act z rest l what a_mark h.0 c.asks b in cc
 no_split p plans t z (done k) ss ahead l (blocked what) rest es h m b g =
@@ -340,7 +340,7 @@ no_split p plans t z (enter f env) ss ahead l (blocked what) rest es h m b g =
 -- what is left of the steps tells an entry, from each step on
 abbrev pub AreMade : ℕ → List PartStep → Type 0
 AreMade t [] = Unit {0}
-AreMade t (s ∷ ss) = (told t (s ∷ ss) ≡ [] → ⊥) × AreMade t ss
+AreMade t (s ∷ ss) = (filter_entries t (s ∷ ss) ≡ [] → ⊥) × AreMade t ss
 
 agrees_right : (i : Item) (is js : List Item) (r s : Outcome) → Agree (i ∷ is) r js s → Begins (kind i) js
 agrees_right i is [] r s h = tt
@@ -351,30 +351,30 @@ agrees_left [] js j r s h = tt
 agrees_left (i ∷ is) js j r s h = same_kind i j h.0
 
 pub one_way : (p : Source) (plans : Plans) (t : ℕ) (z : Walk) (ss us : List PartStep) (ahead above : List Item) (r s : Outcome) → AreWoven p plans z ss ahead
-    → AreWoven p plans z us above → Agree (items ss ++ ahead) r (items us ++ above) s → told t ss ≡ told t us → AreMade t ss → AreMade t us → ss ≡ us
+    → AreWoven p plans z us above → Agree (items ss ++ ahead) r (items us ++ above) s → filter_entries t ss ≡ filter_entries t us → AreMade t ss → AreMade t us → ss ≡ us
 one_way p plans t z [] [] ahead above r s h k a g m n = refl
 one_way p plans t z [] (u ∷ us) ahead above r s h k a g m n = absurd (n.0 (sym g))
 one_way p plans t z (x ∷ ss) [] ahead above r s h k a g m n = absurd (m.0 g)
 one_way p plans t z (goes i ∷ ss) (makes l o ∷ us) ahead above r s h k a g m n =
-    absurd (no_split p plans t z i ss ahead l o (items us ++ above) (told t us) h k.0 (agrees_right i (items ss ++ ahead) (items us ++ above) r s a) g)
+    absurd (no_split p plans t z i ss ahead l o (items us ++ above) (filter_entries t us) h k.0 (agrees_right i (items ss ++ ahead) (items us ++ above) r s a) g)
 one_way p plans t z (makes l o ∷ ss) (goes j ∷ us) ahead above r s h k a g m n =
-    absurd (no_split p plans t z j us above l o (items ss ++ ahead) (told t ss) k h.0 (agrees_left (items ss ++ ahead) (items us ++ above) j r s a) (sym g))
+    absurd (no_split p plans t z j us above l o (items ss ++ ahead) (filter_entries t ss) k h.0 (agrees_left (items ss ++ ahead) (items us ++ above) j r s a) (sym g))
 one_way p plans t z (goes i ∷ ss) (goes j ∷ us) ahead above r s h k a g m n =
-    let same : (i ≡ j) × (told t ss ≡ told t us) = same_told t i j (told t ss) (told t us) a.0 g in
-    let P : Item → Type 0 = λ y. AreWoven p plans (after p plans z (goes y)) us above in
-    let ih : ss ≡ us = one_way p plans t (after p plans z (goes i)) ss us ahead above r s h.1 (subst P (sym same.0) k.1) (a.1 same.0) same.1 m.1 n.1 in
+    let same : (i ≡ j) × (filter_entries t ss ≡ filter_entries t us) = same_told t i j (filter_entries t ss) (filter_entries t us) a.0 g in
+    let P : Item → Type 0 = λ y. AreWoven p plans (walk_behind p plans z (goes y)) us above in
+    let ih : ss ≡ us = one_way p plans t (walk_behind p plans z (goes i)) ss us ahead above r s h.1 (subst P (sym same.0) k.1) (a.1 same.0) same.1 m.1 n.1 in
     ap (λ y. goes y ∷ ss) same.0 ∙ ap (λ ys. goes j ∷ ys) ih
 one_way p plans t z (makes l o ∷ ss) (makes q u ∷ us) ahead above r s h k a g m n =
     let first : entry_of_operation t l o ≡ entry_of_operation t q u = cc in
-    let others : told t ss ≡ told t us = cc in
+    let others : filter_entries t ss ≡ filter_entries t us = cc in
     let same : (l ≡ q) × (o ≡ u) = same_op t l q o u first in
-    let P : Operation → Type 0 = λ y. AreWoven p plans (after p plans z (makes q y)) us above in
-    let ih : ss ≡ us = one_way p plans t (after p plans z (makes l o)) ss us ahead above r s h.1 (subst P (sym same.1) k.1) a others m.1 n.1 in
+    let P : Operation → Type 0 = λ y. AreWoven p plans (walk_behind p plans z (makes q y)) us above in
+    let ih : ss ≡ us = one_way p plans t (walk_behind p plans z (makes l o)) ss us ahead above r s h.1 (subst P (sym same.1) k.1) a others m.1 n.1 in
     ap (λ y. makes y o ∷ ss) same.0 ∙ (ap (λ y. makes q y ∷ ss) same.1 ∙ ap (λ ys. makes q u ∷ ys) ih)
 
 -- the last step tells an entry
 
-told_last : (t : ℕ) (ss : List PartStep) (s : PartStep) (y : Entry) → told t (s ∷ []) ≡ y ∷ [] → told t (ss ++ s ∷ []) ≡ [] → ⊥
+told_last : (t : ℕ) (ss : List PartStep) (s : PartStep) (y : Entry) → filter_entries t (s ∷ []) ≡ y ∷ [] → filter_entries t (ss ++ s ∷ []) ≡ [] → ⊥
 told_last t [] s y h g =
     let no : y ∷ [] ≡ [] = sym h ∙ g in cc
 told_last t (makes l o ∷ ss) s y h g = cc
@@ -385,7 +385,7 @@ told_last t (goes (edge l) ∷ ss) s y h g = told_last t ss s y h g
 told_last t (goes (enter f env) ∷ ss) s y h g = told_last t ss s y h g
 told_last t (goes (out f) ∷ ss) s y h g = told_last t ss s y h g
 
-pub made_up_to : (t : ℕ) (ss : List PartStep) (s : PartStep) (y : Entry) → told t (s ∷ []) ≡ y ∷ [] → AreMade t (ss ++ s ∷ [])
+pub made_up_to : (t : ℕ) (ss : List PartStep) (s : PartStep) (y : Entry) → filter_entries t (s ∷ []) ≡ y ∷ [] → AreMade t (ss ++ s ∷ [])
 made_up_to t [] s y h = (told_last t [] s y h, tt)
 made_up_to t (x ∷ ss) s y h = (told_last t (x ∷ ss) s y h, made_up_to t ss s y h)
 
@@ -404,20 +404,20 @@ record Halves (t : ℕ) (ss : List PartStep) : Type 0 where
   behind : List PartStep
   whole : ss ≡ before ++ behind
   made : AreMade t before
-  marks : told t behind ≡ []
+  marks : filter_entries t behind ≡ []
 
 -- a step that tells an entry
-told_half : (t : ℕ) (s : PartStep) (ss : List PartStep) (y : Entry) → ((us : List PartStep) → told t (s ∷ us) ≡ y ∷ told t us) → Halves t ss → Halves t (s ∷ ss)
+told_half : (t : ℕ) (s : PartStep) (ss : List PartStep) (y : Entry) → ((us : List PartStep) → filter_entries t (s ∷ us) ≡ y ∷ filter_entries t us) → Halves t ss → Halves t (s ∷ ss)
 told_half t s ss y tells h = record {
   before = s ∷ h.before;
   behind = h.behind;
   whole = ap (◌∷◌ s) h.whole;
-  made = ((λ g. let no : y ∷ told t h.before ≡ [] = sym (tells h.before) ∙ g in cc), h.made);
+  made = ((λ g. let no : y ∷ filter_entries t h.before ≡ [] = sym (tells h.before) ∙ g in cc), h.made);
   marks = h.marks;
 }
 
 -- a mark: it is made only where an entry is behind it
-mark_half : (t : ℕ) (s : PartStep) (ss : List PartStep) → ((us : List PartStep) → told t (s ∷ us) ≡ told t us) → (h : Halves t ss) → (before : List PartStep) → h.before ≡ before → Halves t (s ∷ ss)
+mark_half : (t : ℕ) (s : PartStep) (ss : List PartStep) → ((us : List PartStep) → filter_entries t (s ∷ us) ≡ filter_entries t us) → (h : Halves t ss) → (before : List PartStep) → h.before ≡ before → Halves t (s ∷ ss)
 mark_half t s ss skips h [] none = record {
   before = [];
   behind = s ∷ h.behind;
@@ -469,19 +469,19 @@ told_item_append t (edge l) es fs = refl
 told_item_append t (enter f env) es fs = refl
 told_item_append t (out f) es fs = refl
 
-pub told_append : (t : ℕ) (us vs : List PartStep) → told t (us ++ vs) ≡ told t us ++ told t vs
+pub told_append : (t : ℕ) (us vs : List PartStep) → filter_entries t (us ++ vs) ≡ filter_entries t us ++ filter_entries t vs
 told_append t [] vs = refl
-told_append t (goes i ∷ us) vs = ap (told_item t i) (told_append t us vs) ∙ told_item_append t i (told t us) (told t vs)
+told_append t (goes i ∷ us) vs = ap (told_item t i) (told_append t us vs) ∙ told_item_append t i (filter_entries t us) (filter_entries t vs)
 told_append t (makes l o ∷ us) vs = ap (◌∷◌ (entry_of_operation t l o)) (told_append t us vs)
 
 woven_front : (p : Source) (plans : Plans) (z : Walk) (us vs : List PartStep) (ahead : List Item) → AreWoven p plans z (us ++ vs) ahead → AreWoven p plans z us (items vs ++ ahead)
 woven_front p plans z [] vs ahead h = tt
 woven_front p plans z (u ∷ us) vs ahead h =
-    (subst (MayStand p z u) (items_ahead us vs ahead) h.0, woven_front p plans (after p plans z u) us vs ahead h.1)
+    (subst (MayStand p z u) (items_ahead us vs ahead) h.0, woven_front p plans (walk_behind p plans z u) us vs ahead h.1)
 
 -- what is made of a part
-half_told : (t : ℕ) (ss : List PartStep) (h : Halves t ss) → told t h.before ≡ told t ss
-half_told t ss h = sym (ap (told t) h.whole ∙ (told_append t h.before h.behind ∙ (ap (λ es. told t h.before ++ es) h.marks ∙ append_none (told t h.before))))
+half_told : (t : ℕ) (ss : List PartStep) (h : Halves t ss) → filter_entries t h.before ≡ filter_entries t ss
+half_told t ss h = sym (ap (filter_entries t) h.whole ∙ (told_append t h.before h.behind ∙ (ap (λ es. filter_entries t h.before ++ es) h.marks ∙ append_none (filter_entries t h.before))))
 
 pub one_made : HasOneMade
 one_made p plans x a b =

@@ -7,7 +7,7 @@ use Rattle.loom_lang.specs.Acts.{Deed}
 use Rattle.loom_lang.specs.Alike.{AreAlike}
 use Rattle.loom_lang.proofs.NextItem.{one_next_item, Agree, traces_agree}
 use Rattle.loom_event.specs.Answer.{IsAnswered}
-use Rattle.loom_law.specs.Walk.{Plans, Operation, wait, enters, at, past, post, leave, back, tick, cross, blocked, Queue, PartStep, goes, makes, items, told, entry_of_operation, Walk, unborn, after_operation, after, walk_from, Owes, MayStand, AreWoven}
+use Rattle.loom_law.specs.Walk.{Plans, Operation, wait, enters, at, past, post, leave, back, tick, cross, blocked, Queue, PartStep, goes, makes, items, filter_entries, entry_of_operation, Walk, unborn, after_operation, walk_behind, walk_from, Owes, MayStand, AreWoven}
 use Rattle.loom_law.specs.ThreadPart.{Own, walk_of, IsPart, with_entry, AsksToMake, AsksToAct}
 use Rattle.loom_law.specs.Laws.{SameSteps}
 use Rattle.loom_law.specs.TurnLaws.{is_owed, HasOneRequest, HasNoSplit, HasOneOperation}
@@ -33,7 +33,7 @@ record IsMark (i : Item) : Type 0 where
   stands : (p : Source) (z : Walk) (rest : List Item) → MayStand p z (goes i) rest → z.owed ≡ []
   no_act : (is : List Item) → BeginsWithAct (i ∷ is) → ⊥
 
-is_mark : (t : ℕ) (i : Item) (ss : List PartStep) → told t (goes i ∷ ss) ≡ [] → IsMark i
+is_mark : (t : ℕ) (i : Item) (ss : List PartStep) → filter_entries t (goes i ∷ ss) ≡ [] → IsMark i
 is_mark t (made l a) ss h = cc
 is_mark t (begins m env) ss h = record { alike = λ j g. g; stands = λ p z rest g. g; no_act = λ is g. g }
 is_mark t (done m) ss h = record { alike = λ j g. g; stands = λ p z rest g. g; no_act = λ is g. g }
@@ -41,7 +41,7 @@ is_mark t (edge m) ss h = record { alike = λ j g. g; stands = λ p z rest g. g;
 is_mark t (enter f env) ss h = record { alike = λ j g. g; stands = λ p z rest g. g; no_act = λ is g. g }
 is_mark t (out f) ss h = record { alike = λ j g. g; stands = λ p z rest g. g; no_act = λ is g. g }
 
-untold : (t : ℕ) (i : Item) (ss : List PartStep) → told t (goes i ∷ ss) ≡ [] → told t ss ≡ []
+untold : (t : ℕ) (i : Item) (ss : List PartStep) → filter_entries t (goes i ∷ ss) ≡ [] → filter_entries t ss ≡ []
 untold t (made l a) ss h = cc
 untold t (begins m env) ss h = h
 untold t (done m) ss h = h
@@ -75,7 +75,7 @@ no_act_here i is (edge m ∷ js) r s b a k = b
 no_act_here i is (enter f env ∷ js) r s b a k = b
 no_act_here i is (out f ∷ js) r s b a k = b
 
-one_stop : (p : Source) (plans : Plans) (t : ℕ) (z : Walk) (us vs : List PartStep) (ahead above : List Item) (r s : Outcome) → told t us ≡ [] → told t vs ≡ []
+one_stop : (p : Source) (plans : Plans) (t : ℕ) (z : Walk) (us vs : List PartStep) (ahead above : List Item) (r s : Outcome) → filter_entries t us ≡ [] → filter_entries t vs ≡ []
     → AreWoven p plans z us ahead → AreWoven p plans z vs above → Agree (items us ++ ahead) r (items vs ++ above) s
     → IsStop (walk_from p plans z us) ahead → IsStop (walk_from p plans z vs) above → us ≡ vs
 one_stop p plans t z [] [] ahead above r s m n h k a b c = refl
@@ -88,10 +88,10 @@ one_stop p plans t z (goes i ∷ us) [] ahead above r s m n h k a b (inl c) = ab
 one_stop p plans t z (goes i ∷ us) [] ahead above r s m n h k a b (inr c) = absurd (no_act_here i (items us ++ ahead) above r s c a (is_mark t i us m))
 one_stop p plans t z (goes i ∷ us) (goes j ∷ vs) ahead above r s m n h k a b c =
     let same : i ≡ j = (is_mark t i us m).alike j a.0 in
-    let P : Item → Type 0 = λ y. AreWoven p plans (after p plans z (goes y)) vs above in
-    let Q : Item → Type 0 = λ y. IsStop (walk_from p plans (after p plans z (goes y)) vs) above in
+    let P : Item → Type 0 = λ y. AreWoven p plans (walk_behind p plans z (goes y)) vs above in
+    let Q : Item → Type 0 = λ y. IsStop (walk_from p plans (walk_behind p plans z (goes y)) vs) above in
     let ih : us ≡ vs =
-    one_stop p plans t (after p plans z (goes i)) us vs ahead above r s (untold t i us m) (untold t j vs n) h.1 (subst P (sym same) k.1) (a.1 same) b (subst Q (sym same) c) in
+    one_stop p plans t (walk_behind p plans z (goes i)) us vs ahead above r s (untold t i us m) (untold t j vs n) h.1 (subst P (sym same) k.1) (a.1 same) b (subst Q (sym same) c) in
     ap (λ y. goes y ∷ us) same ∙ ap (◌∷◌ (goes j)) ih
 
 -- Points at which a thread asks
@@ -99,7 +99,7 @@ one_stop p plans t z (goes i ∷ us) (goes j ∷ vs) ahead above r s m n h k a b
 woven_behind : (p : Source) (plans : Plans) (z : Walk) (us vs : List PartStep) (ahead : List Item) → AreWoven p plans z (us ++ vs) ahead
     → AreWoven p plans (walk_from p plans z us) vs ahead
 woven_behind p plans z [] vs ahead h = h
-woven_behind p plans z (u ∷ us) vs ahead h = woven_behind p plans (after p plans z u) us vs ahead h.1
+woven_behind p plans z (u ∷ us) vs ahead h = woven_behind p plans (walk_behind p plans z u) us vs ahead h.1
 
 agree_behind : (xs is js : List Item) (r s : Outcome) → Agree (xs ++ is) r (xs ++ js) s → Agree is r js s
 agree_behind [] is js r s h = h
@@ -200,8 +200,8 @@ op_point p plans x l o is h =
     let trace : IsTrace p x.func x.args (items (before ++ last) ++ part.ahead) part.outcome =
     subst (λ ss. IsTrace p x.func x.args (items ss ++ part.ahead) part.outcome) c.last part.trace in
     let woven : AreWoven p plans (unborn x.versions) (before ++ last) part.ahead = subst (λ ss. AreWoven p plans (unborn x.versions) ss part.ahead) c.last part.woven in
-    let tells : told t before ++ entry_of_operation t l o ∷ [] ≡ x.entries ++ entry_of_operation t l o ∷ [] =
-    sym (told_append t before last) ∙ (ap (told t) (sym c.last) ∙ part.tells) in
+    let tells : filter_entries t before ++ entry_of_operation t l o ∷ [] ≡ x.entries ++ entry_of_operation t l o ∷ [] =
+    sym (told_append t before last) ∙ (ap (filter_entries t) (sym c.last) ∙ part.tells) in
     let owes : Owes (Walk.owed (walk_from p plans (unborn x.versions) before)) l o =
     op_owes p (walk_from p plans (unborn x.versions) before) l o part.ahead is (stands_there p plans (unborn x.versions) before (makes l o) [] part.ahead woven) in
     record {
@@ -212,7 +212,7 @@ op_point p plans x l o is h =
           outcome = part.outcome;
           trace = subst (λ us. IsTrace p x.func x.args us part.outcome) (items_ahead before last part.ahead) trace;
           woven = woven_front p plans (unborn x.versions) before last part.ahead woven;
-          tells = same_front (told t before) x.entries (entry_of_operation t l o) (entry_of_operation t l o) tells;
+          tells = same_front (filter_entries t before) x.entries (entry_of_operation t l o) (entry_of_operation t l o) tells;
           taken = sym (op_coming p plans (walk_from p plans (unborn x.versions) before) o is)
               ∙ (ap (λ z. Walk.coming z) (sym (walk_append p plans (unborn x.versions) before last) ∙ ap (walk_from p plans (unborn x.versions)) (sym c.last)) ∙ part.taken);
         };

@@ -2,7 +2,7 @@
 use Rattle.std.proofs.Common.{ℕ, zero, suc, ◌<◌, ◌≤◌, ◌≡◌, nat_lt, true, false, ◌&&◌, List, [], ◌∷◌, ◌++◌, flat_map, Some, slice_get, refl, ap, subst, ◌∙◌, append_assoc, arith}
 use Rattle.std.proofs.lemmas.Bool.{and_parts, ne_eqb, eq-eqb, ltb-true}
 use Rattle.loom_tree.specs.Tree.{Body, end, simple, if_, while_, Function}
-use Rattle.loom_lang.specs.Rules.{lines, is_ascending}
+use Rattle.loom_lang.specs.Rules.{statement_lines, is_ascending}
 use Rattle.loom_lang.specs.Places.{Place, nowhere, entry, inside, back_edge, out, body_places, places_from, places}
 use Rattle.loom_law.specs.Walk.{is_same_place, position_of}
 use Rattle.loom_law.specs.Laws.{HasOneNumber}
@@ -159,23 +159,23 @@ two b n l rest h =
     record { last = l; from = omega (arith, less); ascends = g.1; distinct = ((refl, tt), (tt, tt)); beyond = (less, (less, tt)); up_to = (omega arith, (omega arith, tt)) }
 
 -- in the order of the text; `rest` stands behind the body
-body_lies : (a : Body) (b n : ℕ) (rest : List ℕ) → is_ascending b (lines a ++ rest) ≡ true → Lies b n rest (body_places a)
+body_lies : (a : Body) (b n : ℕ) (rest : List ℕ) → is_ascending b (statement_lines a ++ rest) ≡ true → Lies b n rest (body_places a)
 body_lies end b n rest h = nothing b n rest h
 body_lies (simple l s more) b n rest h =
-    let first = one b n l (lines more ++ rest) h in
+    let first = one b n l (statement_lines more ++ rest) h in
     behind first (body_lies more first.last n rest first.ascends)
 body_lies (if_ l e a c more) b n rest h =
-    let first = one b n l ((lines a ++ (lines c ++ lines more)) ++ rest) h in
-    let g : is_ascending first.last (lines a ++ (lines c ++ (lines more ++ rest))) ≡ true =
-    subst (λ z. is_ascending first.last z ≡ true) (append_assoc (lines a) (lines c ++ lines more) rest ∙ ap (λ z. lines a ++ z) (append_assoc (lines c) (lines more) rest)) first.ascends in
-    let yes_block = body_lies a first.last n (lines c ++ (lines more ++ rest)) g in
-    let other = body_lies c yes_block.last n (lines more ++ rest) yes_block.ascends in
+    let first = one b n l ((statement_lines a ++ (statement_lines c ++ statement_lines more)) ++ rest) h in
+    let g : is_ascending first.last (statement_lines a ++ (statement_lines c ++ (statement_lines more ++ rest))) ≡ true =
+    subst (λ z. is_ascending first.last z ≡ true) (append_assoc (statement_lines a) (statement_lines c ++ statement_lines more) rest ∙ ap (λ z. statement_lines a ++ z) (append_assoc (statement_lines c) (statement_lines more) rest)) first.ascends in
+    let yes_block = body_lies a first.last n (statement_lines c ++ (statement_lines more ++ rest)) g in
+    let other = body_lies c yes_block.last n (statement_lines more ++ rest) yes_block.ascends in
     behind first (behind yes_block (behind other (body_lies more other.last n rest other.ascends)))
 body_lies (while_ l e a more) b n rest h =
-    let first = two b n l ((lines a ++ lines more) ++ rest) h in
-    let g : is_ascending first.last (lines a ++ (lines more ++ rest)) ≡ true =
-    subst (λ z. is_ascending first.last z ≡ true) (append_assoc (lines a) (lines more) rest) first.ascends in
-    let inner = body_lies a first.last n (lines more ++ rest) g in
+    let first = two b n l ((statement_lines a ++ statement_lines more) ++ rest) h in
+    let g : is_ascending first.last (statement_lines a ++ (statement_lines more ++ rest)) ≡ true =
+    subst (λ z. is_ascending first.last z ≡ true) (append_assoc (statement_lines a) (statement_lines more) rest) first.ascends in
+    let inner = body_lies a first.last n (statement_lines more ++ rest) g in
     behind first (behind inner (body_lies more inner.last n rest inner.ascends))
 
 -- Functions
@@ -224,10 +224,10 @@ record LieFrom (b n : ℕ) (xs : List Place) : Type 0 where
   distinct : AreDistinct xs
   beyond : AllBeyond b n xs
 
-all_lie : (fs : List Function) (b n : ℕ) → is_ascending b (flat_map (λ (f : Function). lines f.body) fs) ≡ true → LieFrom b n (places_from n fs)
+all_lie : (fs : List Function) (b n : ℕ) → is_ascending b (flat_map (λ (f : Function). statement_lines f.body) fs) ≡ true → LieFrom b n (places_from n fs)
 all_lie [] b n h = record { distinct = tt; beyond = tt }
 all_lie (f ∷ fs) b n h =
-    let own = body_lies f.body b (suc n) (flat_map (λ (g : Function). lines g.body) fs) h in
+    let own = body_lies f.body b (suc n) (flat_map (λ (g : Function). statement_lines g.body) fs) h in
     let others = all_lie fs own.last (suc n) own.ascends in
     let fresh : IsFresh (out n) (places_from (suc n) fs) = fresh_beyond own.last (suc n) (out n) (places_from (suc n) fs) (omega arith) others.beyond in
     record {

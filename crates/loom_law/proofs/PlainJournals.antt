@@ -15,7 +15,7 @@ use Rattle.loom_event.specs.Run.{AreRun}
 use Rattle.loom_event.proofs.Runs.{next, given, threads_traced, does}
 use Rattle.loom_event.proofs.Runs as runs
 use Rattle.loom_event.proofs.Stops as stops
-use Rattle.loom_event.proofs.Shown.{event, adds, locks}
+use Rattle.loom_event.proofs.Examples.{event, adds, locks}
 use Rattle.loom_law.specs.Walk.{blocked, PartStep, goes, makes, items}
 use Rattle.loom_law.specs.Lawful.{Setting, HasPart, Lives, IsBlocked, IsHeldOff, IsStalled, front_at, IsLawful}
 use Rattle.loom_law.proofs.Fronts.{Each, behind, each_one, FollowsBehind, nothing_made}

@@ -18,7 +18,7 @@ use Rattle.loom_event.specs.Run.{AreRun}
 use Rattle.loom_event.proofs.Runs.{next, given, threads_traced, does}
 use Rattle.loom_event.proofs.Runs as runs
 use Rattle.loom_event.proofs.Stops as stops
-use Rattle.loom_event.proofs.Shown.{event}
+use Rattle.loom_event.proofs.Examples.{event}
 use Rattle.loom_law.specs.Filter.{plan_of}
 use Rattle.loom_law.specs.Walk.{enters, past, leave, cross, blocked, PartStep, goes, makes, items}
 use Rattle.loom_law.specs.Walk as walk

@@ -10,7 +10,7 @@ use Rattle.loom_lang.specs.Trace.{begin, end, read, write, lock, unlock, down, u
 use Rattle.loom_event.proofs.Runs.{next, given}
 use Rattle.loom_command.specs.Filter.{Region, Clause}
 use Rattle.loom_law.specs.Filter.{plan_of}
-use Rattle.loom_law.specs.Walk.{wait, enters, past, post, leave, back, tick, cross, blocked, PartStep, goes, makes, told, unborn, AreWoven}
+use Rattle.loom_law.specs.Walk.{wait, enters, past, post, leave, back, tick, cross, blocked, PartStep, goes, makes, filter_entries, unborn, AreWoven}
 use Rattle.loom_law.specs.Walk as walk
 use Rattle.loom_command.specs.Script.{stall}
 use Rattle.loom_command.specs.Script as script
@@ -154,7 +154,7 @@ steps_r2_1 = (goes (made 5 begin) ∷ goes (enter 1 (((codes "i"), (pos 0)) ∷ 
 pub woven_r2_1 : AreWoven program_r2 (plans_of commands_r2) (unborn (Own.versions own_r2_1)) steps_r2_1 []
 woven_r2_1 = ((refl, tt), (refl, (refl, (refl, (refl, (refl, (refl, (refl, (refl, (refl, (refl, (refl, (refl, (refl, (refl, (refl, (refl, (refl, (refl, (record { place = _; next = refl; number = refl; line = refl; version = refl; passed = refl }, (refl, (refl, (refl, (refl, (refl, (refl, (refl, (refl, (refl, (refl, (refl, (refl, (refl, (refl, (refl, (refl, (refl, (refl, (refl, (refl, (refl, (refl, (refl, (refl, (refl, (refl, (refl, (refl, (refl, (refl, (refl, (refl, (refl, (refl, (refl, (refl, (refl, (refl, (refl, (refl, (refl, (refl, (refl, (refl, (refl, (refl, (refl, (refl, (refl, (refl, tt))))))))))))))))))))))))))))))))))))))))))))))))))))))))))))))))))))))
 
-pub told_r2_1 : told 1 steps_r2_1 ≡ Own.entries own_r2_1
+pub told_r2_1 : filter_entries 1 steps_r2_1 ≡ Own.entries own_r2_1
 told_r2_1 = refl
 
 abbrev pub point_r2_0 : List PartStep
@@ -470,7 +470,7 @@ steps_r5_1 = (goes (made 8 begin) ∷ goes (enter 1 (((codes "t"), (pos 0)) ∷ 
 pub woven_r5_1 : AreWoven program_r5 (plans_of commands_r5) (unborn (Own.versions own_r5_1)) steps_r5_1 []
 woven_r5_1 = ((refl, tt), (refl, (refl, (refl, (refl, (refl, (refl, (refl, (refl, (refl, (refl, (refl, (refl, (refl, (refl, (refl, (refl, (refl, (refl, (refl, (refl, (refl, (refl, (refl, (refl, (refl, (refl, (refl, (record { asks = refl; not_yet = refl }, (refl, (refl, (refl, (refl, tt)))))))))))))))))))))))))))))))))
 
-pub told_r5_1 : told 1 steps_r5_1 ≡ Own.entries own_r5_1
+pub told_r5_1 : filter_entries 1 steps_r5_1 ≡ Own.entries own_r5_1
 told_r5_1 = refl
 
 abbrev pub own_r5_2 : Own
@@ -594,7 +594,7 @@ steps_r6_1 = (goes (made 7 begin) ∷ goes (enter 1 (((codes "t"), (pos 0)) ∷ 
 pub woven_r6_1 : AreWoven program_r6 (plans_of commands_r6) (unborn (Own.versions own_r6_1)) steps_r6_1 []
 woven_r6_1 = ((refl, tt), (refl, (refl, (refl, (refl, (refl, (refl, (refl, (refl, (refl, (refl, (refl, (refl, (refl, (refl, (refl, (refl, (refl, (refl, (refl, (refl, (refl, (refl, (refl, (refl, (record { place = _; next = refl; number = refl; line = refl; version = refl; passed = refl }, (refl, (refl, (refl, (refl, (refl, (refl, (refl, (refl, (refl, (refl, (refl, (refl, (refl, (refl, (refl, (refl, (refl, (refl, (refl, (refl, (refl, (refl, (refl, (refl, (refl, (refl, (refl, tt)))))))))))))))))))))))))))))))))))))))))))))))))))))
 
-pub told_r6_1 : told 1 steps_r6_1 ≡ Own.entries own_r6_1
+pub told_r6_1 : filter_entries 1 steps_r6_1 ≡ Own.entries own_r6_1
 told_r6_1 = refl
 
 abbrev pub own_r6_2 : Own

@@ -8,7 +8,7 @@ use Rattle.loom_trace.specs.declared.request.Request.{Request}
 use Rattle.loom_trace.specs.declared.request.Request.TheVariants as r
 use Rattle.loom_lang.specs.Trace.{Act, trap, lock, down, join, Item, made, not_spawned, Open, IsTrace}
 use Rattle.loom_lang.specs.Acts.{Deed}
-use Rattle.loom_event.specs.Answer.{granted, trapped, IsBlockedFor}
+use Rattle.loom_event.specs.Answer.{grant_deed, trap_deed, IsBlockedFor}
 use Rattle.loom_law.specs.Walk.{blocked, Queue, PartStep, makes, items, Walk, unborn, walk_from, Acts, AsksFor, AreWoven}
 use Rattle.loom_law.specs.ThreadPart.{Own, walk_of, with_entry, AsksToAct, GoesOn}
 use Rattle.loom_law.specs.TurnLaws.{blocked_behind, HasBlocks, HasSameRequest}
@@ -20,7 +20,7 @@ use Rattle.loom_law.proofs.Makings.{walk_blocked}
 -- the act that grants such a request: where it comes next, the thread may be told as blocked
 record CanWait (q : Request) (l : ℕ) (what : What) : Type 0 where
   act : Act
-  grants : granted q (pos 0) ≡ Some (record { line = l; act = act })
+  grants : grant_deed q (pos 0) ≡ Some (record { line = l; act = act })
   no_trap : (c : ℕ) → act ≡ trap (not_spawned (pos c)) → ⊥
   asks : (z : Walk) → z.owed ≡ [] → AsksFor z (made l act ∷ []) l what
 
@@ -65,7 +65,7 @@ same_request p plans x q l what h is free =
     let ahead : List Item = made l c.act ∷ [] in
     let trace : IsTrace p x.func x.args (items steps ++ ahead) Open = goes_with p plans x q d h (inl (pos 0, c.grants)) in
     let woven : AreWoven p plans (unborn x.versions) steps ahead =
-    woven_ahead p plans x q d h (inl (pos 0, c.grants)) (λ before m e behind whole trapped. c.no_trap e trapped) in
+    woven_ahead p plans x q d h (inl (pos 0, c.grants)) (λ before m e behind whole trap_deed. c.no_trap e trap_deed) in
     let not_yet : Walk.is_blocked (walk_of p plans x steps) ≡ false =
     walk_blocked p plans x.thread (unborn x.versions) steps ahead woven ∙ (ap (blocked_behind false) h.tells ∙ free) in
     let behind : walk_from p plans (unborn x.versions) (steps ++ last) ≡ walk_from p plans (walk_of p plans x steps) last = walk_append p plans (unborn x.versions) steps last in
@@ -77,8 +77,8 @@ same_request p plans x q l what h is free =
       tells = told_append x.thread steps last ∙ ap (λ us. us ++ e.Blocked x.thread l what ∷ []) h.tells;
       taken = ap (λ z. Walk.coming z) behind ∙ h.taken;
       rests = ap (λ z. Walk.owed z) behind ∙ h.rests;
-      granted = λ v. goes_on p x l what steps (granted q v) (h.granted v);
-      trapped = goes_on p x l what steps (trapped q) h.trapped;
+      granted = λ v. goes_on p x l what steps (grant_deed q v) (h.granted v);
+      trapped = goes_on p x l what steps (trap_deed q) h.trapped;
     }
 
 -- so what it is told is a part

@@ -7,7 +7,7 @@ use Rattle.loom_lang.specs.Places.{Place, body_places}
 use Rattle.loom_lang.specs.Places as place
 use Rattle.loom_lang.specs.Trace.{Locals, begin, end, trap, read, write, lock, unlock, down, up, spawn, join, print, Item, made, begins, done, edge, enter, out}
 use Rattle.loom_law.specs.Filter.{Plan, statement, matching}
-use Rattle.loom_law.specs.Walk.{Version, Plans, Operation, wait, enters, at, past, post, leave, back, tick, cross, blocked, PartStep, goes, makes, items, OpenStatement, OpenFrame, Spot, elsewhere, beginning, entered, complete, left, trapped, Queue, Walk, unborn, in_frame, opened, closed, completed, without_first, taking, behind_entry, after_item, noted, noted_at, begun_at, left_behind, frames_without, spot_without, crossing, after_operation, walk_from, innermost, place_of_request, place_of_next}
+use Rattle.loom_law.specs.Walk.{Version, Plans, Operation, wait, enters, at, past, post, leave, back, tick, cross, blocked, PartStep, goes, makes, items, OpenStatement, OpenFrame, Spot, elsewhere, beginning, entered, complete, left, trapped, Queue, Walk, unborn, in_frame, open_statement, close_statement, completed, without_first, taking, behind_entry, after_item, note_events, noted_at, begun_at, left_behind, frames_without, spot_without, crossing, after_operation, walk_from, innermost, place_of_request, place_of_next}
 use Rattle.loom_law.specs.FilterView as view
 use Rattle.loom_law.specs.FilterView.{FrameView, FilterView, nothing_seen, settled, seen_item, seen_step, seen_from, IsClear}
 use Rattle.loom_law.specs.Paths.{Node, statements, Begins, places_in, places_of, IsUnsafe, Halts, node_places}
@@ -108,7 +108,7 @@ act_keeps p f s z w l well is a =
     }
 
 same_begins : (x : Level) (xs : List Level) (zs : List OpenFrame) (l : ℕ) (b : Body) → Begins b l → SameFrames (x ∷ xs) zs
-    → SameFrames (moved x (path.begins l) (b ∷ x.opened) ∷ xs) (in_frame (opened l) zs)
+    → SameFrames (moved x (path.begins l) (b ∷ x.opened) ∷ xs) (in_frame (open_statement l) zs)
 same_begins x xs [] l b begun h = absurd h
 same_begins x xs (z ∷ zs) l b begun h = (h.0, ((begun, h.1.0), h.1.1))
 
@@ -120,7 +120,7 @@ abbrev lv : ℕ → Function → Option Node → List Body → Level
 lv g fn m os = record { func = g; function = fn; node = m; opened = os }
 
 same_done : (g : ℕ) (fn : Function) (m n : Option Node) (b : Body) (bs : List Body) (xs : List Level) (zs : List OpenFrame) → SameFrames (lv g fn m (b ∷ bs) ∷ xs) zs
-    → SameFrames (lv g fn n bs ∷ xs) (in_frame closed zs)
+    → SameFrames (lv g fn n bs ∷ xs) (in_frame close_statement zs)
 same_done g fn m n b bs xs [] h = absurd h
 same_done g fn m n b bs xs (z ∷ zs) h = (h.0, (same_rest b bs z.statements h.1.0, h.1.1))
 
@@ -288,7 +288,7 @@ same_in_frame h a b [] (z ∷ zs) s = absurd s
 same_in_frame h a b (x ∷ xs) [] s = s
 same_in_frame h a b (x ∷ xs) (z ∷ zs) s = (a z ∙ s.0, (b z x.opened s.1.0, s.1.1))
 
-noted_lines : (k : ℕ) (ns : List ℕ) (os : List Body) (ss : List OpenStatement) → SameLines os ss → SameLines os (noted k ns ss)
+noted_lines : (k : ℕ) (ns : List ℕ) (os : List Body) (ss : List OpenStatement) → SameLines os ss → SameLines os (note_events k ns ss)
 noted_lines k ns [] [] h = h
 noted_lines k ns [] (s ∷ ss) h = absurd h
 noted_lines k ns (b ∷ bs) [] h = h

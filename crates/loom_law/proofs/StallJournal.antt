@@ -19,10 +19,10 @@ use Rattle.loom_event.specs.Run.{AreRun}
 use Rattle.loom_event.proofs.Runs.{next, given, threads_traced, does}
 use Rattle.loom_event.proofs.Runs as runs
 use Rattle.loom_event.proofs.Stops as stops
-use Rattle.loom_event.proofs.Shown.{event}
+use Rattle.loom_event.proofs.Examples.{event}
 use Rattle.loom_law.specs.Filter.{Watch, statement, Range, between, Plan, plan_of}
 use Rattle.loom_law.specs.Walk.{blocked, PartStep, goes, makes, items}
-use Rattle.loom_law.specs.Paths.{Node, leaves, complete, turns, links_of, statements, has_return, called_by, Begins, IsStatement, statements_of, places_of, Calls, Reaches, IsReached, IsReachedAt, watch_at, node_places, IsExit, Halts, Comes, IsUnsafeByEvent, IsUnsafeByPath, IsUnsafeByFunction, IsUnsafe}
+use Rattle.loom_law.specs.Paths.{Node, leaves, complete, turns, links_of, statements, has_return, called_by, Begins, IsStatement, statements_of, places_of, CallsFunction, Reaches, IsReached, IsReachedAt, watch_at, node_places, IsExit, Halts, Comes, IsUnsafeByEvent, IsUnsafeByPath, IsUnsafeByFunction, IsUnsafe}
 use Rattle.loom_law.specs.Paths as paths
 use Rattle.loom_law.specs.Control.{means, install, Command}
 use Rattle.loom_law.specs.Lawful.{Setting, HasPart, StandsAt, Lives, IsBlocked, IsHeldOff, IsFlagged, MayStall, front_at, IsLawful}

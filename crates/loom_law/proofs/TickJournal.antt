@@ -19,9 +19,9 @@ use Rattle.loom_event.specs.Run.{AreRun}
 use Rattle.loom_event.proofs.Runs.{next, threads_traced}
 use Rattle.loom_event.proofs.Runs as runs
 use Rattle.loom_event.proofs.Stops as stops
-use Rattle.loom_event.proofs.Shown.{event}
+use Rattle.loom_event.proofs.Examples.{event}
 use Rattle.loom_law.specs.Filter.{Watch, statement, Range, between, Plan, plan_of}
-use Rattle.loom_law.specs.Walk.{Version, Plans, tick, cross, place_of_next, PartStep, goes, makes, items, told, Spot, beginning, elsewhere, Queue, Walk, with_tick, walk_from, AreWoven}
+use Rattle.loom_law.specs.Walk.{Version, Plans, tick, cross, place_of_next, PartStep, goes, makes, items, filter_entries, Spot, beginning, elsewhere, Queue, Walk, with_tick, walk_from, AreWoven}
 use Rattle.loom_law.specs.Paths.{statements, has_return, called_by, Begins, IsStatement, Reaches, IsReached, watch_at, IsUnsafe}
 use Rattle.loom_law.specs.Paths as paths
 use Rattle.loom_law.specs.Control.{means, install, Command, remove}
@@ -72,7 +72,7 @@ unfolding rounds
 round_acts zero = refl
 round_acts (suc n) = round_acts n
 
-round_told : (n : ℕ) (more : List PartStep) → told 1 (rounds n more) ≡ told 1 more
+round_told : (n : ℕ) (more : List PartStep) → filter_entries 1 (rounds n more) ≡ filter_entries 1 more
 unfolding rounds
 round_told zero more = refl
 round_told (suc n) more = round_told n more
@@ -179,7 +179,7 @@ thousand_leads : (Q : Walk → Type 0) (ps : Plans) (more : List PartStep) → Q
     → Q (walk_from endless ps (in_loop [] elsewhere []) (thousand more))
 thousand_leads Q ps more h = rounds_lead Q ps [] 999 elsewhere [] (omega arith) (ticked more) (λ s zs is. last_leads Q ps [] s zs (omega arith) more h)
 
-thousand_told : (n : ℕ) (more : List PartStep) → told 1 (rounds n (ticked more)) ≡ e.Tick 1 2 3 ∷ told 1 more
+thousand_told : (n : ℕ) (more : List PartStep) → filter_entries 1 (rounds n (ticked more)) ≡ e.Tick 1 2 3 ∷ filter_entries 1 more
 thousand_told n more = round_told n (ticked more) ∙ round_told 1 (makes 2 (tick 3) ∷ more)
 
 no_rounds : [] ≡ items (rounds 0 [])
@@ -211,11 +211,11 @@ tick_items =
     let three : items three_more ++ [] ≡ items (rounds 3000 []) = last_items 999 2000 3000 refl (thousand (thousand [])) [] two in
     ap (λ is. made 1 begin ∷ enter 0 [] ∷ begins 2 [] ∷ is) (last_items 998 3000 3999 refl three_more [] three)
 
-tick_told : told 1 tick_steps ≡ e.Begin 1 1 ∷ e.Tick 1 2 3 ∷ e.Tick 1 2 3 ∷ e.Tick 1 2 3 ∷ e.Tick 1 2 3 ∷ []
+tick_told : filter_entries 1 tick_steps ≡ e.Begin 1 1 ∷ e.Tick 1 2 3 ∷ e.Tick 1 2 3 ∷ e.Tick 1 2 3 ∷ e.Tick 1 2 3 ∷ []
 tick_told =
-    let one : told 1 (thousand []) ≡ e.Tick 1 2 3 ∷ [] = thousand_told 999 [] in
-    let two : told 1 (thousand (thousand [])) ≡ e.Tick 1 2 3 ∷ e.Tick 1 2 3 ∷ [] = thousand_told 999 (thousand []) ∙ ap (◌∷◌ (e.Tick 1 2 3)) one in
-    let three : told 1 three_more ≡ e.Tick 1 2 3 ∷ e.Tick 1 2 3 ∷ e.Tick 1 2 3 ∷ [] =
+    let one : filter_entries 1 (thousand []) ≡ e.Tick 1 2 3 ∷ [] = thousand_told 999 [] in
+    let two : filter_entries 1 (thousand (thousand [])) ≡ e.Tick 1 2 3 ∷ e.Tick 1 2 3 ∷ [] = thousand_told 999 (thousand []) ∙ ap (◌∷◌ (e.Tick 1 2 3)) one in
+    let three : filter_entries 1 three_more ≡ e.Tick 1 2 3 ∷ e.Tick 1 2 3 ∷ e.Tick 1 2 3 ∷ [] =
     thousand_told 999 (thousand (thousand [])) ∙ ap (◌∷◌ (e.Tick 1 2 3)) two in
     ap (◌∷◌ (e.Begin 1 1)) (thousand_told 998 three_more ∙ ap (◌∷◌ (e.Tick 1 2 3)) three)
 
@@ -376,7 +376,7 @@ loop_trace more is =
     let all : items (rounds 998 (ticked more)) ++ edge 2 ∷ [] ≡ items (rounds 1000 []) = last_items 998 1 1000 refl more (edge 2 ∷ []) last in
     subst (λ is. IsTrace endless 0 [] is Open) (sym (ap (λ is. made 1 begin ∷ enter 0 [] ∷ begins 2 [] ∷ is) all)) (endless_trace 1000)
 
-loop_told : (more : List PartStep) → told 1 (loop_steps more) ≡ e.Begin 1 1 ∷ e.Tick 1 2 3 ∷ told 1 more
+loop_told : (more : List PartStep) → filter_entries 1 (loop_steps more) ≡ e.Begin 1 1 ∷ e.Tick 1 2 3 ∷ filter_entries 1 more
 loop_told more = ap (◌∷◌ (e.Begin 1 1)) (thousand_told 998 more)
 
 abbrev IsAtTurn : Walk → Type 0

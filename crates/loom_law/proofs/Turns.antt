@@ -15,7 +15,7 @@ use Rattle.loom_event.specs.Entries.{thread_of, is_thread}
 use Rattle.loom_event.specs.Replay.{ThreadState, Store, new_thread, main_thread, start, thread_at, IsAllowedAct, IsAllowed, with_thread, after_act, replay, AreAllowed}
 use Rattle.loom_event.specs.Replay as law
 use Rattle.loom_event.specs.Run.{IsTraced, IsThreadTraced, AreRun}
-use Rattle.loom_law.specs.Walk.{Version, Plans, Operation, wait, enters, at, past, post, leave, back, tick, cross, blocked, PartStep, goes, makes, items, told, entry_of_operation, Walk, unborn, holds, without_first, taking, behind_entry, crossing, filter_of, after, walk_from, Owes, first_number, MayCross, MayStand, AreWoven}
+use Rattle.loom_law.specs.Walk.{Version, Plans, Operation, wait, enters, at, past, post, leave, back, tick, cross, blocked, PartStep, goes, makes, items, filter_entries, entry_of_operation, Walk, unborn, holds, without_first, taking, behind_entry, crossing, filter_of, walk_behind, walk_from, Owes, first_number, MayCross, MayStand, AreWoven}
 use Rattle.loom_law.specs.ThreadPart.{Own, walk_of, IsPart, HasMoved}
 use Rattle.loom_law.specs.Control.{Holder, Control, control, first_control, versions_of, entries_of, listed_places}
 use Rattle.loom_law.specs.Lawful.{Setting, Front, front_of, plans, own, HasPart, owes_cross, StaysAway, Parks, IsParked, MayMove, is_held_by, is_installed, Permits}
@@ -89,12 +89,12 @@ act_target t l (spawn c f vs) = refl
 act_target t l (join c) = refl
 act_target t l (print v) = refl
 
-told_targets : (t : ℕ) (ss : List PartStep) → targets (told t ss) ≡ map (entry_of_deed t) (acts (items ss))
+told_targets : (t : ℕ) (ss : List PartStep) → targets (filter_entries t ss) ≡ map (entry_of_deed t) (acts (items ss))
 told_targets t [] = refl
 told_targets t (makes l o ∷ ss) =
-    if_false (is_target (entry_of_operation t l o)) (entry_of_operation t l o ∷ targets (told t ss)) (targets (told t ss)) (op_no_target t l o) ∙ told_targets t ss
+    if_false (is_target (entry_of_operation t l o)) (entry_of_operation t l o ∷ targets (filter_entries t ss)) (targets (filter_entries t ss)) (op_no_target t l o) ∙ told_targets t ss
 told_targets t (goes (made l a) ∷ ss) =
-    if_true (is_target (entry_by t l a)) (entry_by t l a ∷ targets (told t ss)) (targets (told t ss)) (act_target t l a) ∙ ap (◌∷◌ (entry_by t l a)) (told_targets t ss)
+    if_true (is_target (entry_by t l a)) (entry_by t l a ∷ targets (filter_entries t ss)) (targets (filter_entries t ss)) (act_target t l a) ∙ ap (◌∷◌ (entry_by t l a)) (told_targets t ss)
 told_targets t (goes (begins l env) ∷ ss) = told_targets t ss
 told_targets t (goes (done l) ∷ ss) = told_targets t ss
 told_targets t (goes (edge l) ∷ ss) = told_targets t ss
@@ -168,8 +168,8 @@ own_traced s es h y z there part before is =
     let d : Deed = record { line = y.line; act = y.act } in
     let last : List PartStep = goes (made y.line y.act) ∷ [] in
     let old : IsTraced p z.func z.args (deeds t h.events) = subst (IsThreadTraced p h.events t) there (h.run.traced t) in
-    let tells : told t before ++ entry_of y ∷ [] ≡ entries_of t es ++ entry_of y ∷ [] = sym (told_append t before last) ∙ (ap (told t) (sym is) ∙ part.tells) in
-    let front : told t before ≡ entries_of t es = same_front (told t before) (entries_of t es) (entry_of y) (entry_of y) tells in
+    let tells : filter_entries t before ++ entry_of y ∷ [] ≡ entries_of t es ++ entry_of y ∷ [] = sym (told_append t before last) ∙ (ap (filter_entries t) (sym is) ∙ part.tells) in
+    let front : filter_entries t before ≡ entries_of t es = same_front (filter_entries t before) (entries_of t es) (entry_of y) (entry_of y) tells in
     let entries : map (entry_of_deed t) (deeds t h.events) ≡ map (entry_of_deed t) (acts (items before)) =
     sym (deeds_told t h.events) ∙ (ap (entries_of t) h.tells ∙ (sym (targets_of t es) ∙ (ap targets (sym front) ∙ told_targets t before))) in
     let whole : IsTrace p z.func z.args (items (before ++ last)) Open =
@@ -245,39 +245,39 @@ drop_whole zero (x ∷ xs) ys h = let bad : ⊥ = omega arith in absurd bad
 drop_whole (suc n) [] ys h = let bad : ⊥ = omega arith in absurd bad
 drop_whole (suc n) (x ∷ xs) ys h = drop_whole n xs ys (omega arith)
 
-pub walk_coming : (p : Source) (plans : Plans) (t : ℕ) (z : Walk) (ss : List PartStep) → Walk.coming (walk_from p plans z ss) ≡ drop (takings (told t ss)) z.coming
+pub walk_coming : (p : Source) (plans : Plans) (t : ℕ) (z : Walk) (ss : List PartStep) → Walk.coming (walk_from p plans z ss) ≡ drop (takings (filter_entries t ss)) z.coming
 walk_coming p plans t z [] = refl
 walk_coming p plans t z (goes (made l begin) ∷ ss) =
     walk_coming p plans t (taking (behind_entry z) z.coming) ss
-    ∙ drop_first (takings (told t ss)) z.coming (Walk.coming (taking (behind_entry z) z.coming)) (taking_coming (behind_entry z) z.coming refl)
+    ∙ drop_first (takings (filter_entries t ss)) z.coming (Walk.coming (taking (behind_entry z) z.coming)) (taking_coming (behind_entry z) z.coming refl)
 walk_coming p plans t z (makes l (cross x v n) ∷ ss) =
     walk_coming p plans t (crossing p plans z z.coming) ss
-    ∙ drop_first (takings (told t ss)) z.coming (Walk.coming (crossing p plans z z.coming)) (crossing_coming p plans z z.coming refl)
-walk_coming p plans t z (goes (made l end) ∷ ss) = walk_coming p plans t (after p plans z (goes (made l end))) ss
-walk_coming p plans t z (goes (made l (trap c)) ∷ ss) = walk_coming p plans t (after p plans z (goes (made l (trap c)))) ss
-walk_coming p plans t z (goes (made l (read x v)) ∷ ss) = walk_coming p plans t (after p plans z (goes (made l (read x v)))) ss
-walk_coming p plans t z (goes (made l (write x v)) ∷ ss) = walk_coming p plans t (after p plans z (goes (made l (write x v)))) ss
-walk_coming p plans t z (goes (made l (lock x)) ∷ ss) = walk_coming p plans t (after p plans z (goes (made l (lock x)))) ss
-walk_coming p plans t z (goes (made l (unlock x)) ∷ ss) = walk_coming p plans t (after p plans z (goes (made l (unlock x)))) ss
-walk_coming p plans t z (goes (made l (down x)) ∷ ss) = walk_coming p plans t (after p plans z (goes (made l (down x)))) ss
-walk_coming p plans t z (goes (made l (up x)) ∷ ss) = walk_coming p plans t (after p plans z (goes (made l (up x)))) ss
-walk_coming p plans t z (goes (made l (spawn c f ws)) ∷ ss) = walk_coming p plans t (after p plans z (goes (made l (spawn c f ws)))) ss
-walk_coming p plans t z (goes (made l (join c)) ∷ ss) = walk_coming p plans t (after p plans z (goes (made l (join c)))) ss
-walk_coming p plans t z (goes (made l (print v)) ∷ ss) = walk_coming p plans t (after p plans z (goes (made l (print v)))) ss
-walk_coming p plans t z (goes (begins l env) ∷ ss) = walk_coming p plans t (after p plans z (goes (begins l env))) ss
-walk_coming p plans t z (goes (done l) ∷ ss) = walk_coming p plans t (after p plans z (goes (done l))) ss
-walk_coming p plans t z (goes (edge l) ∷ ss) = walk_coming p plans t (after p plans z (goes (edge l))) ss
-walk_coming p plans t z (goes (enter f env) ∷ ss) = walk_coming p plans t (after p plans z (goes (enter f env))) ss
-walk_coming p plans t z (goes (out f) ∷ ss) = walk_coming p plans t (after p plans z (goes (out f))) ss
-walk_coming p plans t z (makes l (wait k n) ∷ ss) = walk_coming p plans t (after p plans z (makes l (wait k n))) ss
-walk_coming p plans t z (makes l (enters k c) ∷ ss) = walk_coming p plans t (after p plans z (makes l (enters k c))) ss
-walk_coming p plans t z (makes l (at k ns) ∷ ss) = walk_coming p plans t (after p plans z (makes l (at k ns))) ss
-walk_coming p plans t z (makes l (past k ns) ∷ ss) = walk_coming p plans t (after p plans z (makes l (past k ns))) ss
-walk_coming p plans t z (makes l (post k n) ∷ ss) = walk_coming p plans t (after p plans z (makes l (post k n))) ss
-walk_coming p plans t z (makes l (leave k c) ∷ ss) = walk_coming p plans t (after p plans z (makes l (leave k c))) ss
-walk_coming p plans t z (makes l back ∷ ss) = walk_coming p plans t (after p plans z (makes l back)) ss
-walk_coming p plans t z (makes l (tick x) ∷ ss) = walk_coming p plans t (after p plans z (makes l (tick x))) ss
-walk_coming p plans t z (makes l (blocked what) ∷ ss) = walk_coming p plans t (after p plans z (makes l (blocked what))) ss
+    ∙ drop_first (takings (filter_entries t ss)) z.coming (Walk.coming (crossing p plans z z.coming)) (crossing_coming p plans z z.coming refl)
+walk_coming p plans t z (goes (made l end) ∷ ss) = walk_coming p plans t (walk_behind p plans z (goes (made l end))) ss
+walk_coming p plans t z (goes (made l (trap c)) ∷ ss) = walk_coming p plans t (walk_behind p plans z (goes (made l (trap c)))) ss
+walk_coming p plans t z (goes (made l (read x v)) ∷ ss) = walk_coming p plans t (walk_behind p plans z (goes (made l (read x v)))) ss
+walk_coming p plans t z (goes (made l (write x v)) ∷ ss) = walk_coming p plans t (walk_behind p plans z (goes (made l (write x v)))) ss
+walk_coming p plans t z (goes (made l (lock x)) ∷ ss) = walk_coming p plans t (walk_behind p plans z (goes (made l (lock x)))) ss
+walk_coming p plans t z (goes (made l (unlock x)) ∷ ss) = walk_coming p plans t (walk_behind p plans z (goes (made l (unlock x)))) ss
+walk_coming p plans t z (goes (made l (down x)) ∷ ss) = walk_coming p plans t (walk_behind p plans z (goes (made l (down x)))) ss
+walk_coming p plans t z (goes (made l (up x)) ∷ ss) = walk_coming p plans t (walk_behind p plans z (goes (made l (up x)))) ss
+walk_coming p plans t z (goes (made l (spawn c f ws)) ∷ ss) = walk_coming p plans t (walk_behind p plans z (goes (made l (spawn c f ws)))) ss
+walk_coming p plans t z (goes (made l (join c)) ∷ ss) = walk_coming p plans t (walk_behind p plans z (goes (made l (join c)))) ss
+walk_coming p plans t z (goes (made l (print v)) ∷ ss) = walk_coming p plans t (walk_behind p plans z (goes (made l (print v)))) ss
+walk_coming p plans t z (goes (begins l env) ∷ ss) = walk_coming p plans t (walk_behind p plans z (goes (begins l env))) ss
+walk_coming p plans t z (goes (done l) ∷ ss) = walk_coming p plans t (walk_behind p plans z (goes (done l))) ss
+walk_coming p plans t z (goes (edge l) ∷ ss) = walk_coming p plans t (walk_behind p plans z (goes (edge l))) ss
+walk_coming p plans t z (goes (enter f env) ∷ ss) = walk_coming p plans t (walk_behind p plans z (goes (enter f env))) ss
+walk_coming p plans t z (goes (out f) ∷ ss) = walk_coming p plans t (walk_behind p plans z (goes (out f))) ss
+walk_coming p plans t z (makes l (wait k n) ∷ ss) = walk_coming p plans t (walk_behind p plans z (makes l (wait k n))) ss
+walk_coming p plans t z (makes l (enters k c) ∷ ss) = walk_coming p plans t (walk_behind p plans z (makes l (enters k c))) ss
+walk_coming p plans t z (makes l (at k ns) ∷ ss) = walk_coming p plans t (walk_behind p plans z (makes l (at k ns))) ss
+walk_coming p plans t z (makes l (past k ns) ∷ ss) = walk_coming p plans t (walk_behind p plans z (makes l (past k ns))) ss
+walk_coming p plans t z (makes l (post k n) ∷ ss) = walk_coming p plans t (walk_behind p plans z (makes l (post k n))) ss
+walk_coming p plans t z (makes l (leave k c) ∷ ss) = walk_coming p plans t (walk_behind p plans z (makes l (leave k c))) ss
+walk_coming p plans t z (makes l back ∷ ss) = walk_coming p plans t (walk_behind p plans z (makes l back)) ss
+walk_coming p plans t z (makes l (tick x) ∷ ss) = walk_coming p plans t (walk_behind p plans z (makes l (tick x))) ss
+walk_coming p plans t z (makes l (blocked what) ∷ ss) = walk_coming p plans t (walk_behind p plans z (makes l (blocked what))) ss
 
 -- A thread that ends holds nothing, so the journal says that nobody with its number holds anything
 
@@ -315,8 +315,8 @@ end_free s es h t l z part before is =
     subst (λ ss. IsTrace p z.func z.args (items ss ++ part.ahead) part.outcome) is part.trace in
     let woven : AreWoven p (plans s) (unborn vs) (before ++ last) part.ahead = subst (λ ss. AreWoven p (plans s) (unborn vs) ss part.ahead) is part.woven in
     let none : Walk.held (walk_from p (plans s) (unborn vs) before) ≡ [] = end_holds p (plans s) z.func z.args vs before l part.ahead part.outcome trace woven in
-    let tells : told t before ++ e.End t l ∷ [] ≡ entries_of t es ++ e.End t l ∷ [] = sym (told_append t before last) ∙ (ap (told t) (sym is) ∙ part.tells) in
-    let same : told t before ≡ entries_of t es = same_front (told t before) (entries_of t es) (e.End t l) (e.End t l) tells in
+    let tells : filter_entries t before ++ e.End t l ∷ [] ≡ entries_of t es ++ e.End t l ∷ [] = sym (told_append t before last) ∙ (ap (filter_entries t) (sym is) ∙ part.tells) in
+    let same : filter_entries t before ≡ entries_of t es = same_front (filter_entries t before) (entries_of t es) (e.End t l) (e.End t l) tells in
     let front : IsPart p (plans s) (own s es t z) = record {
       steps = before;
       ahead = made l end ∷ part.ahead;
@@ -325,7 +325,7 @@ end_free s es h t l z part before is =
       woven = woven_front p (plans s) (unborn vs) before last part.ahead woven;
       tells = same;
       taken = walk_coming p (plans s) t (unborn vs) before
-          ∙ drop_all (takings (told t before)) vs (ap takings same ∙ takings_taken s.commands t first_control es);
+          ∙ drop_all (takings (filter_entries t before)) vs (ap takings same ∙ takings_taken s.commands t first_control es);
     } in
     let h' : IsStrict s (es ++ []) = subst (IsStrict s) (sym (append_none es)) h in
     let sound : IsSound (control s.commands es) = sound_along s.commands first_control es (are_said s es [] h') first_sound in
@@ -378,7 +378,7 @@ own_same s es x t z self =
     ∙ ap (λ us. an_own t z.func z.args (versions_of s.commands t (es ++ x ∷ [])) us) (sym (mine t x es self))
 
 pub moved : (p : Source) (plans : Plans) (x : Own) (h : IsPart p plans x) (before : List PartStep) (step : PartStep) (y : Entry) → h.steps ≡ before ++ step ∷ []
-    → told x.thread (step ∷ []) ≡ y ∷ [] → HasMoved p plans x before
+    → filter_entries x.thread (step ∷ []) ≡ y ∷ [] → HasMoved p plans x before
 moved p plans x h before step y is tells = record {
   last = step;
   ahead = h.ahead;
@@ -387,11 +387,11 @@ moved p plans x h before step y is tells = record {
   woven = subst (λ ss. AreWoven p plans (unborn x.versions) ss h.ahead) is h.woven;
   entry = y;
   is = tells;
-  tells = ap (told x.thread) (sym is) ∙ h.tells;
+  tells = ap (filter_entries x.thread) (sym is) ∙ h.tells;
 }
 
 turn_parked : (s : Setting) (es : List Entry) (xs : List Event) (t : ℕ) (x : Entry) (step : PartStep) (m : MayTurn s es xs t x step) → is_thread t (thread_of x) ≡ true
-    → told t (step ∷ []) ≡ x ∷ [] → (o : Option ℕ) → Control.asked (control s.commands es) ≡ o → IsParked s (front_of s es xs) t x o
+    → filter_entries t (step ∷ []) ≡ x ∷ [] → (o : Option ℕ) → Control.asked (control s.commands es) ≡ o → IsParked s (front_of s es xs) t x o
 turn_parked s es xs t x step m self tells None is = tt
 turn_parked s es xs t x step m self tells (Some k) is = (
   (λ some.
@@ -404,7 +404,7 @@ turn_parked s es xs t x step m self tells (Some k) is = (
   (λ b. m.no_begin k is b),
 )
 
-turn_moves : (s : Setting) (es : List Entry) (xs : List Event) (t : ℕ) (x : Entry) (step : PartStep) → MayTurn s es xs t x step → thread_of x ≡ Some t → told t (step ∷ []) ≡ x ∷ []
+turn_moves : (s : Setting) (es : List Entry) (xs : List Event) (t : ℕ) (x : Entry) (step : PartStep) → MayTurn s es xs t x step → thread_of x ≡ Some t → filter_entries t (step ∷ []) ≡ x ∷ []
     → MayMove s (front_of s es xs) t x
 turn_moves s es xs t x step m of tells = record {
   goes_on = m.goes_on;
@@ -434,26 +434,26 @@ pub record BeforeOp (t : ℕ) (ss : List PartStep) (es : List Entry) (l : ℕ) (
   pub before : List PartStep
   pub behind : List PartStep
   pub whole : ss ≡ before ++ makes l o ∷ behind
-  pub same : told t before ≡ es
+  pub same : filter_entries t before ≡ es
 
-op_here : (t m : ℕ) (q : Operation) (l : ℕ) (o : Operation) (ss : List PartStep) → entry_of_operation t m q ∷ told t ss ≡ entry_of_operation t l o ∷ [] → BeforeOp t (makes m q ∷ ss) [] l o
+op_here : (t m : ℕ) (q : Operation) (l : ℕ) (o : Operation) (ss : List PartStep) → entry_of_operation t m q ∷ filter_entries t ss ≡ entry_of_operation t l o ∷ [] → BeforeOp t (makes m q ∷ ss) [] l o
 op_here t m q l o ss h =
     let first : entry_of_operation t m q ≡ entry_of_operation t l o = cc in
     let both = same_op t m l q o first in
     record { before = []; behind = ss; whole = ap (λ n. makes n q ∷ ss) both.0 ∙ ap (λ r. makes l r ∷ ss) both.1; same = refl }
 
-with_mark : (t : ℕ) (s : PartStep) (ss : List PartStep) (es : List Entry) (l : ℕ) (o : Operation) → ((us : List PartStep) → told t (s ∷ us) ≡ told t us) → BeforeOp t ss es l o → BeforeOp t (s ∷ ss) es l o
+with_mark : (t : ℕ) (s : PartStep) (ss : List PartStep) (es : List Entry) (l : ℕ) (o : Operation) → ((us : List PartStep) → filter_entries t (s ∷ us) ≡ filter_entries t us) → BeforeOp t ss es l o → BeforeOp t (s ∷ ss) es l o
 with_mark t s ss es l o skips h = record { before = s ∷ h.before; behind = h.behind; whole = ap (◌∷◌ s) h.whole; same = skips h.before ∙ h.same }
 
-with_told : (t : ℕ) (s : PartStep) (ss : List PartStep) (x y : Entry) (es fs : List Entry) (l : ℕ) (o : Operation) → ((us : List PartStep) → told t (s ∷ us) ≡ x ∷ told t us)
-    → x ∷ told t ss ≡ (y ∷ es) ++ fs → (told t ss ≡ es ++ fs → BeforeOp t ss es l o) → BeforeOp t (s ∷ ss) (y ∷ es) l o
+with_told : (t : ℕ) (s : PartStep) (ss : List PartStep) (x y : Entry) (es fs : List Entry) (l : ℕ) (o : Operation) → ((us : List PartStep) → filter_entries t (s ∷ us) ≡ x ∷ filter_entries t us)
+    → x ∷ filter_entries t ss ≡ (y ∷ es) ++ fs → (filter_entries t ss ≡ es ++ fs → BeforeOp t ss es l o) → BeforeOp t (s ∷ ss) (y ∷ es) l o
 with_told t s ss x y es fs l o tells h go =
     let first : x ≡ y = cc in
-    let others : told t ss ≡ es ++ fs = cc in
+    let others : filter_entries t ss ≡ es ++ fs = cc in
     let c : BeforeOp t ss es l o = go others in
-    record { before = s ∷ c.before; behind = c.behind; whole = ap (◌∷◌ s) c.whole; same = tells c.before ∙ (ap (λ z. z ∷ told t c.before) first ∙ ap (◌∷◌ y) c.same) }
+    record { before = s ∷ c.before; behind = c.behind; whole = ap (◌∷◌ s) c.whole; same = tells c.before ∙ (ap (λ z. z ∷ filter_entries t c.before) first ∙ ap (◌∷◌ y) c.same) }
 
-pub before_op : (t : ℕ) (ss : List PartStep) (es : List Entry) (l : ℕ) (o : Operation) → told t ss ≡ es ++ entry_of_operation t l o ∷ [] → BeforeOp t ss es l o
+pub before_op : (t : ℕ) (ss : List PartStep) (es : List Entry) (l : ℕ) (o : Operation) → filter_entries t ss ≡ es ++ entry_of_operation t l o ∷ [] → BeforeOp t ss es l o
 before_op t [] es l o h = absurd (never_empty es (entry_of_operation t l o) h)
 before_op t (makes m q ∷ ss) [] l o h = op_here t m q l o ss h
 before_op t (goes (made m a) ∷ ss) [] l o h = let first : entry_by t m a ≡ entry_of_operation t l o = cc in absurd (act_is_no_op t m l a o first)
@@ -470,7 +470,7 @@ before_op t (goes (out f) ∷ ss) es l o h = with_mark t (goes (out f)) ss es l 
 pub stands_there : (p : Source) (plans : Plans) (z : Walk) (before : List PartStep) (s : PartStep) (behind : List PartStep) (ahead : List Item) → AreWoven p plans z (before ++ s ∷ behind) ahead
     → MayStand p (walk_from p plans z before) s (items behind ++ ahead)
 stands_there p plans z [] s behind ahead h = h.0
-stands_there p plans z (u ∷ before) s behind ahead h = stands_there p plans (after p plans z u) before s behind ahead h.1
+stands_there p plans z (u ∷ before) s behind ahead h = stands_there p plans (walk_behind p plans z u) before s behind ahead h.1
 
 -- a part with an operation behind it, which takes no version
 record FrontPart (p : Source) (plans : Plans) (x : Own) (l : ℕ) (o : Operation) : Type 0 where
@@ -651,7 +651,7 @@ cross_version p plans t f args vs v es l x n m few h =
     let stands : MayCross p (walk_from p plans (unborn ws) c.before) (items c.behind ++ h.ahead) l x n m =
     stands_there p plans (unborn ws) c.before (makes l (cross x n m)) c.behind h.ahead woven in
     let coming : Walk.coming (walk_from p plans (unborn ws) c.before) ≡ v ∷ [] =
-    walk_coming p plans t (unborn ws) c.before ∙ drop_whole (takings (told t c.before)) vs (v ∷ []) (ap takings c.same ∙ few) in
+    walk_coming p plans t (unborn ws) c.before ∙ drop_whole (takings (filter_entries t c.before)) vs (v ∷ []) (ap takings c.same ∙ few) in
     let same : Some v.number ≡ Some n = ap first_number (sym coming) ∙ stands.version in
     cc
 

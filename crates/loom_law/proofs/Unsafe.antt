@@ -9,7 +9,7 @@ use Rattle.loom_lang.specs.Places.{Place, body_places}
 use Rattle.loom_lang.specs.Places as place
 use Rattle.loom_law.specs.Filter.{statement, function, Range, between, whole, Plan}
 use Rattle.loom_law.specs.FilterView.{FrameView, all_of, all_under_way}
-use Rattle.loom_law.specs.Paths.{Node, links_of, statements, others, has_return, Begins, IsStatement, called_by, Calls, statements_in, statements_of, Reaches, calls, through, places_in, places_of, IsReached, watch_at, IsUnsafeByEvent, Halts, Comes, here, goes, node_places, IsReachedAt, IsUnsafeByPath, IsUnsafeByFunction, IsUnsafe}
+use Rattle.loom_law.specs.Paths.{Node, links_of, statements, others, has_return, Begins, IsStatement, called_by, CallsFunction, statements_in, statements_of, Reaches, calls, through, places_in, places_of, IsReached, watch_at, IsUnsafeByEvent, Halts, Comes, here, goes, node_places, IsReachedAt, IsUnsafeByPath, IsUnsafeByFunction, IsUnsafe}
 use Rattle.loom_law.specs.Paths as path
 use Rattle.loom_law.proofs.Course.{Level, OnFirst, Follows, IsNested, IsLoop, IsCaller, IsCalledFrom, Sub, contains_first, contains_later, no_member, contains_cases}
 use Rattle.loom_law.proofs.Matches.{Watches, none_there}
@@ -249,19 +249,19 @@ own_clear p f x w y well good fit h safe = record {
 -- A place of a function that a call in the frame reaches
 
 abbrev pub ReachedFrom : Source → ℕ → Place → Type 0
-ReachedFrom p h y = (xs : List Body) → Calls p xs h → IsReached p xs y
+ReachedFrom p h y = (xs : List Body) → CallsFunction p xs h → IsReached p xs y
 
 pub reached_first : (p : Source) (h : ℕ) (y : Place) → Contains (places_of p h) y → ReachedFrom p h y
 reached_first p h y there xs c = record { function = h; reached = calls c; there = there }
 
-reaches_on : (p : Source) (xs : List Body) (g h : ℕ) → Calls p xs g → Reaches p (statements_of p g) h → Reaches p xs h
+reaches_on : (p : Source) (xs : List Body) (g h : ℕ) → CallsFunction p xs g → Reaches p (statements_of p g) h → Reaches p xs h
 reaches_on p xs g h c (calls k) = through (calls c) k
 reaches_on p xs g h c (through r k) = through (reaches_on p xs g _ c r) k
 
 reached_on : (p : Source) (g : ℕ) (y : Place) → IsReached p (statements_of p g) y → ReachedFrom p g y
 reached_on p g y r xs c = record { function = r.function; reached = reaches_on p xs g r.function c r.reached; there = r.there }
 
-calls_in_itself : (p : Source) (b : Body) (name : List ℕ) (h : ℕ) → called_by b ≡ Some name → function_number p name ≡ Some h → Calls p (statements b) h
+calls_in_itself : (p : Source) (b : Body) (name : List ℕ) (h : ℕ) → called_by b ≡ Some name → function_number p name ≡ Some h → CallsFunction p (statements b) h
 calls_in_itself p tree.end name h is number = cc
 calls_in_itself p (simple l s rest) name h is number =
     record { statement = simple l s tree.end; there = contains_first (simple l s tree.end) (statements rest); name = name; calls = is; number = number }
@@ -269,13 +269,13 @@ calls_in_itself p (if_ l e a b rest) name h is number = cc
 calls_in_itself p (while_ l e a rest) name h is number = cc
 
 calls_in_each : (p : Source) (os : List Body) (b : Body) (name : List ℕ) (h : ℕ) → called_by b ≡ Some name → function_number p name ≡ Some h → IsNested os b
-    → (o : Body) → Contains os o → Calls p (statements o) h
+    → (o : Body) → Contains os o → CallsFunction p (statements o) h
 calls_in_each p [] b name h is number n o c = absurd (no_member o c)
 calls_in_each p (q ∷ os) b name h is number n o c =
     by_cases (calls_in_each p os b name h is number n.1 o) (contains_cases q o os c)
   where
     R : Body → Type 0
-    R z = Calls p (statements z) h
+    R z = CallsFunction p (statements z) h
 
     by_cases : (Contains os o → R o) → (q ≡ o) ⊎ Contains os o → R o
     by_cases ih (inl e) = subst R e (record { statement = b; there = others_in (statements q) b n.0; name = name; calls = is; number = number })
@@ -283,12 +283,12 @@ calls_in_each p (q ∷ os) b name h is number n o c =
 
 -- the calls that this frame's innermost statement makes: of each open statement, of the function, and alone
 record CallsFrom (p : Source) (g : ℕ) (fn : Function) (os : List Body) (line h : ℕ) : Type 0 where
-  each : (o : Body) → Contains os o → Calls p (statements o) h
-  whole_function : Calls p (statements_of p g) h
+  each : (o : Body) → Contains os o → CallsFunction p (statements o) h
+  whole_function : CallsFunction p (statements_of p g) h
   body : Body
   there : Contains (statements fn.body) body
   begun : Begins body line
-  alone : Calls p (body ∷ []) h
+  alone : CallsFunction p (body ∷ []) h
 
 calls_from : (p : Source) (g : ℕ) (fn : Function) (os : List Body) (line h : ℕ) → slice_get p.funcs g ≡ Some fn → AreOpened fn os
     → OnFirst os (λ b bs. Begins b line × ((name : List ℕ) × ((called_by b ≡ Some name) × (function_number p name ≡ Some h)))) → CallsFrom p g fn os line h
@@ -306,9 +306,9 @@ calls_from p g fn (b ∷ bs) line h is open_ c =
     }
   where
     R : Body → Type 0
-    R z = Calls p (statements z) h
+    R z = CallsFunction p (statements z) h
 
-    by_cases : (o : Body) → (b ≡ o) ⊎ Contains bs o → Calls p (statements o) h
+    by_cases : (o : Body) → (b ≡ o) ⊎ Contains bs o → CallsFunction p (statements o) h
     by_cases o (inl e) = subst R e (calls_in_itself p b c.1.0 h c.1.1.0 c.1.1.1)
     by_cases o (inr k) = calls_in_each p bs b c.1.0 h c.1.1.0 c.1.1.1 open_.1.0 o k
 

@@ -4,7 +4,7 @@ use Rattle.std.specs.List.{filter}
 use Rattle.loom_tree.specs.Tree.{Source}
 use Rattle.loom_lang.specs.Trace.{end, trap, Item, made, begins, done, edge, enter, out}
 use Rattle.loom_law.specs.Filter.{Range, Plan, statement, function, matching, share, entry_events, exit_events, ranges_of}
-use Rattle.loom_law.specs.Walk.{Version, Plans, back, PartStep, goes, makes, Queue, Walk, unborn, after, walk_from}
+use Rattle.loom_law.specs.Walk.{Version, Plans, back, PartStep, goes, makes, Queue, Walk, unborn, walk_behind, walk_from}
 
 -- an open frame: the events under way, of each open statement, the innermost first, and last those of the function itself
 pub record FrameView : Type 0 where
@@ -85,7 +85,7 @@ seen_step f z w (makes l o) = w
 
 abbrev pub seen_from : Source → Plans → Plan → Walk → FilterView → List PartStep → FilterView
 seen_from p plans f z w [] = w
-seen_from p plans f z w (s ∷ ss) = seen_from p plans f (after p plans z s) (seen_step f (after p plans z s) w s) ss
+seen_from p plans f z w (s ∷ ss) = seen_from p plans f (walk_behind p plans z s) (seen_step f (walk_behind p plans z s) w s) ss
 
 -- What it sees behind these steps. Where nothing is owed any more, the events that match there have begun, and a frame that was left is closed.
 abbrev pub view_behind : Source → Plans → Plan → List Version → List PartStep → FilterView

@@ -165,8 +165,8 @@ abbrev pub IsTriggered : Setting → Front → Trigger → Type 0
 IsTriggered s f (at n) = n ≤ thread_entries f.entries
 IsTriggered s f stall = IsStalled s f
 
-abbrev pub over : Setting → Front → Bool
-over s f = is_over s.limit s.stop f.entries
+abbrev pub run_is_over : Setting → Front → Bool
+run_is_over s f = is_over s.limit s.stop f.entries
 
 -- The next command is due: all earlier ones are answered, and its trigger holds. Once the end is chosen none is.
 pub record IsDue (s : Setting) (f : Front) : Type 0 where
@@ -174,7 +174,7 @@ pub record IsDue (s : Setting) (f : Front) : Type 0 where
   pub is : command_at s.commands f.control.next ≡ Some command
   pub answered : f.control.asked ≡ None
   pub not_closing : f.control.closing ≡ false
-  pub runs : over s f ≡ false
+  pub runs : run_is_over s f ≡ false
   pub triggered : IsTriggered s f command.trigger
 
 -- The answers
@@ -236,8 +236,8 @@ pub record MayStall (s : Setting) (f : Front) (k t l : ℕ) : Type 0 where
 abbrev pub Ends : Setting → Front → Ending → Type 0
 Ends s f k.Stopped = is_stopped s.stop f.entries ≡ true
 Ends s f k.Limit = (is_stopped s.stop f.entries ≡ false) × (is_at_limit s.limit f.entries ≡ true)
-Ends s f k.Done = (over s f ≡ false) × (AllEnded f.store × (IsDue s f → ⊥))
-Ends s f k.Stuck = (over s f ≡ false) × (IsStalled s f × (IsDue s f → ⊥))
+Ends s f k.Done = (run_is_over s f ≡ false) × (AllEnded f.store × (IsDue s f → ⊥))
+Ends s f k.Stuck = (run_is_over s f ≡ false) × (IsStalled s f × (IsDue s f → ⊥))
 
 -- the run ends here
 abbrev pub EndsSo : Setting → Front → Type 0
@@ -247,7 +247,7 @@ EndsSo s f = (kind : Ending) × Ends s f kind
 
 -- No thread entry stands behind the end, nor where a command is due, nor where the command that was asked is refused.
 pub record IsOpen (s : Setting) (f : Front) : Type 0 where
-  pub runs : over s f ≡ false
+  pub runs : run_is_over s f ≡ false
   pub not_closing : f.control.closing ≡ false
   pub not_due : IsDue s f → ⊥
   pub not_refused : (k : ℕ) → f.control.asked ≡ Some k → refusal s f.control k ≡ None
@@ -331,10 +331,10 @@ Permits s f _ = Unit {0}
 abbrev pub MayControl : Setting → Front → Entry → List Entry → Type 0
 MayControl s f (e.Asked k) rest = IsDue s f × (k ≡ f.control.next)
 MayControl s f (e.Refused k n c) rest = (f.control.asked ≡ Some k) × (refusal s f.control k ≡ Some (n, c))
-MayControl s f (e.Installed k v row) rest = (over s f ≡ false) × MayInstall s f k v row
-MayControl s f (e.Removed k v row) rest = (over s f ≡ false) × MayRemove s f k v row
-MayControl s f (e.Stalled k t l) rest = (over s f ≡ false) × MayStall s f k t l
-MayControl s f (e.Cut k) rest = (over s f ≡ true) × (f.control.asked ≡ Some k)
+MayControl s f (e.Installed k v row) rest = (run_is_over s f ≡ false) × MayInstall s f k v row
+MayControl s f (e.Removed k v row) rest = (run_is_over s f ≡ false) × MayRemove s f k v row
+MayControl s f (e.Stalled k t l) rest = (run_is_over s f ≡ false) × MayStall s f k t l
+MayControl s f (e.Cut k) rest = (run_is_over s f ≡ true) × (f.control.asked ≡ Some k)
 MayControl s f (e.Unreached k) rest = (f.control.asked ≡ None) × ((k ≡ f.control.next) × ((k ≤ length s.commands) × EndsSo s f))
 MayControl s f (e.Finish kind) rest = (rest ≡ []) × ((f.control.asked ≡ None) × ((length s.commands < f.control.next) × Ends s f kind))
 MayControl s f _ rest = ⊥

@@ -10,7 +10,7 @@ use Rattle.loom_lang.specs.Rules as rules
 use Rattle.loom_lang.specs.Trace.{end, made}
 use Rattle.loom_command.specs.Filter.{Filter}
 use Rattle.loom_law.specs.Filter.{Plan, has, plan_of}
-use Rattle.loom_law.specs.Walk.{Version, Plans, place_number, Operation, leave, entry_of_operation, PartStep, goes, makes, holds, told, filter_of, Owes}
+use Rattle.loom_law.specs.Walk.{Version, Plans, place_number, Operation, leave, entry_of_operation, PartStep, goes, makes, holds, filter_entries, filter_of, Owes}
 use Rattle.loom_law.specs.ThreadPart.{Own, walk_of, IsPart, Point, IsPlaceOf, HasMoved, KeepsAway, IsInside}
 use Rattle.loom_law.specs.FilterView.{IsClear, view_behind}
 use Rattle.loom_law.specs.Paths.{IsUnsafe}
@@ -27,7 +27,7 @@ HasHeldRegions = (p : Source) (plans : Plans) (x : Own) (k c : ℕ) (h : IsInsid
 
 -- the last of these steps tells an entry
 abbrev pub EndsWithEntry : Own → List PartStep → Type 0
-EndsWithEntry x steps = (front : List PartStep) × ((last : PartStep) × ((steps ≡ front ++ last ∷ []) × ((y : Entry) × (told x.thread (last ∷ []) ≡ y ∷ []))))
+EndsWithEntry x steps = (front : List PartStep) × ((last : PartStep) × ((steps ≡ front ++ last ∷ []) × ((y : Entry) × (filter_entries x.thread (last ∷ []) ≡ y ∷ []))))
 
 -- A thread has at most one full part: two whose last steps tell an entry are the same.
 abbrev pub HasOnePart : Type 0
@@ -44,8 +44,8 @@ pub record SameSteps (x : Own) (a b : List PartStep) : Type 0 where
   pub behind' : List PartStep
   pub first : a ≡ made ++ behind
   pub second : b ≡ made ++ behind'
-  pub marks : told x.thread behind ≡ []
-  pub marks' : told x.thread behind' ≡ []
+  pub marks : filter_entries x.thread behind ≡ []
+  pub marks' : filter_entries x.thread behind' ≡ []
 
 abbrev pub HasOneMade : Type 0
 HasOneMade = (p : Source) (plans : Plans) (x : Own) (a b : IsPart p plans x) → SameSteps x a.steps b.steps

@@ -16,11 +16,11 @@ pub data Node : Type 0 where
   turns : ℕ → Node
   leaves : Node
 
-abbrev pub first : Body → Node → Node
-first tree.end behind = behind
-first (simple l s rest) behind = begins l
-first (if_ l e a b rest) behind = begins l
-first (while_ l e a rest) behind = begins l
+abbrev pub first_node : Body → Node → Node
+first_node tree.end behind = behind
+first_node (simple l s rest) behind = begins l
+first_node (if_ l e a b rest) behind = begins l
+first_node (while_ l e a rest) behind = begins l
 
 -- behind a statement: a `return` leaves the function
 abbrev pub behind_simple : Simple Expression → Node → Node
@@ -29,13 +29,13 @@ behind_simple s next = next
 
 abbrev pub links : Body → Node → List (Node × Node)
 links tree.end behind = []
-links (simple l s rest) behind = (begins l, complete l) ∷ (complete l, behind_simple s (first rest behind)) ∷ links rest behind
+links (simple l s rest) behind = (begins l, complete l) ∷ (complete l, behind_simple s (first_node rest behind)) ∷ links rest behind
 links (if_ l e a b rest) behind =
-    (begins l, first a (complete l)) ∷ (begins l, first b (complete l)) ∷ (complete l, first rest behind)
+    (begins l, first_node a (complete l)) ∷ (begins l, first_node b (complete l)) ∷ (complete l, first_node rest behind)
     ∷ (links a (complete l) ++ (links b (complete l) ++ links rest behind))
 links (while_ l e a rest) behind =
-    (begins l, first a (turns l)) ∷ (begins l, complete l) ∷ (turns l, first a (turns l)) ∷ (turns l, complete l)
-    ∷ (complete l, first rest behind) ∷ (links a (turns l) ++ links rest behind)
+    (begins l, first_node a (turns l)) ∷ (begins l, complete l) ∷ (turns l, first_node a (turns l)) ∷ (turns l, complete l)
+    ∷ (complete l, first_node rest behind) ∷ (links a (turns l) ++ links rest behind)
 
 abbrev pub links_of : Function → List (Node × Node)
 links_of f = links f.body leaves
@@ -97,7 +97,7 @@ called_by (simple l s rest) = called s
 called_by b = None
 
 -- one of these statements calls function h
-pub record Calls (p : Source) (xs : List Body) (h : ℕ) : Type 0 where
+pub record CallsFunction (p : Source) (xs : List Body) (h : ℕ) : Type 0 where
   pub statement : Body
   pub there : Contains xs statement
   pub name : List ℕ
@@ -113,8 +113,8 @@ statements_of p g = statements_in (slice_get p.funcs g)
 
 -- calls in these statements reach function h
 pub data Reaches (p : Source) (xs : List Body) : ℕ → Type 0 where
-  calls : {h : ℕ} → Calls p xs h → Reaches p xs h
-  through : {g h : ℕ} → Reaches p xs g → Calls p (statements_of p g) h → Reaches p xs h
+  calls : {h : ℕ} → CallsFunction p xs h → Reaches p xs h
+  through : {g h : ℕ} → Reaches p xs g → CallsFunction p (statements_of p g) h → Reaches p xs h
 
 abbrev pub places_in : ℕ → Option Function → List Place
 places_in g None = []

@@ -7,8 +7,8 @@ use Rattle.loom_lang.specs.Places.{Place}
 use Rattle.loom_lang.specs.Trace.{Item, made, Outcome, Open, IsTrace}
 use Rattle.loom_lang.specs.Acts.{Deed}
 use Rattle.loom_trace.specs.declared.request.Request.{Request}
-use Rattle.loom_event.specs.Answer.{granted, trapped}
-use Rattle.loom_law.specs.Walk.{Version, Plans, Operation, cross, entry_of_operation, PartStep, items, told, Inside, Spot, left, Walk, unborn, all_inside, is_among, walk_from, request_place, place_of_next, AreWoven}
+use Rattle.loom_event.specs.Answer.{grant_deed, trap_deed}
+use Rattle.loom_law.specs.Walk.{Version, Plans, Operation, cross, entry_of_operation, PartStep, items, filter_entries, Inside, Spot, left, Walk, unborn, all_inside, is_inside_clause, walk_from, request_place, place_of_next, AreWoven}
 
 -- what is a thread's own: its number, function and arguments, the versions that it went over to, and its entries
 pub record Own : Type 0 where
@@ -31,7 +31,7 @@ pub record IsPart (p : Source) (plans : Plans) (x : Own) : Type 0 where
   pub outcome : Outcome
   pub trace : IsTrace p x.func x.args (items steps ++ ahead) outcome
   pub woven : AreWoven p plans (unborn x.versions) steps ahead
-  pub tells : told x.thread steps ≡ x.entries
+  pub tells : filter_entries x.thread steps ≡ x.entries
   pub taken : (walk_of p plans x steps).coming ≡ []
 
 -- A point of the full part behind its last entry, with what comes next in the tree: there may be marks between.
@@ -40,7 +40,7 @@ pub record Point (p : Source) (plans : Plans) (x : Own) : Type 0 where
   pub next : Item
   pub trace : IsTrace p x.func x.args (items steps ++ next ∷ []) Open
   pub woven : AreWoven p plans (unborn x.versions) steps (next ∷ [])
-  pub tells : told x.thread steps ≡ x.entries
+  pub tells : filter_entries x.thread steps ≡ x.entries
   pub taken : (walk_of p plans x steps).coming ≡ []
 
 -- The place at this point: that of the mark or the request that comes next. Before any other mark there is none.
@@ -60,8 +60,8 @@ pub record HasMoved (p : Source) (plans : Plans) (x : Own) (before : List PartSt
   pub trace : IsTrace p x.func x.args (items (before ++ last ∷ []) ++ ahead) outcome
   pub woven : AreWoven p plans (unborn x.versions) (before ++ last ∷ []) ahead
   pub entry : Entry
-  pub is : told x.thread (last ∷ []) ≡ entry ∷ []
-  pub tells : told x.thread (before ++ last ∷ []) ≡ x.entries
+  pub is : filter_entries x.thread (last ∷ []) ≡ entry ∷ []
+  pub tells : filter_entries x.thread (before ++ last ∷ []) ≡ x.entries
 
 -- The thread keeps away from such places: since its last entry it passed none of them, and isn't blocked at one.
 pub record KeepsAway (away : Place → Type 0) (z : Walk) : Type 0 where
@@ -75,7 +75,7 @@ leaving (left f is) = is
 leaving _ = []
 
 abbrev pub is_inside : Walk → ℕ → ℕ → Bool
-is_inside z k c = is_among (all_inside z.frames ++ leaving z.spot) k c
+is_inside z k c = is_inside_clause (all_inside z.frames ++ leaving z.spot) k c
 
 pub record IsInside (p : Source) (plans : Plans) (x : Own) (k c : ℕ) : Type 0 where
   pub part : IsPart p plans x
@@ -106,8 +106,8 @@ pub record AsksToAct (p : Source) (plans : Plans) (x : Own) (q : Request) : Type
   pub next : Item
   pub trace : IsTrace p x.func x.args (items steps ++ next ∷ []) Open
   pub woven : AreWoven p plans (unborn x.versions) steps (next ∷ [])
-  pub tells : told x.thread steps ≡ x.entries
+  pub tells : filter_entries x.thread steps ≡ x.entries
   pub taken : (walk_of p plans x steps).coming ≡ []
   pub rests : (walk_of p plans x steps).owed ≡ []
-  pub granted : (v : ℤ) → GoesOn p x steps (granted q v)
-  pub trapped : GoesOn p x steps (trapped q)
+  pub granted : (v : ℤ) → GoesOn p x steps (grant_deed q v)
+  pub trapped : GoesOn p x steps (trap_deed q)

@@ -68,10 +68,10 @@ abbrev pub told_item : ℕ → Item → List Entry → List Entry
 told_item t (made l a) es = entry_by t l a ∷ es
 told_item t _ es = es
 
-abbrev pub told : ℕ → List PartStep → List Entry
-told t [] = []
-told t (goes i ∷ ss) = told_item t i (told t ss)
-told t (makes l o ∷ ss) = entry_of_operation t l o ∷ told t ss
+abbrev pub filter_entries : ℕ → List PartStep → List Entry
+filter_entries t [] = []
+filter_entries t (goes i ∷ ss) = told_item t i (filter_entries t ss)
+filter_entries t (makes l o ∷ ss) = entry_of_operation t l o ∷ filter_entries t ss
 
 -- Where a thread is
 
@@ -158,8 +158,8 @@ owed_at plans hs l site env (k ∷ ks) = owed_by (plans k) k hs l (matching (pla
 -- What is owed behind a statement
 
 -- one of these is a region of the clause
-abbrev pub is_among : List Inside → ℕ → ℕ → Bool
-is_among is k c = list_any (λ (i : Inside). (i.filter == k) && (i.clause == c)) is
+abbrev pub is_inside_clause : List Inside → ℕ → ℕ → Bool
+is_inside_clause is k c = list_any (λ (i : Inside). (i.filter == k) && (i.clause == c)) is
 
 abbrev pub all_inside : List OpenFrame → List Inside
 all_inside fs = flat_map (λ (f : OpenFrame). f.inside) fs
@@ -183,7 +183,7 @@ owed_posts f k l (n ∷ ns) more = if posts f n then (l, post k n) ∷ owed_post
 abbrev pub owed_leaves : List (ℕ × ℕ) → List Inside → ℕ → ℕ → List (ℕ × Ruling) → Queue → Queue
 owed_leaves hs is k l [] more = more
 owed_leaves hs is k l (c ∷ cs) more =
-    if holds hs k c.0 && not (is_among is k c.0) then (l, leave k c.0) ∷ owed_leaves hs is k l cs more else owed_leaves hs is k l cs more
+    if holds hs k c.0 && not (is_inside_clause is k c.0) then (l, leave k c.0) ∷ owed_leaves hs is k l cs more else owed_leaves hs is k l cs more
 
 abbrev pub events_of : ℕ → List (ℕ × List ℕ) → List ℕ
 events_of k [] = []
@@ -244,15 +244,15 @@ with_tick p x n os = if n == tick_after then (line_of_place p x, tick (place_num
 
 -- What comes of each item
 
-abbrev pub opened : ℕ → OpenFrame → OpenFrame
-opened l x = record x { statements = record { line = l; events = [] } ∷ x.statements }
+abbrev pub open_statement : ℕ → OpenFrame → OpenFrame
+open_statement l x = record x { statements = record { line = l; events = [] } ∷ x.statements }
 
 abbrev pub without_first : {A : Type 0} → List A → List A
 without_first [] = []
 without_first (x ∷ xs) = xs
 
-abbrev pub closed : OpenFrame → OpenFrame
-closed x = record x { statements = without_first x.statements }
+abbrev pub close_statement : OpenFrame → OpenFrame
+close_statement x = record x { statements = without_first x.statements }
 
 -- the events that began with the innermost statement
 abbrev pub begun_with : List OpenFrame → List (ℕ × List ℕ)
@@ -280,9 +280,9 @@ after_item p plans z (made l begin) = taking (behind_entry z) z.coming
 after_item p plans z (made l (trap c)) = record z { frames = []; spot = trapped l; owed = owed_trap plans z.held l z.active; passed = []; is_blocked = false }
 after_item p plans z (made l a) = behind_entry z
 after_item p plans z (begins l env) =
-    record z { frames = in_frame (opened l) z.frames; spot = beginning l env; owed = owed_at plans z.held l (statement l) env z.active }
+    record z { frames = in_frame (open_statement l) z.frames; spot = beginning l env; owed = owed_at plans z.held l (statement l) env z.active }
 after_item p plans z (done l) =
-    record z { frames = in_frame closed z.frames; spot = complete l; owed = owed_behind plans z.held z.frames l (begun_with z.frames) z.active }
+    record z { frames = in_frame close_statement z.frames; spot = complete l; owed = owed_behind plans z.held z.frames l (begun_with z.frames) z.active }
 after_item p plans z (edge l) =
     record z { passed = place.back_edge l ∷ z.passed; spot = elsewhere; owed = with_tick p (place.back_edge l) (suc (length z.passed)) [] }
 after_item p plans z (enter f env) =
@@ -310,13 +310,13 @@ entered_ranges k ns c (x ∷ xs) =
 abbrev pub entered_regions : Plan → ℕ → List ℕ → List Inside
 entered_regions f k ns = flat_map (λ (c : ℕ × Ruling). entered_ranges k ns c.0 (ranges_of c.1)) (clauses f)
 
-abbrev pub noted : ℕ → List ℕ → List OpenStatement → List OpenStatement
-noted k ns [] = []
-noted k ns (s ∷ ss) = record s { events = (k, ns) ∷ s.events } ∷ ss
+abbrev pub note_events : ℕ → List ℕ → List OpenStatement → List OpenStatement
+note_events k ns [] = []
+note_events k ns (s ∷ ss) = record s { events = (k, ns) ∷ s.events } ∷ ss
 
 -- an event of a statement is noted with it; that of a function has no completion
 abbrev pub noted_at : Spot → ℕ → List ℕ → OpenFrame → OpenFrame
-noted_at (beginning l env) k ns x = record x { statements = noted k ns x.statements }
+noted_at (beginning l env) k ns x = record x { statements = note_events k ns x.statements }
 noted_at _ k ns x = x
 
 abbrev pub begun_at : Plan → Spot → ℕ → List ℕ → OpenFrame → OpenFrame
@@ -405,13 +405,13 @@ after_operation p plans z (tick x) = made_one z
 after_operation p plans z (cross x v n) = crossing p plans z z.coming
 after_operation p plans z (blocked what) = record z { passed = []; is_blocked = true }
 
-abbrev pub after : Source → Plans → Walk → PartStep → Walk
-after p plans z (goes i) = after_item p plans z i
-after p plans z (makes l o) = after_operation p plans z o
+abbrev pub walk_behind : Source → Plans → Walk → PartStep → Walk
+walk_behind p plans z (goes i) = after_item p plans z i
+walk_behind p plans z (makes l o) = after_operation p plans z o
 
 abbrev pub walk_from : Source → Plans → Walk → List PartStep → Walk
 walk_from p plans z [] = z
-walk_from p plans z (s ∷ ss) = walk_from p plans (after p plans z s) ss
+walk_from p plans z (s ∷ ss) = walk_from p plans (walk_behind p plans z s) ss
 
 -- What comes next
 
@@ -505,4 +505,4 @@ MayStand p z (makes l o) rest = Owes z.owed l o
 -- Each step stands rightly behind those before it. `ahead` is what the tree gives behind the last one.
 abbrev pub AreWoven : Source → Plans → Walk → List PartStep → List Item → Type 0
 AreWoven p plans z [] ahead = Unit {0}
-AreWoven p plans z (s ∷ ss) ahead = MayStand p z s (items ss ++ ahead) × AreWoven p plans (after p plans z s) ss ahead
+AreWoven p plans z (s ∷ ss) ahead = MayStand p z s (items ss ++ ahead) × AreWoven p plans (walk_behind p plans z s) ss ahead

@@ -6,9 +6,9 @@ use Rattle.loom_lang.specs.Trace.{Act, trap}
 use Rattle.loom_lang.specs.Acts.{Deed}
 use Rattle.loom_event.specs.Event.{Event, event_of_deed}
 use Rattle.loom_event.specs.Replay.{Store, IsAllowed, after_act, after_event, replay, AreAllowed}
-use Rattle.loom_event.specs.Answer.{trapped, IsAnswered}
+use Rattle.loom_event.specs.Answer.{trap_deed, IsAnswered}
 use Rattle.loom_store.specs.declared.answer.Answer.TheVariants as a
-use Rattle.loom_store.specs.Answer.{Does, done, IsGranted, HasReason, IsTrap, IsTrapped, deed_of}
+use Rattle.loom_store.specs.Answer.{Does, given_deed, IsGranted, HasReason, IsTrap, IsTrapped, deed_of}
 use Rattle.loom_store.specs.Laws.{LeadsTo, HasDeeds, deed_events, HasReplays}
 
 does_leads : (s : Store) (t : ℕ) (q : Request) (o : Option Deed) (new : Store) → Does s t o new → ((d : Deed) → o ≡ Some d → IsAnswered q d) → LeadsTo s t q o new
@@ -16,13 +16,13 @@ does_leads s t q None new h f = absurd h
 does_leads s t q (Some d) new h f = (f d refl, h)
 
 -- what is done answers the request
-done_answers : (q : Request) (v : ℤ) (d : Deed) → done q v ≡ Some d → IsAnswered q d
+done_answers : (q : Request) (v : ℤ) (d : Deed) → given_deed q v ≡ Some d → IsAnswered q d
 done_answers (r.Trap l n) v d h = inr h
 done_answers q v d h = inl (v, h)
 
-granted_leads : (s : Store) (t : ℕ) (q : Request) (v : ℤ) (new : Store) → IsGranted s t q v new → LeadsTo s t q (done q v) new
+granted_leads : (s : Store) (t : ℕ) (q : Request) (v : ℤ) (new : Store) → IsGranted s t q v new → LeadsTo s t q (given_deed q v) new
 granted_leads s t (r.Tick l k) v new h = h
-granted_leads s t q v new h = does_leads s t q (done q v) new h (done_answers q v)
+granted_leads s t q v new h = does_leads s t q (given_deed q v) new h (done_answers q v)
 
 behind_trap : (s : Store) (t : ℕ) (d : Deed) (n : ℕ) → HasReason d.act n → after_event s (event_of_deed t d) ≡ s
 behind_trap s t d n h = by_act d.act h
@@ -36,14 +36,14 @@ trap_leads : (s : Store) (t : ℕ) (q : Request) (o : Option Deed) (n : ℕ) (ne
 trap_leads s t q None n new h is f = absurd h
 trap_leads s t q (Some d) n new h is f = (f d refl, (h.1, is ∙ sym (behind_trap s t d n h.0)))
 
-trap_of : (s : Store) (t : ℕ) (q : Request) (n : ℕ) → IsTrapped s t q n → IsTrap s t (trapped q) n
+trap_of : (s : Store) (t : ℕ) (q : Request) (n : ℕ) → IsTrapped s t q n → IsTrap s t (trap_deed q) n
 trap_of s t (r.Trap l k) n h = absurd h
 trap_of s t q n h = h
 
 pub deeds : HasDeeds
 deeds s t q (a.Granted v) new h = granted_leads s t q v new h.1
 deeds s t q (a.Disabled what) new h = h.1.1
-deeds s t q (a.Trapped n) new h = trap_leads s t q (trapped q) n new (trap_of s t q n h.0) h.1 (λ d is. inr is)
+deeds s t q (a.Trapped n) new h = trap_leads s t q (trap_deed q) n new (trap_of s t q n h.0) h.1 (λ d is. inr is)
 
 -- One event more
 

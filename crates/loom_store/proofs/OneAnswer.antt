@@ -8,7 +8,7 @@ use Rattle.loom_lang.specs.Trace.{trap, reason}
 use Rattle.loom_lang.specs.Acts.{Deed}
 use Rattle.loom_syntax.specs.File.{sema_limit}
 use Rattle.loom_event.specs.Replay.{ThreadState, Store, thread_at, IsRunning, IsDisabled}
-use Rattle.loom_event.specs.Answer.{asks_begin, trapped, request_for}
+use Rattle.loom_event.specs.Answer.{asks_begin, trap_deed, request_for}
 use Rattle.loom_store.specs.declared.answer.Answer.TheVariants as a
 use Rattle.loom_store.specs.Answer.{IsGiven, IsGranted, IsTrap, IsTrapped}
 use Rattle.loom_store.specs.Laws.{HasOneAnswer, HasExactWaits, is_own_trap, HasExactTraps}
@@ -128,16 +128,16 @@ one_answer s t q (a.Trapped n) (a.Trapped m) new other h k = ap a.Trapped (one_r
 pub exact_waits : HasExactWaits
 exact_waits s t q x new h l what is d = one_answer s t q x (a.Disabled what) new s h ((l, is), (d, refl))
 
-trapped_by : (s : Store) (t : ℕ) (q : Request) (n : ℕ) → is_own_trap q ≡ false → IsTrap s t (trapped q) n → IsTrapped s t q n
+trapped_by : (s : Store) (t : ℕ) (q : Request) (n : ℕ) → is_own_trap q ≡ false → IsTrap s t (trap_deed q) n → IsTrapped s t q n
 trapped_by s t (r.Trap l k) n own h = cc
 trapped_by s t q n own h = h
 
-no_begin : (q : Request) (d : Deed) → trapped q ≡ Some d → asks_begin q ≡ false
+no_begin : (q : Request) (d : Deed) → trap_deed q ≡ Some d → asks_begin q ≡ false
 no_begin (r.Begin l) d h = cc
 no_begin q d h = refl
 
 pub exact_traps : HasExactTraps
 exact_traps s t q x new may h own l c is caused =
     let runs : IsRunning s t = running s t q (no_begin q (record { line = l; act = trap c }) is) may in
-    let told : IsTrap s t (trapped q) (reason c) = subst (λ o. IsTrap s t o (reason c)) (sym is) (refl, (runs, caused)) in
+    let told : IsTrap s t (trap_deed q) (reason c) = subst (λ o. IsTrap s t o (reason c)) (sym is) (refl, (runs, caused)) in
     one_answer s t q x (a.Trapped (reason c)) new s h (trapped_by s t q (reason c) own told, refl)

@@ -6,7 +6,7 @@ use Rattle.std.proofs.lemmas.Option.{slice_get_within, slice_get-get_or}
 use Rattle.loom_tree.specs.declared.item.Word.{Word}
 use Rattle.loom_tree.specs.declared.item.Sema.{Sema}
 use Rattle.loom_tree.specs.Tree.{Source}
-use Rattle.loom_lang.specs.Rules.{cells_of, cell_count}
+use Rattle.loom_lang.specs.Rules.{cells_in, cell_count}
 use Rattle.loom_lang.specs.Trace.{Act, begin, end, trap, read, write, lock, unlock, down, up, spawn, join, print}
 use Rattle.loom_trace.specs.declared.entry.What.TheVariants as w
 use Rattle.loom_trace.specs.declared.request.Request.TheVariants as r
@@ -88,7 +88,7 @@ lasting_waits s xs (w.Wait k n) can = can
 
 -- The program's numbers
 
-many_values : (x : Word) (c : Option ℕ) → x.cells ≡ c → length (first_values x.cells x.first) ≡ cells_of x
+many_values : (x : Word) (c : Option ℕ) → x.cells ≡ c → length (first_values x.cells x.first) ≡ cells_in x
 many_values x None is = rw is refl
 many_values x (Some n) is = rw is (length-replicate n x.first)
 
@@ -96,7 +96,7 @@ many_cells : (ws : List Word) → length (flat_map (λ (x : Word). first_values 
 many_cells [] = refl
 many_cells (x ∷ ws) =
     let rest : List ℤ = flat_map (λ (x : Word). first_values x.cells x.first) ws in
-    length-append (first_values x.cells x.first) rest ∙ ap (λ z. z + length rest) (many_values x x.cells refl) ∙ ap (λ z. cells_of x + z) (many_cells ws)
+    length-append (first_values x.cells x.first) rest ∙ ap (λ z. z + length rest) (many_values x x.cells refl) ∙ ap (λ z. cells_in x + z) (many_cells ws)
 
 words_of : (p : Source) (most : ℕ) (xs : List Event) → length (Store.words (replay (start p most) xs)) ≡ cell_count p.words
 words_of p most xs = HasSizes.words (replay_sizes (start p most) xs) ∙ many_cells p.words

@@ -8,7 +8,7 @@ use Rattle.loom_trace.specs.declared.request.Request.{Request}
 use Rattle.loom_trace.specs.declared.request.Request.TheVariants as r
 use Rattle.loom_event.specs.Event.{event_of_deed}
 use Rattle.loom_event.specs.Replay.{ThreadState, Store, thread_at, IsAllowed, after_event, IsDisabled}
-use Rattle.loom_event.specs.Answer.{asks_begin, granted, trapped, request_for}
+use Rattle.loom_event.specs.Answer.{asks_begin, grant_deed, trap_deed, request_for}
 use Rattle.loom_store.specs.declared.answer.Answer.{Answer}
 use Rattle.loom_store.specs.declared.answer.Answer.TheVariants as a
 
@@ -54,14 +54,14 @@ IsGiven (r.Spawn l f vs) v = Unit {0}
 IsGiven q v = v ≡ pos 0
 
 -- what is done where a request is granted: its act, or the thread's own trap
-abbrev pub done : Request → ℤ → Option Deed
-done (r.Trap l n) v = trapped (r.Trap l n)
-done q v = granted q v
+abbrev pub given_deed : Request → ℤ → Option Deed
+given_deed (r.Trap l n) v = trap_deed (r.Trap l n)
+given_deed q v = grant_deed q v
 
 -- A request is granted with this value. A tick is no act.
 abbrev pub IsGranted : Store → ℕ → Request → ℤ → Store → Type 0
 IsGranted old t (r.Tick l k) v new = new ≡ old
-IsGranted old t q v new = Does old t (done q v) new
+IsGranted old t q v new = Does old t (given_deed q v) new
 
 -- the deed is a trap of this reason
 abbrev pub HasReason : Act → ℕ → Type 0
@@ -76,7 +76,7 @@ IsTrap s t (Some d) n = HasReason d.act n × IsAllowed s (event_of_deed t d)
 -- A trap of the store stands in the request's place.
 abbrev pub IsTrapped : Store → ℕ → Request → ℕ → Type 0
 IsTrapped s t (r.Trap l k) n = ⊥
-IsTrapped s t q n = IsTrap s t (trapped q) n
+IsTrapped s t q n = IsTrap s t (trap_deed q) n
 
 -- Where a request isn't granted, the store stays as it was.
 abbrev pub Answers : Store → ℕ → Request → Answer → Store → Type 0
@@ -86,6 +86,6 @@ Answers old t q (a.Trapped n) new = IsTrapped old t q n × (new ≡ old)
 
 -- What an answer makes the thread do: the request's act, or a trap. A tick is no deed, and a thread that waits does nothing.
 abbrev pub deed_of : Request → Answer → Option Deed
-deed_of q (a.Granted v) = done q v
+deed_of q (a.Granted v) = given_deed q v
 deed_of q (a.Disabled what) = None
-deed_of q (a.Trapped n) = trapped q
+deed_of q (a.Trapped n) = trap_deed q

@@ -8,7 +8,7 @@ use Rattle.loom_lang.specs.Trace.{Cause, trap, reason}
 use Rattle.loom_lang.specs.Acts.{Deed}
 use Rattle.loom_event.specs.Event.{Event, event_of_deed}
 use Rattle.loom_event.specs.Replay.{Store, start, IsAllowed, after_event, replay, AreAllowed, IsCaused, IsDisabled}
-use Rattle.loom_event.specs.Answer.{deed, trapped, HasNumbers, IsAnswered, request_for}
+use Rattle.loom_event.specs.Answer.{deed, trap_deed, HasNumbers, IsAnswered, request_for}
 use Rattle.loom_store.specs.declared.answer.Answer.{Answer}
 use Rattle.loom_store.specs.declared.answer.Answer.TheVariants as a
 use Rattle.loom_store.specs.Answer.{MayAsk, CanAnswer, CanWait, Answers, deed_of}
@@ -32,7 +32,7 @@ is_own_trap _ = false
 -- Where a trap of the store may stand in the request's place, and has its cause, it is the answer.
 abbrev pub HasExactTraps : Type 0
 HasExactTraps = (s : Store) (t : ℕ) (q : Request) (x : Answer) (new : Store) → MayAsk s t q → Answers s t q x new → is_own_trap q ≡ false
-    → (l : ℕ) (c : Cause) → trapped q ≡ deed l (trap c) → IsCaused s t c → x ≡ a.Trapped (reason c)
+    → (l : ℕ) (c : Cause) → trap_deed q ≡ deed l (trap c) → IsCaused s t c → x ≡ a.Trapped (reason c)
 
 -- What an answer leaves
 

@@ -3,7 +3,7 @@ ghost use Rattle.std.specs.Prelude.{◌≡◌, ◌≤◌, ◌+◌, ◌++◌, map
 ghost use Rattle.loom_tree.specs.declared.item.Word as word;
 ghost use Rattle.loom_tree.specs.declared.item.Sema as sema;
 ghost use Rattle.loom_lang.specs.Limits.{cell_limit};
-ghost use Rattle.loom_lang.specs.Rules.{cells_of, cell_count};
+ghost use Rattle.loom_lang.specs.Rules.{cells_in, cell_count};
 ghost use Rattle.loom_event.specs.Replay.{first_values, nobody};
 
 use loom_lang::limits::CELL_LIMIT;
@@ -13,7 +13,7 @@ use std::alloc::Global;
 
 // Appends a word's cells.
 fn put_cells(values: &mut Vec<i64>, word: &Word) -> Result<(), NoMemory>
-    requires few { length values.old.items + cells_of word.now ≤ cell_limit }
+    requires few { length values.old.items + cells_in word.now ≤ cell_limit }
     ensures { OnOk result (values.new.items ≡ values.old.items ++ first_values word.now.cells word.now.first) }
 {
     match word.cells {

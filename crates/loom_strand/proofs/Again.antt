@@ -14,14 +14,14 @@ use Rattle.loom_trace.specs.declared.request.Request.{Request}
 use Rattle.loom_trace.specs.declared.request.Request.TheVariants as r
 use Rattle.loom_lang.specs.Acts.{Deed}
 use Rattle.loom_event.specs.Event.{entry_by}
-use Rattle.loom_event.specs.Answer.{granted, trapped, IsEntryOf, IsGrantOf, IsAnswerTo, IsBlockedFor}
+use Rattle.loom_event.specs.Answer.{grant_deed, trap_deed, IsEntryOf, IsGrantOf, IsAnswerTo, IsBlockedFor}
 use Rattle.loom_law.specs.Walk.{Plans, Queue, Walk, Acts, AsksFor}
 use Rattle.loom_law.specs.ThreadPart.{Own, IsPart, AsksToAct}
 use Rattle.loom_law.specs.TurnLaws.{is_blocked_entry, blocked_behind, ends_blocked}
 use Rattle.loom_law.proofs.SameRequest.{same_request}
 use Rattle.loom_strand.specs.PositionRequest.{question_request}
 use Rattle.loom_strand.specs.declared.reply.Reply.TheVariants as a
-use Rattle.loom_strand.specs.Reply.{reply_of, still_wanted}
+use Rattle.loom_strand.specs.Reply.{reply_of, want_behind}
 use Rattle.loom_strand.specs.Life.{is_end, has_none, versions_with, IsLastBlockedFor}
 use Rattle.loom_strand.specs.Strand.{AsksNext, IsReplyTo}
 use Rattle.loom_strand.proofs.GoesOn.{IsGrant}
@@ -64,8 +64,8 @@ grant_answers t _ x h = inl h
 
 pub answer_free : (t : ℕ) (q : Request) (x : Entry) → IsAnswerTo t q x → is_blocked_entry x ≡ false
 answer_free t (r.Tick l k) x h = ap is_blocked_entry h
-answer_free t q x (inl h) = deed_free t (granted q h.0) x h.1
-answer_free t q x (inr h) = deed_free t (trapped q) x h
+answer_free t q x (inl h) = deed_free t (grant_deed q h.0) x h.1
+answer_free t q x (inr h) = deed_free t (trap_deed q) x h
 
 -- Behind an answer the last entry isn't `Blocked`.
 pub answer_last : (t : ℕ) (q : Request) (es us : List Entry) (x : Entry) → us ≡ es ++ x ∷ [] → IsAnswerTo t q x → ends_blocked us ≡ false
@@ -106,12 +106,12 @@ pub blocked_waits : (x : Entry) → is_blocked_entry x ≡ true → reply_of x �
 blocked_waits (e.Blocked t l what) h = refl
 blocked_waits _ h = cc
 
-pub blocked_wanted : (x : Entry) (wanted : Option Request) → is_blocked_entry x ≡ true → still_wanted (reply_of x) wanted ≡ wanted
-blocked_wanted x wanted h = ap (λ y. still_wanted y wanted) (blocked_waits x h)
+pub blocked_want : (x : Entry) (want : Option Request) → is_blocked_entry x ≡ true → want_behind (reply_of x) want ≡ want
+blocked_want x want h = ap (λ y. want_behind y want) (blocked_waits x h)
 
-pub free_wanted : (x : Entry) (wanted : Option Request) → is_blocked_entry x ≡ false → still_wanted (reply_of x) wanted ≡ None
-free_wanted (e.Blocked t l what) wanted h = cc
-free_wanted _ wanted h = refl
+pub free_wanted : (x : Entry) (want : Option Request) → is_blocked_entry x ≡ false → want_behind (reply_of x) want ≡ None
+free_wanted (e.Blocked t l what) want h = cc
+free_wanted _ want h = refl
 
 -- A request that is disabled
 

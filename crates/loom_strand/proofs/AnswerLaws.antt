@@ -31,7 +31,7 @@ use Rattle.loom_strand.specs.declared.reply.Reply.{Reply}
 use Rattle.loom_strand.specs.declared.reply.Reply.TheVariants as a
 use Rattle.loom_strand.specs.Machine.{Machine, position_in, position, with_position, HasPlaceHere, TakesAnswer}
 use Rattle.loom_strand.specs.PositionRequest.{question_request, request_at}
-use Rattle.loom_strand.specs.Reply.{reply_of, still_wanted, IsAsking, CanFollow, BeginsAt, Follows}
+use Rattle.loom_strand.specs.Reply.{reply_of, want_behind, IsAsking, CanFollow, BeginsAt, Follows}
 use Rattle.loom_strand.specs.Life.{is_end}
 use Rattle.loom_strand.specs.Strand.{Strand, IsStarted, IsReplyTo}
 use Rattle.loom_strand.specs.PlainWalk.{IsPlainWalk}
@@ -42,7 +42,7 @@ use Rattle.loom_strand.proofs.Soundness.{Keeps, keeps, sound_start}
 use Rattle.loom_strand.proofs.Room.{room_at, locals_at}
 use Rattle.loom_strand.proofs.RunSteps.{with_position_at, with_position_room}
 use Rattle.loom_strand.proofs.Parts.{some_more, last_ends}
-use Rattle.loom_strand.proofs.Again.{last_blocked, act_free, grant_answers, answer_free, blocked_waits, blocked_wanted, free_wanted, blocked_told, no_begin_blocked, IsGrantBehind, grants_behind}
+use Rattle.loom_strand.proofs.Again.{last_blocked, act_free, grant_answers, answer_free, blocked_waits, blocked_want, free_wanted, blocked_told, no_begin_blocked, IsGrantBehind, grants_behind}
 use Rattle.loom_strand.proofs.Entrances.{has_entrance, entrance_within}
 use Rattle.loom_strand.proofs.RequestLaws.{no_request, only_begin}
 
@@ -50,19 +50,19 @@ use Rattle.loom_strand.proofs.RequestLaws.{no_request, only_begin}
 
 -- the thread with these entries, and this request
 abbrev pub with_entries : Strand → List Entry → Option Request → ℕ → Machine → Stage → ℕ → Strand
-with_entries s es wanted limit m st k = record {
+with_entries s es want limit m st k = record {
   program = s.program;
   thread = s.thread;
   limit = limit;
   birth = s.birth;
   entries = es;
-  wanted = wanted;
+  want = want;
   execution = record { stage = st; passed = k; machine = m };
 }
 
 -- with one entry more
 abbrev pub after : Strand → Entry → Option Request → Machine → Stage → ℕ → Strand
-after s x wanted m st k = with_entries s (s.entries ++ x ∷ []) wanted s.limit m st k
+after s x want m st k = with_entries s (s.entries ++ x ∷ []) want s.limit m st k
 
 idle_now : (n : ℕ) → n < tick_after → AsksNothing None [] n
 idle_now n h = (refl, refl, h)
@@ -86,9 +86,9 @@ begun_running p l t b es g en none there params place = record {
 }
 
 -- a tick
-ticked_running : (p : Source) (t : ℕ) (b : Birth) (es : List Entry) (wanted : Option Request) (line place n : ℕ) (z : Position) → (h : RunningInvariant p t b es wanted n z) → h.owed ≡ (line, tick place) ∷ []
+ticked_running : (p : Source) (t : ℕ) (b : Birth) (es : List Entry) (want : Option Request) (line place n : ℕ) (z : Position) → (h : RunningInvariant p t b es want n z) → h.owed ≡ (line, tick place) ∷ []
     → RunningInvariant p t b (es ++ e.Tick t line place ∷ []) None 0 z
-ticked_running p t b es wanted line place n z h owed = record {
+ticked_running p t b es want line place n z h owed = record {
   function = h.function;
   steps = h.steps ++ makes line (tick place) ∷ [];
   owed = [];
@@ -122,14 +122,14 @@ acted_running p t b es steps line act x y function goes_with made_so lives sound
 }
 
 -- the walk of a thread that owes nothing, with an act
-act_walk : (p : Source) (t : ℕ) (b : Birth) (es : List Entry) (wanted : Option Request) (n line : ℕ) (act : Act) (z : Position) → (h : RunningInvariant p t b es wanted n z) → h.owed ≡ []
+act_walk : (p : Source) (t : ℕ) (b : Birth) (es : List Entry) (want : Option Request) (n line : ℕ) (act : Act) (z : Position) → (h : RunningInvariant p t b es want n z) → h.owed ≡ []
     → is_begin_act act ≡ false → IsPlainWalk p t (h.steps ++ walk.goes (made line act) ∷ []) (es ++ entry_by t line act ∷ []) [] 0
-act_walk p t b es wanted n line act z h owed other = walk_act p t h.steps es n line act other (subst (λ os. IsPlainWalk p t h.steps es os n) owed h.walk)
+act_walk p t b es want n line act z h owed other = walk_act p t h.steps es n line act other (subst (λ os. IsPlainWalk p t h.steps es os n) owed h.walk)
 
 -- its end
-ended_over : (p : Source) → KeepsRules p → (t : ℕ) (b : Birth) (es : List Entry) (wanted : Option Request) (n : ℕ) (z : Position) → (h : RunningInvariant p t b es wanted n z) → h.owed ≡ []
+ended_over : (p : Source) → KeepsRules p → (t : ℕ) (b : Birth) (es : List Entry) (want : Option Request) (n : ℕ) (z : Position) → (h : RunningInvariant p t b es want n z) → h.owed ≡ []
     → progress (lowered p) z ≡ ends → EndInvariant p t b (es ++ e.End t (end_line p b.func) ∷ []) None
-ended_over p l t b es wanted n z h owed at = record {
+ended_over p l t b es want n z h owed at = record {
   steps = h.steps ++ walk.goes (made (end_line p b.func) end) ∷ [];
   owed = [];
   passed = 0;
@@ -156,16 +156,16 @@ record IsNext (s : Strand) (b : Birth) (x : Entry) (m : Machine) (st : Stage) (k
 follows_as : (s : Strand) (b : Birth) (x : Entry) (m : Machine) (st : Stage) (k : ℕ) (y : Reply) → IsNext s b x m st k → reply_of x ≡ Some y → Follows (lowered s.program) s.execution.machine m b y st k
 follows_as s b x m st k y g is = subst (λ z. HasFollowed (lowered s.program) s.execution.machine m b z st k) is g.follows
 
-kept_at : (s : Strand) (b : Birth) (x : Entry) (wanted : Option Request) (m : Machine) (st : Stage) (k n : ℕ) (y : Position) → KeepsRules s.program → s.birth ≡ Some b → HasRoom (lowered s.program) m
+kept_at : (s : Strand) (b : Birth) (x : Entry) (want : Option Request) (m : Machine) (st : Stage) (k n : ℕ) (y : Position) → KeepsRules s.program → s.birth ≡ Some b → HasRoom (lowered s.program) m
     → st ≡ stage.Runs → k ≡ n → position m ≡ y
-    → RunningInvariant s.program s.thread b (s.entries ++ x ∷ []) wanted n y ⊎ AsksAgain s.program s.thread b (s.entries ++ x ∷ []) wanted n y → StrandInvariant (after s x wanted m st k)
-kept_at s b x wanted m st k n y lawful birth room is count at h =
-    subst (λ z. StrandInvariant (after s x wanted m z k)) (sym is) (subst (λ z. StrandInvariant (after s x wanted m stage.Runs z)) (sym count) (record {
+    → RunningInvariant s.program s.thread b (s.entries ++ x ∷ []) want n y ⊎ AsksAgain s.program s.thread b (s.entries ++ x ∷ []) want n y → StrandInvariant (after s x want m st k)
+kept_at s b x want m st k n y lawful birth room is count at h =
+    subst (λ z. StrandInvariant (after s x want m z k)) (sym is) (subst (λ z. StrandInvariant (after s x want m stage.Runs z)) (sym count) (record {
       lawful = lawful;
       room = room;
       blank = tt;
-      stage = subst (StageInvariant stage.Runs (after s x wanted m stage.Runs n)) (sym birth)
-          (subst (λ z. RunningInvariant s.program s.thread b (s.entries ++ x ∷ []) wanted n z ⊎ AsksAgain s.program s.thread b (s.entries ++ x ∷ []) wanted n z) (sym at) h);
+      stage = subst (StageInvariant stage.Runs (after s x want m stage.Runs n)) (sym birth)
+          (subst (λ z. RunningInvariant s.program s.thread b (s.entries ++ x ∷ []) want n z ⊎ AsksAgain s.program s.thread b (s.entries ++ x ∷ []) want n z) (sym at) h);
     }))
 
 kept_running : (s : Strand) (b : Birth) (x : Entry) (m : Machine) (st : Stage) (k n : ℕ) (y : Position) → KeepsRules s.program → s.birth ≡ Some b → HasRoom (lowered s.program) m → st ≡ stage.Runs → k ≡ n
@@ -200,24 +200,24 @@ waits_kept s b q x m st k g answered h =
     (subst (λ y. RunningInvariant s.program s.thread b (s.entries ++ y ∷ []) None 1 (before (at_start b.func there.0 b.args [] []))) (sym is)
     (begun_running s.program g.lawful s.thread b s.entries h.function.0 there.0 h.none h.function.1 h.function.2 there.1))
 
-tick_kept : (s : Strand) (b : Birth) (line place : ℕ) (x : Entry) (m : Machine) (st : Stage) (k : ℕ) (wanted : Option Request) → IsNext s b x m st k → x ≡ e.Tick s.thread line place
-    → (h : RunningInvariant s.program s.thread b s.entries wanted s.execution.passed (position s.execution.machine)) → h.owed ≡ (line, tick place) ∷ [] → StrandInvariant (after s x None m st k)
-tick_kept s b line place x m st k wanted g is h owed =
+tick_kept : (s : Strand) (b : Birth) (line place : ℕ) (x : Entry) (m : Machine) (st : Stage) (k : ℕ) (want : Option Request) → IsNext s b x m st k → x ≡ e.Tick s.thread line place
+    → (h : RunningInvariant s.program s.thread b s.entries want s.execution.passed (position s.execution.machine)) → h.owed ≡ (line, tick place) ∷ [] → StrandInvariant (after s x None m st k)
+tick_kept s b line place x m st k want g is h owed =
     let f : Follows (lowered s.program) s.execution.machine m b a.Ticks st k = follows_as s b x m st k a.Ticks g (ap reply_of is) in
     kept_running s b x m st k 0 (position s.execution.machine) g.lawful g.birth (subst (HasRoom (lowered s.program)) (sym f.0) g.room) f.1.0 f.1.1 (ap position f.0)
     (subst (λ y. RunningInvariant s.program s.thread b (s.entries ++ y ∷ []) None 0 (position s.execution.machine)) (sym is)
-    (ticked_running s.program s.thread b s.entries wanted line place s.execution.passed (position s.execution.machine) h owed))
+    (ticked_running s.program s.thread b s.entries want line place s.execution.passed (position s.execution.machine) h owed))
 
-stopped_kept : (s : Strand) (b : Birth) (line : ℕ) (act : Act) (x : Entry) (m : Machine) (st : Stage) (k : ℕ) (wanted : Option Request) → IsNext s b x m st k → reply_of x ≡ Some a.Traps
+stopped_kept : (s : Strand) (b : Birth) (line : ℕ) (act : Act) (x : Entry) (m : Machine) (st : Stage) (k : ℕ) (want : Option Request) → IsNext s b x m st k → reply_of x ≡ Some a.Traps
     → x ≡ entry_by s.thread line act → is_begin_act act ≡ false → is_end x ≡ false
-    → (h : RunningInvariant s.program s.thread b s.entries wanted s.execution.passed (position s.execution.machine)) → h.owed ≡ []
+    → (h : RunningInvariant s.program s.thread b s.entries want s.execution.passed (position s.execution.machine)) → h.owed ≡ []
     → GoesOnFrom (lowered s.program) (thread_with s.program b.func) b.func b.args (items h.steps ++ made line act ∷ []) over → StrandInvariant (after s x None m st k)
-stopped_kept s b line act x m st k wanted g answer made_so other lives h owed goes_so =
+stopped_kept s b line act x m st k want g answer made_so other lives h owed goes_so =
     let f : Follows (lowered s.program) s.execution.machine m b a.Traps st k = follows_as s b x m st k a.Traps g answer in
     kept_running s b x m st k 0 over g.lawful g.birth (subst (HasRoom (lowered s.program)) (sym f.0) (with_position_room (lowered s.program) s.execution.machine over g.room)) f.1.0 f.1.1
     (ap position f.0 ∙ with_position_at s.execution.machine over)
     (acted_running s.program s.thread b s.entries h.steps line act x over h.function
-    (act_walk s.program s.thread b s.entries wanted s.execution.passed line act (position s.execution.machine) h owed other) made_so lives tt goes_so)
+    (act_walk s.program s.thread b s.entries want s.execution.passed line act (position s.execution.machine) h owed other) made_so lives tt goes_so)
 
 granted_kept : (s : Strand) (b : Birth) (line : ℕ) (q : Question) (behind : ℤ → Position) (x : Entry) (m : Machine) (st : Stage) (k : ℕ) (steps : List PartStep) → IsNext s b x m st k
     → progress (lowered s.program) (position s.execution.machine) ≡ asks line q behind → (y : IsGrant (lowered s.program) s.program b.func s.thread line q behind x)
@@ -301,11 +301,11 @@ blocked_kept s b q x m st k g told h =
 behind_items : (ss : List PartStep) (l : ℕ) (what : What) → items (ss ++ makes l (blocked what) ∷ []) ≡ items ss
 behind_items ss l what = items_append ss (makes l (blocked what) ∷ []) ∙ append-nil (items ss)
 
-again_here : (s : Strand) (b : Birth) (x : Entry) (m : Machine) (st : Stage) (k : ℕ) (wanted : Option Request) → IsNext s b x m st k
-    → (h : AsksAgain s.program s.thread b s.entries wanted s.execution.passed (position s.execution.machine)) → IsGrantOf s.thread h.request x → h.runs.owed ≡ []
+again_here : (s : Strand) (b : Birth) (x : Entry) (m : Machine) (st : Stage) (k : ℕ) (want : Option Request) → IsNext s b x m st k
+    → (h : AsksAgain s.program s.thread b s.entries want s.execution.passed (position s.execution.machine)) → IsGrantOf s.thread h.request x → h.runs.owed ≡ []
     → (v : Progress) → progress (lowered s.program) (position s.execution.machine) ≡ v → request_at (end_line s.program b.func) v ≡ Some h.request → StrandInvariant (after s x None m st k)
-again_here s b x m st k wanted g h granted owed (goes mark y) at is = absurd (no_request h.request is)
-again_here s b x m st k wanted g h granted owed (asks line u behind) at is =
+again_here s b x m st k want g h granted owed (goes mark y) at is = absurd (no_request h.request is)
+again_here s b x m st k want g h granted owed (asks line u behind) at is =
     let same : h.request ≡ question_request line u = sym (same_request (question_request line u) h.request is) in
     let y : IsGrantBehind (lowered s.program) s.program b.func s.thread line u behind h.last x =
     grants_behind (lowered s.program) s.program b.func s.thread line u behind h.last x (subst (λ o. IsBlockedFor s.thread o h.last) same h.blocked) (subst (λ o. IsGrantOf s.thread o x) same granted) in
@@ -318,21 +318,21 @@ again_here s b x m st k wanted g h granted owed (asks line u behind) at is =
     (subst (λ is. GoesOnFrom (lowered s.program) (thread_with s.program b.func) b.func b.args is (position s.execution.machine)) (sym (behind_items h.runs.steps d.line y.what)) h.runs.goes)
     (subst (λ es. IsPlainWalk s.program s.thread (steps ++ walk.goes (made d.line d.act) ∷ []) (es ++ entry_by s.thread d.line d.act ∷ []) [] 0)
     (ap (λ u. h.front ++ u ∷ []) (sym y.told) ∙ sym h.entries) walks)
-again_here s b x m st k wanted g h granted owed (traps line cause) at is =
+again_here s b x m st k want g h granted owed (traps line cause) at is =
     absurd (subst (λ o. IsBlockedFor s.thread o h.last) (sym (same_request (r.Trap line (reason cause)) h.request is)) h.blocked)
-again_here s b x m st k wanted g h granted owed ends at is =
+again_here s b x m st k want g h granted owed ends at is =
     absurd (subst (λ o. IsBlockedFor s.thread o h.last) (sym (same_request (r.End (end_line s.program b.func)) h.request is)) h.blocked)
-again_here s b x m st k wanted g h granted owed nothing at is = absurd (no_request h.request is)
+again_here s b x m st k want g h granted owed nothing at is = absurd (no_request h.request is)
 
-again_kept : (s : Strand) (b : Birth) (x : Entry) (m : Machine) (st : Stage) (k : ℕ) (wanted : Option Request) → IsNext s b x m st k
-    → (h : AsksAgain s.program s.thread b s.entries wanted s.execution.passed (position s.execution.machine)) → IsGrantOf s.thread h.request x → StrandInvariant (after s x None m st k)
-again_kept s b x m st k wanted g h granted = by_owed h.runs.asks
+again_kept : (s : Strand) (b : Birth) (x : Entry) (m : Machine) (st : Stage) (k : ℕ) (want : Option Request) → IsNext s b x m st k
+    → (h : AsksAgain s.program s.thread b s.entries want s.execution.passed (position s.execution.machine)) → IsGrantOf s.thread h.request x → StrandInvariant (after s x None m st k)
+again_kept s b x m st k want g h granted = by_owed h.runs.asks
   where
     by_owed : AsksNothing (Some h.request) h.runs.owed h.count ⊎ (AsksTick (Some h.request) h.runs.owed ⊎ AsksHere (lowered s.program) (end_line s.program b.func) (position s.execution.machine) (Some h.request) h.runs.owed)
         → StrandInvariant (after s x None m st k)
     by_owed (inl y) = absurd (no_request h.request (sym y.0))
     by_owed (inr (inl (line, place, is, owed))) = absurd (subst (λ o. IsBlockedFor s.thread o h.last) (same_request h.request (r.Tick line place) is) h.blocked)
-    by_owed (inr (inr (u, is, at, owed))) = again_here s b x m st k wanted g h granted owed (progress (lowered s.program) (position s.execution.machine)) refl (at ∙ sym is)
+    by_owed (inr (inr (u, is, at, owed))) = again_here s b x m st k want g h granted owed (progress (lowered s.program) (position s.execution.machine)) refl (at ∙ sym is)
 
 -- What comes to a thread with this request: an answer, or once that it is disabled, and behind that a grant.
 data IsTaken (s : Strand) (b : Birth) (q : Request) (x : Entry) : Type 0 where
@@ -341,10 +341,10 @@ data IsTaken (s : Strand) (b : Birth) (q : Request) (x : Entry) : Type 0 where
   by_blocked : RunningInvariant s.program s.thread b s.entries (Some q) s.execution.passed (position s.execution.machine) → IsBlockedFor s.thread q x → IsTaken s b q x
   by_grant : (h : AsksAgain s.program s.thread b s.entries (Some q) s.execution.passed (position s.execution.machine)) → IsGrantOf s.thread q x → IsGrantOf s.thread h.request x → IsTaken s b q x
 
-taken_at : (s : Strand) (b : Birth) (q : Request) (x : Entry) (y : Stage) (told : Bool) → s.wanted ≡ Some q → ends_blocked s.entries ≡ told → IsBlank y s.execution.machine → IsReplyTo told s.thread (Some q) x
+taken_at : (s : Strand) (b : Birth) (q : Request) (x : Entry) (y : Stage) (told : Bool) → s.want ≡ Some q → ends_blocked s.entries ≡ told → IsBlank y s.execution.machine → IsReplyTo told s.thread (Some q) x
     → StageInvariant y s (Some b) → IsTaken s b q x
 taken_at s b q x stage.Waits false w free blank (inl answered) h = by_begin blank (subst (WaitingInvariant s.program b s.entries) w h) answered
-taken_at s b q x stage.Waits false w free blank (inr now) h = absurd (no_begin_blocked s.thread (end_line s.program b.func) q x (only_begin (end_line s.program b.func) q s.wanted w h.asks) now)
+taken_at s b q x stage.Waits false w free blank (inr now) h = absurd (no_begin_blocked s.thread (end_line s.program b.func) q x (only_begin (end_line s.program b.func) q s.want w h.asks) now)
 taken_at s b q x stage.Waits true w free blank granted h = let no : false ≡ true = sym (ap ends_blocked h.none) ∙ free in cc
 taken_at s b q x stage.Runs false w free blank (inl answered) (inl h) =
     by_answer (subst (λ o. RunningInvariant s.program s.thread b s.entries o s.execution.passed (position s.execution.machine)) w h) answered
@@ -359,36 +359,36 @@ taken_at s b q x stage.Runs true w free blank granted (inr h) =
     by_grant again granted (subst (λ o. IsGrantOf s.thread o x) (same_request q again.request again.asks) granted)
 taken_at s b q x stage.Over told w free blank reply h = absurd (no_request q (sym h.asks ∙ w))
 
-taken : (s : Strand) (b : Birth) (q : Request) (x : Entry) → StrandInvariant s → s.birth ≡ Some b → s.wanted ≡ Some q → IsReplyTo (ends_blocked s.entries) s.thread (Some q) x → IsTaken s b q x
+taken : (s : Strand) (b : Birth) (q : Request) (x : Entry) → StrandInvariant s → s.birth ≡ Some b → s.want ≡ Some q → IsReplyTo (ends_blocked s.entries) s.thread (Some q) x → IsTaken s b q x
 taken s b q x h e w reply = taken_at s b q x s.execution.stage (ends_blocked s.entries) w refl h.blank reply (subst (StageInvariant s.execution.stage s) e h.stage)
 
-none_wanted : (s : Strand) (x : Entry) (m : Machine) (st : Stage) (k : ℕ) → is_blocked_entry x ≡ false → StrandInvariant (after s x None m st k) → StrandInvariant (after s x (still_wanted (reply_of x) s.wanted) m st k)
-none_wanted s x m st k free h = subst (λ o. StrandInvariant (after s x o m st k)) (sym (free_wanted x s.wanted free)) h
+none_wanted : (s : Strand) (x : Entry) (m : Machine) (st : Stage) (k : ℕ) → is_blocked_entry x ≡ false → StrandInvariant (after s x None m st k) → StrandInvariant (after s x (want_behind (reply_of x) s.want) m st k)
+none_wanted s x m st k free h = subst (λ o. StrandInvariant (after s x o m st k)) (sym (free_wanted x s.want free)) h
 
-taken_kept : (s : Strand) (b : Birth) (q : Request) (x : Entry) (m : Machine) (st : Stage) (k : ℕ) → s.wanted ≡ Some q → IsNext s b x m st k → IsTaken s b q x
-    → StrandInvariant (after s x (still_wanted (reply_of x) s.wanted) m st k)
+taken_kept : (s : Strand) (b : Birth) (q : Request) (x : Entry) (m : Machine) (st : Stage) (k : ℕ) → s.want ≡ Some q → IsNext s b x m st k → IsTaken s b q x
+    → StrandInvariant (after s x (want_behind (reply_of x) s.want) m st k)
 taken_kept s b q x m st k w g (by_begin blank h answered) = none_wanted s x m st k (answer_free s.thread q x answered) (waits_kept s b q x m st k g answered h)
 taken_kept s b q x m st k w g (by_answer h answered) = none_wanted s x m st k (answer_free s.thread q x answered) (runs_kept s b q x m st k g answered h)
 taken_kept s b q x m st k w g (by_blocked h told) =
-    subst (λ o. StrandInvariant (after s x o m st k)) (sym (blocked_wanted x s.wanted (blocked_told s.thread q x told) ∙ w)) (blocked_kept s b q x m st k g told h)
+    subst (λ o. StrandInvariant (after s x o m st k)) (sym (blocked_want x s.want (blocked_told s.thread q x told) ∙ w)) (blocked_kept s b q x m st k g told h)
 taken_kept s b q x m st k w g (by_grant h granted same) =
     none_wanted s x m st k (answer_free s.thread q x (grant_answers s.thread q x granted)) (again_kept s b x m st k (Some q) g h same)
 
-pub answered_kept : (s : Strand) (b : Birth) (wanted : Option Request) (x : Entry) (m : Machine) (st : Stage) (k : ℕ) → StrandInvariant s → s.birth ≡ Some b → s.wanted ≡ wanted
-    → IsReplyTo (ends_blocked s.entries) s.thread wanted x → HasFollowed (lowered s.program) s.execution.machine m b (reply_of x) st k
-    → StrandInvariant (after s x (still_wanted (reply_of x) s.wanted) m st k)
+pub answered_kept : (s : Strand) (b : Birth) (want : Option Request) (x : Entry) (m : Machine) (st : Stage) (k : ℕ) → StrandInvariant s → s.birth ≡ Some b → s.want ≡ want
+    → IsReplyTo (ends_blocked s.entries) s.thread want x → HasFollowed (lowered s.program) s.execution.machine m b (reply_of x) st k
+    → StrandInvariant (after s x (want_behind (reply_of x) s.want) m st k)
 answered_kept s b None x m st k h e w reply f = absurd reply
 answered_kept s b (Some q) x m st k h e w reply f =
     taken_kept s b q x m st k w (record { lawful = h.lawful; room = h.room; birth = e; follows = f }) (taken s b q x h e w reply)
 
 -- Only a thread that was started has a request.
 
-no_birth : (s : Strand) (y : Stage) → StageInvariant y s None → s.wanted ≡ None
+no_birth : (s : Strand) (y : Stage) → StageInvariant y s None → s.want ≡ None
 no_birth s stage.Waits h = h.1
 no_birth s stage.Runs h = absurd h
 no_birth s stage.Over h = absurd h
 
-pub answer_started : (s : Strand) (o : Option Birth) (wanted : Option Request) (x : Entry) → StrandInvariant s → s.birth ≡ o → s.wanted ≡ wanted → IsReplyTo (ends_blocked s.entries) s.thread wanted x → IsStarted o
+pub answer_started : (s : Strand) (o : Option Birth) (want : Option Request) (x : Entry) → StrandInvariant s → s.birth ≡ o → s.want ≡ want → IsReplyTo (ends_blocked s.entries) s.thread want x → IsStarted o
 answer_started s o None x h e w reply = absurd reply
 answer_started s None (Some q) x h e w reply = absurd (no_request q (sym (no_birth s s.execution.stage (subst (StageInvariant s.execution.stage s) e h.stage)) ∙ w))
 answer_started s (Some b) (Some q) x h e w reply = tt
@@ -446,7 +446,7 @@ can_take s b q x l room (by_answer h answered) = can_running s b q x s.entries s
 can_take s b q x l room (by_blocked h told) = can_as s b x a.Waits (blocked_waits x (blocked_told s.thread q x told)) tt
 can_take s b q x l room (by_grant h granted same) = can_running s b h.request x h.front h.count l room (grant_answers s.thread h.request x same) h.runs
 
-pub can_answer : (s : Strand) (b : Birth) (wanted : Option Request) (x : Entry) → StrandInvariant s → s.birth ≡ Some b → s.wanted ≡ wanted → IsReplyTo (ends_blocked s.entries) s.thread wanted x
+pub can_answer : (s : Strand) (b : Birth) (want : Option Request) (x : Entry) → StrandInvariant s → s.birth ≡ Some b → s.want ≡ want → IsReplyTo (ends_blocked s.entries) s.thread want x
     → CanFollowAny (lowered s.program) s.execution.machine b (reply_of x)
 can_answer s b None x h e w reply = absurd reply
 can_answer s b (Some q) x h e w reply = can_take s b q x h.lawful h.room (taken s b q x h e w reply)

@@ -10,7 +10,7 @@ use Rattle.loom_flow.specs.declared.code.Control.TheVariants.{Begin, Done, Edge,
 use Rattle.loom_flow.specs.declared.code.Entrance.{Entrance}
 use Rattle.loom_flow.specs.declared.code.Instr.{Instr}
 use Rattle.loom_flow.specs.Flow.{Flow}
-use Rattle.loom_flow.specs.State.{State, operand, without, jumped, arguments, without_arguments}
+use Rattle.loom_flow.specs.State.{State, operand_value, without, jumped, argument_values, without_arguments}
 use Rattle.loom_flow.specs.Position.{before}
 use Rattle.loom_flow.specs.Progress.{Progress, goes, traps, on, calls, of_ask, of_control, of_step, of_instr, progress}
 use Rattle.loom_flow.proofs.Each.{same_element}
@@ -60,10 +60,10 @@ control_asks c z line place Begin h = h
 control_asks c z line place Done h = h
 control_asks c z line place (Edge to) h = h
 control_asks c z line place (Jump to) h = h
-control_asks c z line place (JumpIfZero a to) h = asks_if (is_zero (operand z a)) (goes None (before (jumped (without z a) to))) (on (without z a)) (λ g. g) (λ g. g) h
+control_asks c z line place (JumpIfZero a to) h = asks_if (is_zero (operand_value z a)) (goes None (before (jumped (without z a) to))) (on (without z a)) (λ g. g) (λ g. g) h
 control_asks c z line place (Call f n) h =
-    asks_if (nat_lt (suc (length z.below)) frame_limit) (calls c (without_arguments z n) place f (arguments z n) (slice_get c.entrances f)) (traps line frames)
-    (calls_ask c (without_arguments z n) place f (arguments z n) (slice_get c.entrances f)) (λ g. g) h
+    asks_if (nat_lt (suc (length z.below)) frame_limit) (calls c (without_arguments z n) place f (argument_values z n) (slice_get c.entrances f)) (traps line frames)
+    (calls_ask c (without_arguments z n) place f (argument_values z n) (slice_get c.entrances f)) (λ g. g) h
 control_asks c z line place (Return a) h = h
 control_asks c z line place Out h = h
 

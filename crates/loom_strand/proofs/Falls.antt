@@ -1,7 +1,7 @@
 -- What falls while a thread goes on by itself.
 use Rattle.std.proofs.Common.{ℕ, suc, ◌+◌, ◌-◌, ◌*◌, ◌&&◌, ◌≡◌, ◌≤◌, ◌<◌, Bool, true, false, List, [], ◌∷◌, ℤ, pos, negsuc, Option, Some, None, sym, subst, nat_lt, slice_get, length, if◌then◌else◌, arith}
 use Rattle.std.proofs.Math.Nat.{mul-le-mul_right}
-use Rattle.loom_lang.specs.Values.{is_zero, applied, divides}
+use Rattle.loom_lang.specs.Values.{is_zero, op_value, divides}
 use Rattle.loom_lang.specs.Trace.{Item, edge, enter, frame_limit, division, index, frames}
 use Rattle.loom_flow.specs.declared.code.Array.{Array}
 use Rattle.loom_flow.specs.declared.code.Compute.{Compute}
@@ -15,7 +15,7 @@ use Rattle.loom_flow.specs.declared.code.Step.TheVariants as s
 use Rattle.loom_flow.specs.declared.code.Instr.{Instr}
 use Rattle.loom_flow.specs.declared.code.Entrance.{Entrance}
 use Rattle.loom_flow.specs.Flow.{Flow, resume, return_point}
-use Rattle.loom_flow.specs.State.{Frame, State, operand, without, given, jumped, arguments, without_arguments}
+use Rattle.loom_flow.specs.State.{Frame, State, operand_value, without, given, jumped, argument_values, without_arguments}
 use Rattle.loom_flow.specs.Position.{Position, before, leaves, over}
 use Rattle.loom_flow.specs.Question.{read, write}
 use Rattle.loom_flow.specs.Progress.{Progress, goes, traps, on, of_compute, in_array, asks_value, asks_act, of_ask, calls, returns, of_control, of_step, of_instr, progress}
@@ -84,15 +84,15 @@ compute_nears c z line (Move a d) h = λ e. nears_on c z (suc z.at) h (omega ari
 compute_nears c z line (Negate a d) h = λ e. nears_on c z (suc z.at) h (omega arith)
 compute_nears c z line (Invert a d) h = λ e. nears_on c z (suc z.at) h (omega arith)
 compute_nears c z line (Apply o a b d) h =
-    nears_if c (ahead c (before z)) (divides o && is_zero (operand z b)) (traps line division)
-    (on (given (without (without z b) a) d (applied o (operand (without z b) a) (operand z b)))) tt (λ e. nears_on c z (suc z.at) h (omega arith))
+    nears_if c (ahead c (before z)) (divides o && is_zero (operand_value z b)) (traps line division)
+    (on (given (without (without z b) a) d (op_value o (operand_value (without z b) a) (operand_value z b)))) tt (λ e. nears_on c z (suc z.at) h (omega arith))
 compute_nears c z line Discard h = λ e. nears_on c z (suc z.at) h (omega arith)
 
 ask_nears : (c : Flow) (n : ℕ) (z : State) (line : ℕ) (x : Ask) → Nears c n (of_ask z line x)
 ask_nears c n z line (Read w d) = tt
-ask_nears c n z line (ReadCell a k d) = nears_cell c n line a (operand z k) (λ w. asks_value line (read w) (λ v. given (without z k) d v)) (λ w. tt)
+ask_nears c n z line (ReadCell a k d) = nears_cell c n line a (operand_value z k) (λ w. asks_value line (read w) (λ v. given (without z k) d v)) (λ w. tt)
 ask_nears c n z line (Write w a) = tt
-ask_nears c n z line (WriteCell a k b) = nears_cell c n line a (operand (without z b) k) (λ w. asks_act line (write w (operand z b)) (without (without z b) k)) (λ w. tt)
+ask_nears c n z line (WriteCell a k b) = nears_cell c n line a (operand_value (without z b) k) (λ w. asks_act line (write w (operand_value z b)) (without (without z b) k)) (λ w. tt)
 ask_nears c n z line (Lock m) = tt
 ask_nears c n z line (Unlock m) = tt
 ask_nears c n z line (Down x) = tt
@@ -112,11 +112,11 @@ control_nears c z i Done h leads = λ e. nears_on c z (suc z.at) h (omega arith)
 control_nears c z i (Edge to) h leads = λ e. cc
 control_nears c z i (Jump to) h leads = λ e. nears_on c z to h leads.1
 control_nears c z i (JumpIfZero a to) h leads =
-    nears_if c (ahead c (before z)) (is_zero (operand z a)) (goes None (before (jumped (without z a) to))) (on (without z a))
+    nears_if c (ahead c (before z)) (is_zero (operand_value z a)) (goes None (before (jumped (without z a) to))) (on (without z a))
     (λ e. nears_on c z to h leads.1) (λ e. nears_on c z (suc z.at) h (omega arith))
 control_nears c z i (Call f n) h leads =
-    nears_if c (ahead c (before z)) (nat_lt (suc (length z.below)) frame_limit) (calls c (without_arguments z n) i.place f (arguments z n) (slice_get c.entrances f)) (traps i.line frames)
-    (nears_calls c (ahead c (before z)) (without_arguments z n) i.place f (arguments z n) (slice_get c.entrances f)) tt
+    nears_if c (ahead c (before z)) (nat_lt (suc (length z.below)) frame_limit) (calls c (without_arguments z n) i.place f (argument_values z n) (slice_get c.entrances f)) (traps i.line frames)
+    (nears_calls c (ahead c (before z)) (without_arguments z n) i.place f (argument_values z n) (slice_get c.entrances f)) tt
 control_nears c z i (Return a) h leads = λ e. omega arith
 control_nears c z i Out h leads = λ e. omega arith
 

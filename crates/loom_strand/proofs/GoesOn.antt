@@ -4,7 +4,7 @@ use Rattle.loom_tree.specs.Tree.{Function, Source}
 use Rattle.loom_lang.specs.Rules.{KeepsRules}
 use Rattle.loom_lang.specs.Places.{line_of_function}
 use Rattle.loom_lang.specs.Trace as trace
-use Rattle.loom_lang.specs.Trace.{Item, Outcome, Open, Finished, Thread, Cause, Act, Locals, made, begin, end, trap, enter, ended, division, index, not_held, not_spawned, threads, frames, overflow, reason, IsTrace}
+use Rattle.loom_lang.specs.Trace.{Item, Outcome, Open, Finished, Thread, Cause, Act, Locals, made, begin, end, trap, enter, thread_end, division, index, not_held, not_spawned, threads, frames, overflow, reason, IsTrace}
 use Rattle.loom_lang.specs.Acts.{Deed}
 use Rattle.loom_flow.specs.declared.code.Entrance.{Entrance}
 use Rattle.loom_flow.specs.Flow.{Flow}
@@ -12,14 +12,14 @@ use Rattle.loom_flow.specs.State.{at_start, locals_now}
 use Rattle.loom_flow.specs.Position.{Position, before, over}
 use Rattle.loom_flow.specs.Question.{Question, read, write, lock, unlock, down, up, spawn, join, print}
 use Rattle.loom_flow.specs.Progress.{Progress, goes, asks, traps, ends, progress}
-use Rattle.loom_flow.specs.FlatTrace.{question_lists, progress_lists, runs, started, IsFlatTrace}
+use Rattle.loom_flow.specs.FlatTrace.{question_lists, progress_lists, runs, flat_start, IsFlatTrace}
 use Rattle.loom_flow.specs.FlatTrace as flat
 use Rattle.loom_flow.specs.FlatCode.{lowered}
 use Rattle.loom_flow.specs.Code.{IsLowered}
 use Rattle.loom_flow.proofs.Traces.{lowered_traces}
 use Rattle.loom_trace.specs.declared.entry.Entry.{Entry}
 use Rattle.loom_event.specs.Event.{entry_by}
-use Rattle.loom_event.specs.Answer.{granted, trapped, IsAnswerTo}
+use Rattle.loom_event.specs.Answer.{grant_deed, trap_deed, IsAnswerTo}
 use Rattle.loom_strand.specs.declared.reply.Reply.TheVariants as a
 use Rattle.loom_strand.specs.Reply.{reply_of}
 use Rattle.loom_strand.specs.Life.{is_end}
@@ -174,7 +174,7 @@ trapped_on c p f vs items z t line q behind x e g h es o n k =
 abbrev OpensWith : Flow → Source → ℕ → ℕ → Question → (ℤ → Position) → Item → Type 0
 OpensWith c p f line q behind i = question_lists (thread_with p f) line q (λ v. runs c (thread_with p f) 0 (behind v)) (i ∷ []) Open
 
-grants_open : (c : Flow) (p : Source) (f line : ℕ) (q : Question) (behind : ℤ → Position) (v : ℤ) → IfSome (granted (question_request line q) v) (λ (d : Deed). OpensWith c p f line q behind (made d.line d.act))
+grants_open : (c : Flow) (p : Source) (f line : ℕ) (q : Question) (behind : ℤ → Position) (v : ℤ) → IfSome (grant_deed (question_request line q) v) (λ (d : Deed). OpensWith c p f line q behind (made d.line d.act))
 grants_open c p f line (read w) behind v = (v, inr ([], refl, (refl, refl)))
 grants_open c p f line (write w u) behind v = inr ([], refl, (refl, refl))
 grants_open c p f line (lock m) behind v = inr ([], refl, (refl, refl))
@@ -187,7 +187,7 @@ grants_open c p f line (join (pos k)) behind v = inr (inr ([], refl, (refl, refl
 grants_open c p f line (join (negsuc k)) behind v = tt
 grants_open c p f line (print u) behind v = inr ([], refl, (refl, refl))
 
-traps_open : (c : Flow) (p : Source) (f line : ℕ) (q : Question) (behind : ℤ → Position) → IfSome (trapped (question_request line q)) (λ (d : Deed). OpensWith c p f line q behind (made d.line d.act))
+traps_open : (c : Flow) (p : Source) (f line : ℕ) (q : Question) (behind : ℤ → Position) → IfSome (trap_deed (question_request line q)) (λ (d : Deed). OpensWith c p f line q behind (made d.line d.act))
 traps_open c p f line (read w) behind = tt
 traps_open c p f line (write w u) behind = tt
 traps_open c p f line (lock m) behind = tt
@@ -217,12 +217,12 @@ pub next_open : (c : Flow) (p : Source) (f : ℕ) (vs : List ℤ) (items : List 
 next_open c p f vs items z line q behind i e g h = behind_step c (thread_with p f) f vs items z (asks line q behind) e h (i ∷ []) Open 0 g
 
 pub granted_open : (c : Flow) (p : Source) (f : ℕ) (vs : List ℤ) (items : List Item) (z : Position) (line : ℕ) (q : Question) (behind : ℤ → Position) (v : ℤ) → progress c z ≡ asks line q behind
-    → GoesOnFrom c (thread_with p f) f vs items z → (d : Deed) → granted (question_request line q) v ≡ Some d → IsFlatTrace c f vs (items ++ made d.line d.act ∷ []) Open
+    → GoesOnFrom c (thread_with p f) f vs items z → (d : Deed) → grant_deed (question_request line q) v ≡ Some d → IsFlatTrace c f vs (items ++ made d.line d.act ∷ []) Open
 granted_open c p f vs items z line q behind v e h d is =
     next_open c p f vs items z line q behind (made d.line d.act) e (subst (λ o. IfSome o (λ (y : Deed). OpensWith c p f line q behind (made y.line y.act))) is (grants_open c p f line q behind v)) h
 
 pub trapped_open : (c : Flow) (p : Source) (f : ℕ) (vs : List ℤ) (items : List Item) (z : Position) (line : ℕ) (q : Question) (behind : ℤ → Position) → progress c z ≡ asks line q behind
-    → GoesOnFrom c (thread_with p f) f vs items z → (d : Deed) → trapped (question_request line q) ≡ Some d → IsFlatTrace c f vs (items ++ made d.line d.act ∷ []) Open
+    → GoesOnFrom c (thread_with p f) f vs items z → (d : Deed) → trap_deed (question_request line q) ≡ Some d → IsFlatTrace c f vs (items ++ made d.line d.act ∷ []) Open
 trapped_open c p f vs items z line q behind e h d is =
     next_open c p f vs items z line q behind (made d.line d.act) e (subst (λ o. IfSome o (λ (y : Deed). OpensWith c p f line q behind (made y.line y.act))) is (traps_open c p f line q behind)) h
 
@@ -232,36 +232,36 @@ own_trap_open c p f vs items z line cause e h = behind_step c (thread_with p f) 
 
 -- The begin
 
-started_open : (c : Flow) (p : Source) (f g : ℕ) (vs : List ℤ) (o : Option Entrance) → started c (thread_with p g) f vs 0 o [] Open
+started_open : (c : Flow) (p : Source) (f g : ℕ) (vs : List ℤ) (o : Option Entrance) → flat_start c (thread_with p g) f vs 0 o [] Open
 started_open c p f g vs None = (refl, refl)
 started_open c p f g vs (Some e) = inl (refl, refl)
 
-begin_in : (c : Flow) (f : ℕ) (vs : List ℤ) (g : Function) (n : ℕ) (o : Option Function) → o ≡ Some g → (items : List Item) (q : Outcome) → flat.thread c (Some g) f vs n items q → flat.thread c o f vs n items q
-begin_in c f vs g n o e items q h = subst (λ x. flat.thread c x f vs n items q) (sym e) h
+begin_in : (c : Flow) (f : ℕ) (vs : List ℤ) (g : Function) (n : ℕ) (o : Option Function) → o ≡ Some g → (items : List Item) (q : Outcome) → flat.flat_thread c (Some g) f vs n items q → flat.flat_thread c o f vs n items q
+begin_in c f vs g n o e items q h = subst (λ x. flat.flat_thread c x f vs n items q) (sym e) h
 
 pub begin_open : (c : Flow) (f : ℕ) (vs : List ℤ) (g : Function) → slice_get c.program.funcs f ≡ Some g → IsFlatTrace c f vs (made (line_of_function (slice_get c.program.funcs f)) begin ∷ []) Open
 begin_open c f vs g there = record {
   most_steps = 0;
-  gives = subst (λ x. flat.thread c x f vs 0 (made (line_of_function x) begin ∷ []) Open) (sym there) (inr ([], refl, opens (slice_get c.entrances f)));
+  gives = subst (λ x. flat.flat_thread c x f vs 0 (made (line_of_function x) begin ∷ []) Open) (sym there) (inr ([], refl, opens (slice_get c.entrances f)));
 }
   where
-    opens : (o : Option Entrance) → started c (record { program = c.program; stopped = ended g.line }) f vs 0 o [] Open
+    opens : (o : Option Entrance) → flat_start c (record { program = c.program; stopped = thread_end g.line }) f vs 0 o [] Open
     opens None = (refl, refl)
     opens (Some e) = inl (refl, refl)
 
 pub none_open : (c : Flow) (f : ℕ) (vs : List ℤ) (g : Function) → slice_get c.program.funcs f ≡ Some g → IsFlatTrace c f vs [] Open
-none_open c f vs g there = record { most_steps = 0; gives = subst (λ x. flat.thread c x f vs 0 [] Open) (sym there) (inl (refl, refl)) }
+none_open c f vs g there = record { most_steps = 0; gives = subst (λ x. flat.flat_thread c x f vs 0 [] Open) (sym there) (inl (refl, refl)) }
 
 -- Behind the begin its first frame begins.
 pub begun_on : (c : Flow) (f : ℕ) (vs : List ℤ) (g : Function) (en : Entrance) → slice_get c.program.funcs f ≡ Some g → slice_get c.entrances f ≡ Some en
     → GoesOnFrom c (thread_with c.program f) f vs (made (end_line c.program f) begin ∷ enter f (locals_now c (at_start f en vs [] [])) ∷ []) (before (at_start f en vs [] []))
 begun_on c f vs g en there place es q n h = record {
   most_steps = n;
-  gives = subst (λ x. flat.thread c x f vs n (made (line_of_function x) begin ∷ enter f (locals_now c (at_start f en vs [] [])) ∷ es) q) (sym there)
+  gives = subst (λ x. flat.flat_thread c x f vs n (made (line_of_function x) begin ∷ enter f (locals_now c (at_start f en vs [] [])) ∷ es) q) (sym there)
       (inr (
         enter f (locals_now c (at_start f en vs [] [])) ∷ es,
         refl,
-        subst (λ o. started c (record { program = c.program; stopped = ended g.line }) f vs n o (enter f (locals_now c (at_start f en vs [] [])) ∷ es) q) (sym place)
-            (inr (es, refl, subst (λ x. runs c (record { program = c.program; stopped = ended (line_of_function x) }) n (before (at_start f en vs [] [])) es q) there h)),
+        subst (λ o. flat_start c (record { program = c.program; stopped = thread_end g.line }) f vs n o (enter f (locals_now c (at_start f en vs [] [])) ∷ es) q) (sym place)
+            (inr (es, refl, subst (λ x. runs c (record { program = c.program; stopped = thread_end (line_of_function x) }) n (before (at_start f en vs [] [])) es q) there h)),
       ));
 }

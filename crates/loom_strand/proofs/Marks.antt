@@ -1,7 +1,7 @@
 -- The places that the marks of a thread pass.
 use Rattle.std.proofs.Common.{ℕ, suc, ◌+◌, ◌&&◌, ◌≡◌, Bool, true, false, List, ℤ, pos, negsuc, Option, Some, None, refl, sym, ap, subst, ◌∙◌, nat_lt, slice_get, length, if◌then◌else◌}
 use Rattle.std.proofs.lemmas.Option.{slice_get_within}
-use Rattle.loom_lang.specs.Values.{is_zero, applied, divides}
+use Rattle.loom_lang.specs.Values.{is_zero, op_value, divides}
 use Rattle.loom_lang.specs.Places.{entry, back_edge, place_at}
 use Rattle.loom_lang.specs.Trace.{Item, made, edge, enter, frame_limit, division, index, frames}
 use Rattle.loom_flow.specs.declared.code.Array.{Array}
@@ -16,7 +16,7 @@ use Rattle.loom_flow.specs.declared.code.Step.TheVariants as s
 use Rattle.loom_flow.specs.declared.code.Instr.{Instr}
 use Rattle.loom_flow.specs.declared.code.Entrance.{Entrance}
 use Rattle.loom_flow.specs.Flow.{Flow}
-use Rattle.loom_flow.specs.State.{State, operand, without, given, jumped, arguments, without_arguments}
+use Rattle.loom_flow.specs.State.{State, operand_value, without, given, jumped, argument_values, without_arguments}
 use Rattle.loom_flow.specs.Position.{Position, before, leaves, over}
 use Rattle.loom_flow.specs.Question.{read, write}
 use Rattle.loom_flow.specs.Progress.{Progress, goes, traps, on, of_compute, in_array, asks_value, asks_act, of_ask, calls, of_control, of_step, of_instr, progress}
@@ -51,14 +51,14 @@ compute_marks c n z line (Move a d) = tt
 compute_marks c n z line (Negate a d) = tt
 compute_marks c n z line (Invert a d) = tt
 compute_marks c n z line (Apply o a b d) =
-    marks_if c n (divides o && is_zero (operand z b)) (traps line division) (on (given (without (without z b) a) d (applied o (operand (without z b) a) (operand z b)))) tt tt
+    marks_if c n (divides o && is_zero (operand_value z b)) (traps line division) (on (given (without (without z b) a) d (op_value o (operand_value (without z b) a) (operand_value z b)))) tt tt
 compute_marks c n z line Discard = tt
 
 ask_marks : (c : Flow) (n : ℕ) (z : State) (line : ℕ) (x : Ask) → Marks c n (of_ask z line x)
 ask_marks c n z line (Read w d) = tt
-ask_marks c n z line (ReadCell a k d) = marks_cell c n line a (operand z k) (λ w. asks_value line (read w) (λ v. given (without z k) d v)) (λ w. tt)
+ask_marks c n z line (ReadCell a k d) = marks_cell c n line a (operand_value z k) (λ w. asks_value line (read w) (λ v. given (without z k) d v)) (λ w. tt)
 ask_marks c n z line (Write w a) = tt
-ask_marks c n z line (WriteCell a k b) = marks_cell c n line a (operand (without z b) k) (λ w. asks_act line (write w (operand z b)) (without (without z b) k)) (λ w. tt)
+ask_marks c n z line (WriteCell a k b) = marks_cell c n line a (operand_value (without z b) k) (λ w. asks_act line (write w (operand_value z b)) (without (without z b) k)) (λ w. tt)
 ask_marks c n z line (Lock m) = tt
 ask_marks c n z line (Unlock m) = tt
 ask_marks c n z line (Down x) = tt
@@ -82,10 +82,10 @@ control_marks c z i Begin l e is = tt
 control_marks c z i Done l e is = tt
 control_marks c z i (Edge to) l e is = edge_place c z.at to i l e is
 control_marks c z i (Jump to) l e is = tt
-control_marks c z i (JumpIfZero a to) l e is = marks_if c i.place (is_zero (operand z a)) (goes None (before (jumped (without z a) to))) (on (without z a)) tt tt
+control_marks c z i (JumpIfZero a to) l e is = marks_if c i.place (is_zero (operand_value z a)) (goes None (before (jumped (without z a) to))) (on (without z a)) tt tt
 control_marks c z i (Call f n) l e is =
-    marks_if c i.place (nat_lt (suc (length z.below)) frame_limit) (calls c (without_arguments z n) i.place f (arguments z n) (slice_get c.entrances f)) (traps i.line frames)
-    (marks_calls c i.place (without_arguments z n) i.place f (arguments z n) (slice_get c.entrances f) l refl) tt
+    marks_if c i.place (nat_lt (suc (length z.below)) frame_limit) (calls c (without_arguments z n) i.place f (argument_values z n) (slice_get c.entrances f)) (traps i.line frames)
+    (marks_calls c i.place (without_arguments z n) i.place f (argument_values z n) (slice_get c.entrances f) l refl) tt
 control_marks c z i (Return a) l e is = tt
 control_marks c z i Out l e is = tt
 

@@ -12,7 +12,7 @@ use Rattle.loom_trace.specs.declared.entry.Entry.{Entry}
 use Rattle.loom_trace.specs.declared.entry.Entry.TheVariants as e
 use Rattle.loom_trace.specs.declared.request.Request.{Request}
 use Rattle.loom_trace.specs.declared.request.Request.TheVariants as r
-use Rattle.loom_event.specs.Answer.{granted, trapped, cause_of, trap_at}
+use Rattle.loom_event.specs.Answer.{grant_deed, trap_deed, cause_of, trap_at}
 use Rattle.loom_law.specs.Walk.{Plans, tick, PartStep, makes, items, Queue}
 use Rattle.loom_law.specs.ThreadPart.{Own, IsPart, AsksToMake, AsksToAct, GoesOn}
 use Rattle.loom_strand.specs.PlainWalk.{first_version, IsPlainWalk}
@@ -88,8 +88,8 @@ asks_tick p plans t f vs steps es line place n some w trace =
 pub record Acts (p : Source) (f : ℕ) (vs : List ℤ) (is : List Item) (q : Request) : Type 0 where
   pub next : Item
   pub trace : IsTrace p f vs (is ++ next ∷ []) Open
-  pub granted : (v : ℤ) (d : Deed) → granted q v ≡ Some d → IsTrace p f vs (is ++ made d.line d.act ∷ []) Open
-  pub trapped : (d : Deed) → trapped q ≡ Some d → IsTrace p f vs (is ++ made d.line d.act ∷ []) Open
+  pub granted : (v : ℤ) (d : Deed) → grant_deed q v ≡ Some d → IsTrace p f vs (is ++ made d.line d.act ∷ []) Open
+  pub trapped : (d : Deed) → trap_deed q ≡ Some d → IsTrace p f vs (is ++ made d.line d.act ∷ []) Open
 
 goes_on : (p : Source) (x : Own) (steps : List PartStep) (o : Option Deed) → ((d : Deed) → o ≡ Some d → IsTrace p x.func x.args (items steps ++ made d.line d.act ∷ []) Open) → GoesOn p x steps o
 goes_on p x steps None h = tt
@@ -105,8 +105,8 @@ asks_act p plans t f vs steps es n q some w a = subst (λ x. AsksToAct p plans x
   tells = w.tells;
   taken = (w.plain plans).coming;
   rests = (w.plain plans).owed;
-  granted = λ v. goes_on p (own_begun t f vs es) steps (granted q v) (a.granted v);
-  trapped = goes_on p (own_begun t f vs es) steps (trapped q) a.trapped;
+  granted = λ v. goes_on p (own_begun t f vs es) steps (grant_deed q v) (a.granted v);
+  trapped = goes_on p (own_begun t f vs es) steps (trap_deed q) a.trapped;
 })
 
 pub question_acts : (p : Source) → KeepsRules p → (f : ℕ) (vs : List ℤ) (is : List Item) (z : Position) (line : ℕ) (q : Question) (behind : ℤ → Position)

@@ -37,11 +37,11 @@ resumed s q m st k = record {
   limit = s.limit;
   birth = s.birth;
   entries = s.entries;
-  wanted = q;
+  want = q;
   execution = record { stage = st; passed = k; machine = m };
 }
 
-pub nothing_wanted : (wanted : Option Request) → is_some wanted ≡ false → wanted ≡ None
+pub nothing_wanted : (want : Option Request) → is_some want ≡ false → want ≡ None
 nothing_wanted None e = refl
 nothing_wanted (Some q) e = cc
 
@@ -52,17 +52,17 @@ pub record IsFree (c : Flow) (s : Strand) (b : Birth) (x : Stage) : Type 0 where
   pub kept : StrandInvariant s
   pub birth : s.birth ≡ Some b
   pub stage : s.execution.stage ≡ x
-  pub wanted : s.wanted ≡ None
+  pub want : s.want ≡ None
 
 free_at : (c : Flow) (s : Strand) (b : Birth) (x : Stage) → IsFree c s b x → StageInvariant x s (Some b)
 free_at c s b x h = subst (λ y. StageInvariant y s (Some b)) h.stage (subst (StageInvariant s.execution.stage s) h.birth h.kept.stage)
 
 free_running : (c : Flow) (s : Strand) (b : Birth) → IsFree c s b stage.Runs → RunningInvariant s.program s.thread b s.entries None s.execution.passed (position s.execution.machine)
-free_running c s b h = subst (λ o. RunningInvariant s.program s.thread b s.entries o s.execution.passed (position s.execution.machine)) h.wanted (runs (free_at c s b stage.Runs h))
+free_running c s b h = subst (λ o. RunningInvariant s.program s.thread b s.entries o s.execution.passed (position s.execution.machine)) h.want (runs (free_at c s b stage.Runs h))
   where
-    runs : StageInvariant stage.Runs s (Some b) → RunningInvariant s.program s.thread b s.entries s.wanted s.execution.passed (position s.execution.machine)
+    runs : StageInvariant stage.Runs s (Some b) → RunningInvariant s.program s.thread b s.entries s.want s.execution.passed (position s.execution.machine)
     runs (inl x) = x
-    runs (inr x) = absurd (no_request x.request (sym h.wanted ∙ x.asks))
+    runs (inr x) = absurd (no_request x.request (sym h.want ∙ x.asks))
 
 idle : (p : Source) (t n : ℕ) (b : Birth) (es : List Entry) (z : Position) → (h : RunningInvariant p t b es None n z) → AsksNothing None h.owed n
 idle p t n b es z h = by_owed h.asks
@@ -97,10 +97,10 @@ has_function p s b x e h birth is lives = function_at p s b x e (subst (λ y. St
 
 -- Behind a private run
 
-gone_running : (p : Source) (t : ℕ) (b : Birth) (es : List Entry) (n k : ℕ) (old new : Machine) (wanted : Option Request) (os : Queue) → RunningInvariant p t b es None n (position old)
-    → HasGone (lowered p) old new n k os → AsksNothing wanted os k ⊎ (AsksTick wanted os ⊎ AsksHere (lowered p) (end_line p b.func) (position new) wanted os)
-    → RunningInvariant p t b es wanted k (position new)
-gone_running p t b es n k old new wanted os h g asks = record {
+gone_running : (p : Source) (t : ℕ) (b : Birth) (es : List Entry) (n k : ℕ) (old new : Machine) (want : Option Request) (os : Queue) → RunningInvariant p t b es None n (position old)
+    → HasGone (lowered p) old new n k os → AsksNothing want os k ⊎ (AsksTick want os ⊎ AsksHere (lowered p) (end_line p b.func) (position new) want os)
+    → RunningInvariant p t b es want k (position new)
+gone_running p t b es n k old new want os h g asks = record {
   function = h.function;
   steps = h.steps ++ g.marks;
   owed = os;
@@ -150,7 +150,7 @@ resumed_ends c s b m k line h g is =
 pub resumed_begins : (c : Flow) (s : Strand) (b : Birth) (line : ℕ) → IsFree c s b stage.Waits → line ≡ end_line c.program b.func
     → StrandInvariant (resumed s (Some (r.Begin line)) s.execution.machine s.execution.stage s.execution.passed)
 resumed_begins c s b line h is =
-    let at : WaitingInvariant s.program b s.entries s.wanted = free_at c s b stage.Waits h in
+    let at : WaitingInvariant s.program b s.entries s.want = free_at c s b stage.Waits h in
     let same : line ≡ end_line s.program b.func = is ∙ ap (λ p. end_line p b.func) h.program in
     subst (λ x. StrandInvariant (resumed s (Some (r.Begin line)) s.execution.machine x s.execution.passed)) (sym h.stage) (record {
       lawful = h.kept.lawful;

@@ -2,7 +2,7 @@
 use Rattle.std.proofs.Common.{ℕ, suc, ◌+◌, ◌&&◌, ◌≡◌, ◌≤◌, ◌<◌, Bool, true, false, List, ℤ, pos, negsuc, Option, Some, None, refl, inl, inr, subst, ◌∙◌, nat_lt, if◌then◌else◌}
 use Rattle.std.proofs.Common.{ltb-true, slice_get, length, length-take, take, arith}
 use Rattle.std.proofs.lemmas.List.{length-reverse}
-use Rattle.loom_lang.specs.Values.{is_zero, applied, divides}
+use Rattle.loom_lang.specs.Values.{is_zero, op_value, divides}
 use Rattle.loom_lang.specs.Trace.{division, index, frames, reason, frame_limit}
 use Rattle.loom_flow.specs.declared.code.Array.{Array}
 use Rattle.loom_flow.specs.declared.code.Compute.TheVariants.{Move, Negate, Invert, Apply, Discard}
@@ -13,7 +13,7 @@ use Rattle.loom_flow.specs.declared.code.Step.TheVariants as s
 use Rattle.loom_flow.specs.declared.code.Instr.{Instr}
 use Rattle.loom_flow.specs.declared.code.Entrance.{Entrance}
 use Rattle.loom_flow.specs.Flow.{Flow}
-use Rattle.loom_flow.specs.State.{State, operand, without, given, jumped, arguments, without_arguments}
+use Rattle.loom_flow.specs.State.{State, operand_value, without, given, jumped, argument_values, without_arguments}
 use Rattle.loom_flow.specs.Position.{Position, before, leaves, over}
 use Rattle.loom_flow.specs.Question.{read, write}
 use Rattle.loom_flow.specs.Progress.{Progress, goes, asks, traps, on, in_array, asks_value, asks_act, calls, of_step, of_instr, progress}
@@ -48,15 +48,15 @@ abbrev Requests : (Request → Type 0) → State → ℕ → Step → Type 0
 Requests P z line (s.Compute (Apply o a b d)) = P (r.Trap line 1)
 Requests P z line (s.Ask (Read w d)) = P (r.Read line w)
 Requests P z line (s.Ask (ReadCell a n d)) = ((k : ℕ) → k < a.count → P (r.Read line (a.first + k))) × P (r.Trap line 2)
-Requests P z line (s.Ask (Write w a)) = P (r.Write line w (operand z a))
-Requests P z line (s.Ask (WriteCell a n b)) = ((k : ℕ) → k < a.count → P (r.Write line (a.first + k) (operand z b))) × P (r.Trap line 2)
+Requests P z line (s.Ask (Write w a)) = P (r.Write line w (operand_value z a))
+Requests P z line (s.Ask (WriteCell a n b)) = ((k : ℕ) → k < a.count → P (r.Write line (a.first + k) (operand_value z b))) × P (r.Trap line 2)
 Requests P z line (s.Ask (Lock m)) = P (r.Lock line m)
 Requests P z line (s.Ask (Unlock m)) = P (r.Unlock line m)
 Requests P z line (s.Ask (Down x)) = P (r.Down line x)
 Requests P z line (s.Ask (Up x)) = P (r.Up line x)
-Requests P z line (s.Ask (Join a)) = P (r.Join line (operand z a))
-Requests P z line (s.Ask (Print a)) = P (r.Print line (operand z a))
-Requests P z line (s.Ask (Spawn f n d)) = P (r.Spawn line f (arguments z n))
+Requests P z line (s.Ask (Join a)) = P (r.Join line (operand_value z a))
+Requests P z line (s.Ask (Print a)) = P (r.Print line (operand_value z a))
+Requests P z line (s.Ask (Spawn f n d)) = P (r.Spawn line f (argument_values z n))
 Requests P z line (s.Control (Call f n)) = P (r.Trap line 6)
 Requests P z line _ = Unit {0}
 
@@ -69,12 +69,12 @@ step_asked P c z i (s.Compute (Move a d)) h = tt
 step_asked P c z i (s.Compute (Negate a d)) h = tt
 step_asked P c z i (s.Compute (Invert a d)) h = tt
 step_asked P c z i (s.Compute (Apply o a b d)) h =
-    asked_if P (divides o && is_zero (operand z b)) (traps i.line division) (on (given (without (without z b) a) d (applied o (operand (without z b) a) (operand z b)))) (λ e. h) (λ e. tt)
+    asked_if P (divides o && is_zero (operand_value z b)) (traps i.line division) (on (given (without (without z b) a) d (op_value o (operand_value (without z b) a) (operand_value z b)))) (λ e. h) (λ e. tt)
 step_asked P c z i (s.Compute Discard) h = tt
 step_asked P c z i (s.Ask (Read w d)) h = h
-step_asked P c z i (s.Ask (ReadCell a n d)) h = asked_cell P i.line a (operand z n) (λ w. asks_value i.line (read w) (λ v. given (without z n) d v)) h.0 h.1
+step_asked P c z i (s.Ask (ReadCell a n d)) h = asked_cell P i.line a (operand_value z n) (λ w. asks_value i.line (read w) (λ v. given (without z n) d v)) h.0 h.1
 step_asked P c z i (s.Ask (Write w a)) h = h
-step_asked P c z i (s.Ask (WriteCell a n b)) h = asked_cell P i.line a (operand (without z b) n) (λ w. asks_act i.line (write w (operand z b)) (without (without z b) n)) h.0 h.1
+step_asked P c z i (s.Ask (WriteCell a n b)) h = asked_cell P i.line a (operand_value (without z b) n) (λ w. asks_act i.line (write w (operand_value z b)) (without (without z b) n)) h.0 h.1
 step_asked P c z i (s.Ask (Lock m)) h = h
 step_asked P c z i (s.Ask (Unlock m)) h = h
 step_asked P c z i (s.Ask (Down x)) h = h
@@ -87,10 +87,10 @@ step_asked P c z i (s.Control Done) h = tt
 step_asked P c z i (s.Control (Edge to)) h = tt
 step_asked P c z i (s.Control (Jump to)) h = tt
 step_asked P c z i (s.Control (JumpIfZero a to)) h =
-    asked_if P (is_zero (operand z a)) (goes None (before (jumped (without z a) to))) (on (without z a)) (λ e. tt) (λ e. tt)
+    asked_if P (is_zero (operand_value z a)) (goes None (before (jumped (without z a) to))) (on (without z a)) (λ e. tt) (λ e. tt)
 step_asked P c z i (s.Control (Call f n)) h =
-    asked_if P (nat_lt (suc (length z.below)) frame_limit) (calls c (without_arguments z n) i.place f (arguments z n) (slice_get c.entrances f)) (traps i.line frames)
-    (λ e. asked_calls P c (without_arguments z n) i.place f (arguments z n) (slice_get c.entrances f)) (λ e. h)
+    asked_if P (nat_lt (suc (length z.below)) frame_limit) (calls c (without_arguments z n) i.place f (argument_values z n) (slice_get c.entrances f)) (traps i.line frames)
+    (λ e. asked_calls P c (without_arguments z n) i.place f (argument_values z n) (slice_get c.entrances f)) (λ e. h)
 step_asked P c z i (s.Control (Return a)) h = tt
 step_asked P c z i (s.Control Out) h = tt
 
@@ -109,7 +109,7 @@ asked_at P c over h f = tt
 -- Numbers
 
 -- as many values wait as a spawn takes off
-spawn_length : (z : State) (n : ℕ) → n ≤ length z.values → length (arguments z n) ≡ n
+spawn_length : (z : State) (n : ℕ) → n ≤ length z.values → length (argument_values z n) ≡ n
 spawn_length z n h = omega (arith, h, length-reverse (take n z.values), length-take n z.values)
 
 numbers_asked : (c : Flow) (z : State) (line : ℕ) (x : Step) → HasProgramNumbers c.program x → KeepsDepth c z.at (length z.values) x → Requests (HasNumbers c.program) z line x

@@ -100,17 +100,17 @@ running_here p l t n b es z q h = by_owed h.asks
     by_owed (inr (inl (line, place, is, owed))) = tick_here p l t n line place b es z q h owed (same_request (r.Tick line place) q (sym is))
     by_owed (inr (inr (x, is, at, owed))) = asked_here p l t n b es z q h owed (progress (lowered p) z) refl (at ∙ sym is)
 
-running_requests : (s : Strand) (b : Birth) (n : ℕ) (z : Position) (q : Request) → KeepsRules s.program → s.wanted ≡ Some q → RunningInvariant s.program s.thread b s.entries (Some q) n z → Requests s b q
+running_requests : (s : Strand) (b : Birth) (n : ℕ) (z : Position) (q : Request) → KeepsRules s.program → s.want ≡ Some q → RunningInvariant s.program s.thread b s.entries (Some q) n z → Requests s b q
 running_requests s b n z q l e h =
     let a : IsAskedHere s.program s.thread b s.entries q = running_here s.program l s.thread n b s.entries z q h in
-    record { wanted = e; next = a.next; numbers = a.numbers; begins = a.begins ∙ sym h.begun; lives = h.lives; blocked = free_last s.thread q s.entries h.free }
+    record { want = e; next = a.next; numbers = a.numbers; begins = a.begins ∙ sym h.begun; lives = h.lives; blocked = free_last s.thread q s.entries h.free }
 
 -- Where it was told that its request is disabled, it asks for the same again.
-again_requests : (s : Strand) (b : Birth) (n : ℕ) (z : Position) (q : Request) → KeepsRules s.program → s.wanted ≡ Some q → AsksAgain s.program s.thread b s.entries (Some q) n z → Requests s b q
+again_requests : (s : Strand) (b : Birth) (n : ℕ) (z : Position) (q : Request) → KeepsRules s.program → s.want ≡ Some q → AsksAgain s.program s.thread b s.entries (Some q) n z → Requests s b q
 again_requests s b n z q l e h =
     let a : IsAskedHere s.program s.thread b h.front h.request = running_here s.program l s.thread h.count b h.front z h.request h.runs in
     subst (Requests s b) (sym (same_request q h.request h.asks)) (record {
-      wanted = e ∙ h.asks;
+      want = e ∙ h.asks;
       next = subst (λ es. AsksNext s.program (own_with s.thread b.func b.args es) h.request) (sym h.entries)
           (asks_behind s.program s.thread b.func b.args h.front h.request h.last h.runs.begun h.runs.free h.blocked a.next);
       numbers = a.numbers;
@@ -142,15 +142,15 @@ begins_next p l t b g there = λ plans. record {
     first = tree_trace p l b.func b.args _ Open (begin_open (lowered p) b.func b.args g there)
 
 -- the one request that may be asked for
-pub only_begin : (line : ℕ) (q : Request) (wanted : Option Request) → wanted ≡ Some q → AsksBegin line wanted → r.Begin line ≡ q
-only_begin line q wanted e (inl none) = absurd (no_request q (sym none ∙ e))
-only_begin line q wanted e (inr is) = same_request (r.Begin line) q (sym is ∙ e)
+pub only_begin : (line : ℕ) (q : Request) (want : Option Request) → want ≡ Some q → AsksBegin line want → r.Begin line ≡ q
+only_begin line q want e (inl none) = absurd (no_request q (sym none ∙ e))
+only_begin line q want e (inr is) = same_request (r.Begin line) q (sym is ∙ e)
 
-waiting_requests : (s : Strand) (b : Birth) (q : Request) → KeepsRules s.program → s.wanted ≡ Some q → WaitingInvariant s.program b s.entries s.wanted → Requests s b q
+waiting_requests : (s : Strand) (b : Birth) (q : Request) → KeepsRules s.program → s.want ≡ Some q → WaitingInvariant s.program b s.entries s.want → Requests s b q
 waiting_requests s b q l e h =
-    let same : r.Begin (end_line s.program b.func) ≡ q = only_begin (end_line s.program b.func) q s.wanted e h.asks in
+    let same : r.Begin (end_line s.program b.func) ≡ q = only_begin (end_line s.program b.func) q s.want e h.asks in
     subst (Requests s b) same (record {
-      wanted = e ∙ ap Some (sym same);
+      want = e ∙ ap Some (sym same);
       next = subst (λ es. AsksNext s.program (own_with s.thread b.func b.args es) (r.Begin (end_line s.program b.func))) (sym h.none) (begins_next s.program l s.thread b h.function.0 h.function.1);
       numbers = tt;
       begins = sym (ap has_none h.none);
@@ -160,7 +160,7 @@ waiting_requests s b q l e h =
 
 -- Threads
 
-requests_at : (s : Strand) (b : Birth) (q : Request) (x : Stage) → KeepsRules s.program → s.wanted ≡ Some q → StageInvariant x s (Some b) → Requests s b q
+requests_at : (s : Strand) (b : Birth) (q : Request) (x : Stage) → KeepsRules s.program → s.want ≡ Some q → StageInvariant x s (Some b) → Requests s b q
 requests_at s b q stage.Waits l e h = waiting_requests s b q l e h
 requests_at s b q stage.Runs l e (inl h) =
     running_requests s b s.execution.passed (position s.execution.machine) q l e (subst (λ o. RunningInvariant s.program s.thread b s.entries o s.execution.passed (position s.execution.machine)) e h)
@@ -169,7 +169,7 @@ requests_at s b q stage.Runs l e (inr h) =
 requests_at s b q stage.Over l e h = absurd (no_request q (sym h.asks ∙ e))
 
 -- what a thread asks for
-pub kept_asks : (s : Strand) (o : Option Birth) (q : Request) → StrandInvariant s → s.birth ≡ o → IsStarted o → s.wanted ≡ Some q → Wants s o (w.Ask q)
+pub kept_asks : (s : Strand) (o : Option Birth) (q : Request) → StrandInvariant s → s.birth ≡ o → IsStarted o → s.want ≡ Some q → Wants s o (w.Ask q)
 kept_asks s None q h e none is = none
 kept_asks s (Some b) q h e none is = requests_at s b q s.execution.stage h.lawful is (subst (StageInvariant s.execution.stage s) e h.stage)
 
@@ -181,7 +181,7 @@ some_ended (x ∷ es) h = refl
 pub kept_over : (s : Strand) (o : Option Birth) → StrandInvariant s → s.birth ≡ o → IsStarted o → s.execution.stage ≡ stage.Over → Wants s o w.Ended
 kept_over s None h e none is = none
 kept_over s (Some b) h e none is =
-    let over : EndInvariant s.program s.thread b s.entries s.wanted = subst (λ x. StageInvariant x s (Some b)) is (subst (StageInvariant s.execution.stage s) e h.stage) in
+    let over : EndInvariant s.program s.thread b s.entries s.want = subst (λ x. StageInvariant x s (Some b)) is (subst (StageInvariant s.execution.stage s) e h.stage) in
     record {
       whole = λ plans. whole_part s.program plans s.thread b.func b.args over.steps s.entries over.owed over.passed (some_ended s.entries over.ended) over.walk over.whole;
       ended = over.ended;

@@ -4,7 +4,7 @@ use Rattle.std.proofs.Common.{nat_lt, slice_get, length, drop, length-drop, ltb-
 use Rattle.std.proofs.lemmas.Option.{slice_get-get_or, slice_get_within}
 use Rattle.loom_expression.specs.Text.{node_limit}
 use Rattle.loom_lang.specs.Limits.{param_limit}
-use Rattle.loom_lang.specs.Values.{is_zero, applied, divides, negated, inverted}
+use Rattle.loom_lang.specs.Values.{is_zero, op_value, divides, negated, inverted}
 use Rattle.loom_lang.specs.Trace.{frame_limit, division, index, frames}
 use Rattle.loom_lang.specs.Places.{places}
 use Rattle.loom_flow.specs.declared.code.Array.{Array}
@@ -23,7 +23,7 @@ use Rattle.loom_flow.specs.declared.code.Step.TheVariants as s
 use Rattle.loom_flow.specs.declared.code.Instr.{Instr}
 use Rattle.loom_flow.specs.declared.code.Entrance.{Entrance}
 use Rattle.loom_flow.specs.Flow.{Flow, resume, return_point}
-use Rattle.loom_flow.specs.State.{Frame, State, operand, values_without, without, values_given, given, jumped, arguments, without_arguments, at_start}
+use Rattle.loom_flow.specs.State.{Frame, State, operand_value, values_without, without, values_given, given, jumped, argument_values, without_arguments, at_start}
 use Rattle.loom_flow.specs.Position.{Position, before, leaves, over}
 use Rattle.loom_flow.specs.Progress.{Progress, goes, asks, traps, ends, nothing, on, of_compute, in_array, asks_value, asks_act, of_ask, calls, returns, of_control, of_step, of_instr, progress}
 use Rattle.loom_flow.specs.Question.{read, write}
@@ -79,23 +79,23 @@ keeps_cell c line a (pos i) more h = keeps_if c (nat_lt i a.count) (more (a.firs
 keeps_cell c line a (negsuc i) more h = tt
 
 compute_keeps : (c : Flow) (z : State) (line : ℕ) (x : Compute) → IsBefore c z → suc z.at < length c.code → KeepsDepth c z.at (length z.values) (s.Compute x) → Keeps c (of_compute z line x)
-compute_keeps c z line (Move a d) h next depth = stays c z (suc z.at) _ _ _ h next depth.1 (left_length a d (operand z a) z.values)
-compute_keeps c z line (Negate a d) h next depth = stays c z (suc z.at) _ _ _ h next depth.1 (left_length a d (negated (operand z a)) z.values)
-compute_keeps c z line (Invert a d) h next depth = stays c z (suc z.at) _ _ _ h next depth.1 (left_length a d (inverted (operand z a)) z.values)
+compute_keeps c z line (Move a d) h next depth = stays c z (suc z.at) _ _ _ h next depth.1 (left_length a d (operand_value z a) z.values)
+compute_keeps c z line (Negate a d) h next depth = stays c z (suc z.at) _ _ _ h next depth.1 (left_length a d (negated (operand_value z a)) z.values)
+compute_keeps c z line (Invert a d) h next depth = stays c z (suc z.at) _ _ _ h next depth.1 (left_length a d (inverted (operand_value z a)) z.values)
 compute_keeps c z line (Apply op a b d) h next depth =
-    keeps_if c (divides op && is_zero (operand z b)) (traps line division)
-    (on (given (without (without z b) a) d (applied op (operand (without z b) a) (operand z b)))) (λ e. tt)
+    keeps_if c (divides op && is_zero (operand_value z b)) (traps line division)
+    (on (given (without (without z b) a) d (op_value op (operand_value (without z b) a) (operand_value z b)))) (λ e. tt)
     (λ e. stays c z (suc z.at) _ _ _ h next depth.1
-    (omega (arith, two_length a b z.values, given_length d (applied op (operand (without z b) a) (operand z b)) (values_without a (values_without b z.values)))))
+    (omega (arith, two_length a b z.values, given_length d (op_value op (operand_value (without z b) a) (operand_value z b)) (values_without a (values_without b z.values)))))
 compute_keeps c z line Discard h next depth = stays c z (suc z.at) _ _ _ h next depth.1 (taken_length o.Top z.values)
 
 ask_keeps : (c : Flow) (z : State) (line : ℕ) (x : Ask) → IsBefore c z → suc z.at < length c.code → KeepsDepth c z.at (length z.values) (s.Ask x) → Keeps c (of_ask z line x)
 ask_keeps c z line (Read w d) h next depth = λ v. stays c z (suc z.at) _ _ _ h next depth.1 (left_length (o.Number v) d v z.values)
 ask_keeps c z line (ReadCell a n d) h next depth =
-    keeps_cell c line a (operand z n) (λ w. asks_value line (read w) (λ v. given (without z n) d v)) (λ w v. stays c z (suc z.at) _ _ _ h next depth.1 (left_length n d v z.values))
+    keeps_cell c line a (operand_value z n) (λ w. asks_value line (read w) (λ v. given (without z n) d v)) (λ w v. stays c z (suc z.at) _ _ _ h next depth.1 (left_length n d v z.values))
 ask_keeps c z line (Write w a) h next depth = λ v. stays c z (suc z.at) _ _ _ h next depth.1 (taken_length a z.values)
 ask_keeps c z line (WriteCell a n b) h next depth =
-    keeps_cell c line a (operand (without z b) n) (λ w. asks_act line (write w (operand z b)) (without (without z b) n))
+    keeps_cell c line a (operand_value (without z b) n) (λ w. asks_act line (write w (operand_value z b)) (without (without z b) n))
     (λ w v. stays c z (suc z.at) _ _ _ h next depth.1 (omega (arith, two_length n b z.values)))
 ask_keeps c z line (Lock m) h next depth = λ v. stays c z (suc z.at) _ _ _ h next depth.1 (omega arith)
 ask_keeps c z line (Unlock m) h next depth = λ v. stays c z (suc z.at) _ _ _ h next depth.1 (omega arith)
@@ -136,11 +136,11 @@ control_keeps c z i (Edge to) h starts site leads depth = stays c z to 0 _ _ h l
 control_keeps c z i (Jump to) h starts site leads depth = stays c z to 0 _ _ h leads.2 depth.1 (sym depth.0)
 control_keeps c z i (JumpIfZero a to) h starts site leads depth =
     let empty : 0 ≡ length (values_without a z.values) = omega (arith, without_length a z.values, depth.0) in
-    keeps_if c (is_zero (operand z a)) (goes None (before (jumped (without z a) to))) (on (without z a))
+    keeps_if c (is_zero (operand_value z a)) (goes None (before (jumped (without z a) to))) (on (without z a))
     (λ e. stays c z to 0 _ _ h leads.2 depth.2 empty) (λ e. stays c z (suc z.at) 0 _ _ h leads.0 depth.1 empty)
 control_keeps c z i (Call f n) h starts site leads depth =
-    keeps_if c (nat_lt (suc (length z.below)) frame_limit) (calls c (without_arguments z n) i.place f (arguments z n) (slice_get c.entrances f)) (traps i.line frames)
-    (λ few. keeps_calls c z i.place f (arguments z n) (drop n z.values) (slice_get c.entrances f) h starts refl leads.1 site leads.2 leads.0 depth.1
+    keeps_if c (nat_lt (suc (length z.below)) frame_limit) (calls c (without_arguments z n) i.place f (argument_values z n) (slice_get c.entrances f)) (traps i.line frames)
+    (λ few. keeps_calls c z i.place f (argument_values z n) (drop n z.values) (slice_get c.entrances f) h starts refl leads.1 site leads.2 leads.0 depth.1
     (omega (arith, ltb-true (suc (length z.below)) frame_limit few)) (omega (arith, length-drop n z.values, depth.0))) (λ e. tt)
 control_keeps c z i (Return a) h starts site leads depth = record { values = omega (arith, without_length a z.values, depth); frames = h.frames }
 control_keeps c z i Out h starts site leads depth = record { values = depth; frames = h.frames }

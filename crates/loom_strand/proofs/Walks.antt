@@ -9,7 +9,7 @@ use Rattle.loom_event.specs.Event.{entry_by}
 use Rattle.loom_law.specs.Walk.{tick_after}
 use Rattle.loom_law.specs.Filter.{statement, function}
 use Rattle.loom_trace.specs.declared.entry.What.{What}
-use Rattle.loom_law.specs.Walk.{Version, Plans, Operation, tick, blocked, AsksFor, PartStep, goes, makes, items, told_item, told, entry_of_operation, Walk, Queue, unborn, owed_at, owed_behind, owed_out, owed_trap, with_tick, with_back, place_number, function_line, begun_with, without_first, after, walk_from, Owes, MayStand, AreWoven}
+use Rattle.loom_law.specs.Walk.{Version, Plans, Operation, tick, blocked, AsksFor, PartStep, goes, makes, items, told_item, filter_entries, entry_of_operation, Walk, Queue, unborn, owed_at, owed_behind, owed_out, owed_trap, with_tick, with_back, place_number, function_line, begun_with, without_first, walk_behind, walk_from, Owes, MayStand, AreWoven}
 use Rattle.loom_law.specs.TurnLaws.{blocked_behind, ends_blocked}
 use Rattle.loom_law.proofs.Answers.{woven_last}
 use Rattle.loom_law.proofs.Makings.{walk_blocked}
@@ -24,7 +24,7 @@ items_append (makes l o ∷ ss) us = items_append ss us
 
 walk_append : (p : Source) (plans : Plans) (z : Walk) (ss us : List PartStep) → walk_from p plans z (ss ++ us) ≡ walk_from p plans (walk_from p plans z ss) us
 walk_append p plans z [] us = refl
-walk_append p plans z (s ∷ ss) us = walk_append p plans (after p plans z s) ss us
+walk_append p plans z (s ∷ ss) us = walk_append p plans (walk_behind p plans z s) ss us
 
 told_item_append : (t : ℕ) (i : Item) (es fs : List Entry) → told_item t i (es ++ fs) ≡ told_item t i es ++ fs
 told_item_append t (made l a) es fs = refl
@@ -34,9 +34,9 @@ told_item_append t (edge l) es fs = refl
 told_item_append t (enter f env) es fs = refl
 told_item_append t (out f) es fs = refl
 
-told_append : (t : ℕ) (ss us : List PartStep) → told t (ss ++ us) ≡ told t ss ++ told t us
+told_append : (t : ℕ) (ss us : List PartStep) → filter_entries t (ss ++ us) ≡ filter_entries t ss ++ filter_entries t us
 told_append t [] us = refl
-told_append t (goes i ∷ ss) us = ap (told_item t i) (told_append t ss us) ∙ told_item_append t i (told t ss) (told t us)
+told_append t (goes i ∷ ss) us = ap (told_item t i) (told_append t ss us) ∙ told_item_append t i (filter_entries t ss) (filter_entries t us)
 told_append t (makes l o ∷ ss) us = ap (◌∷◌ (entry_of_operation t l o)) (told_append t ss us)
 
 items_ahead : (ss us : List PartStep) (ahead : List Item) → items (ss ++ us) ++ ahead ≡ items ss ++ (items us ++ ahead)
@@ -46,23 +46,23 @@ woven_more : (p : Source) (plans : Plans) (z : Walk) (ss : List PartStep) (s : P
     → ((more : List Item) → AreWoven p plans z ss more) → MayStand p (walk_from p plans z ss) s ahead → AreWoven p plans z (ss ++ s ∷ []) ahead
 woven_more p plans z [] s ahead h may = (may, tt)
 woven_more p plans z (u ∷ ss) s ahead h may =
-    (subst (MayStand p z u) (sym (items_ahead ss (s ∷ []) ahead)) (h (items (s ∷ []) ++ ahead)).0, woven_more p plans (after p plans z u) ss s ahead (λ more. (h more).1) may)
+    (subst (MayStand p z u) (sym (items_ahead ss (s ∷ []) ahead)) (h (items (s ∷ []) ++ ahead)).0, woven_more p plans (walk_behind p plans z u) ss s ahead (λ more. (h more).1) may)
 
 -- A step that may stand there leads on.
 walk_more : (p : Source) (t : ℕ) (ss : List PartStep) (es fs : List Entry) (os ps : Queue) (n k : ℕ) (s : PartStep) → IsPlainWalk p t ss es os n
     → ((z : Walk) → IsPlain os n z → (ahead : List Item) → MayStand p z s ahead)
-    → ((plans : Plans) (z : Walk) → IsPlain os n z → IsPlain ps k (after p plans z s)) → told t (s ∷ []) ≡ fs
+    → ((plans : Plans) (z : Walk) → IsPlain os n z → IsPlain ps k (walk_behind p plans z s)) → filter_entries t (s ∷ []) ≡ fs
     → IsPlainWalk p t (ss ++ s ∷ []) (es ++ fs) ps k
 walk_more p t ss es fs os ps n k s h may leads tells = record {
   woven = λ plans ahead. woven_more p plans (unborn (first_version ∷ [])) ss s ahead (h.woven plans) (may _ (h.plain plans) ahead);
-  tells = told_append t ss (s ∷ []) ∙ ap (λ gs. gs ++ told t (s ∷ [])) h.tells ∙ ap (λ gs. es ++ gs) tells;
+  tells = told_append t ss (s ∷ []) ∙ ap (λ gs. gs ++ filter_entries t (s ∷ [])) h.tells ∙ ap (λ gs. es ++ gs) tells;
   plain = λ plans. subst (IsPlain ps k) (sym (walk_append p plans (unborn (first_version ∷ [])) ss (s ∷ []))) (leads plans _ (h.plain plans));
 }
 
 -- a mark, where nothing is owed
 walk_mark : (p : Source) (t : ℕ) (ss : List PartStep) (es : List Entry) (ps : Queue) (n k : ℕ) (i : Item) → IsPlainWalk p t ss es [] n
     → ((z : Walk) → IsPlain [] n z → (ahead : List Item) → MayStand p z (goes i) ahead)
-    → ((plans : Plans) (z : Walk) → IsPlain [] n z → IsPlain ps k (after p plans z (goes i))) → told t (goes i ∷ []) ≡ []
+    → ((plans : Plans) (z : Walk) → IsPlain [] n z → IsPlain ps k (walk_behind p plans z (goes i))) → filter_entries t (goes i ∷ []) ≡ []
     → IsPlainWalk p t (ss ++ goes i ∷ []) es ps k
 walk_mark p t ss es ps n k i h may leads tells =
     subst (λ gs. IsPlainWalk p t (ss ++ goes i ∷ []) gs ps k) (append-nil es) (walk_more p t ss es [] [] ps n k (goes i) h may leads tells)
@@ -134,7 +134,7 @@ may_act p z l (print v) ahead other h = h
 entered : (z : Walk) (n : ℕ) → IsPlain [] n z → IsPlain [] 0 (record z { passed = []; is_blocked = false; spot = Rattle.loom_law.specs.Walk.elsewhere })
 entered z n g = record { coming = g.coming; active = g.active; held = g.held; owed = g.owed; passed = refl }
 
-acted : (p : Source) (plans : Plans) (z : Walk) (n l : ℕ) (a : Act) → is_begin_act a ≡ false → IsPlain [] n z → IsPlain [] 0 (after p plans z (goes (made l a)))
+acted : (p : Source) (plans : Plans) (z : Walk) (n l : ℕ) (a : Act) → is_begin_act a ≡ false → IsPlain [] n z → IsPlain [] 0 (walk_behind p plans z (goes (made l a)))
 acted p plans z n l begin other g = cc
 acted p plans z n l end other g = entered z n g
 acted p plans z n l (trap c) other g = record { coming = g.coming; active = g.active; held = g.held; owed = ap (owed_trap plans z.held l) g.active; passed = refl }

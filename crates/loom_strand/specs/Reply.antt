@@ -36,9 +36,9 @@ reply_of (e.Print t l v) = Some (a.Gives (pos 0))
 reply_of _ = None
 
 -- The request that waits for its answer behind this one: the same where the thread waits, and else none.
-abbrev pub still_wanted : Option Reply → Option Request → Option Request
-still_wanted (Some a.Waits) wanted = wanted
-still_wanted _ wanted = None
+abbrev pub want_behind : Option Reply → Option Request → Option Request
+want_behind (Some a.Waits) want = want
+want_behind _ want = None
 
 -- It asks at this position.
 abbrev pub IsAsking : Progress → Type 0

@@ -8,7 +8,7 @@ use Rattle.loom_trace.specs.declared.entry.Entry.{Entry}
 use Rattle.loom_trace.specs.declared.request.Request.{Request}
 use Rattle.loom_trace.specs.declared.request.Request.TheVariants as r
 use Rattle.loom_event.specs.Answer.{asks_begin, IsGrantOf, IsAnswerTo, IsBlockedFor, HasNumbers}
-use Rattle.loom_law.specs.Walk.{Plans, tick, PartStep, items, told, unborn, AreWoven}
+use Rattle.loom_law.specs.Walk.{Plans, tick, PartStep, items, filter_entries, unborn, AreWoven}
 use Rattle.loom_law.specs.ThreadPart.{Own, walk_of, IsPart, AsksToMake, AsksToAct}
 use Rattle.loom_law.specs.TurnLaws.{ends_blocked}
 use Rattle.loom_strand.specs.declared.stage.Birth.{Birth}
@@ -33,7 +33,7 @@ pub record Strand : Type 0 where
   pub birth : Option Birth
   pub entries : List Entry
   -- the request that isn't answered yet
-  pub wanted : Option Request
+  pub want : Option Request
   pub execution : Execution
 
 -- It was made with room for `n` entries, and not started.
@@ -43,13 +43,13 @@ pub record IsNew (p : Source) (t n : ℕ) (s : Strand) : Type 0 where
   pub limit : s.limit ≡ n
   pub birth : s.birth ≡ None
   pub entries : s.entries ≡ []
-  pub wanted : s.wanted ≡ None
+  pub want : s.want ≡ None
   -- and for no more values than wait at most before an instruction, and no more frames than there may be below the newest one
   pub values : s.execution.machine.most_values ≡ most_values (lowered p)
   pub frames : s.execution.machine.most_frames ≡ frames_below
 
 -- It is the same thread, with these entries and this birth.
-pub record IsSame (old : Strand) (b : Option Birth) (es : List Entry) (new : Strand) : Type 0 where
+pub record IsSameThread (old : Strand) (b : Option Birth) (es : List Entry) (new : Strand) : Type 0 where
   pub program : new.program ≡ old.program
   pub thread : new.thread ≡ old.thread
   pub limit : new.limit ≡ old.limit
@@ -76,7 +76,7 @@ AsksNext p x q = (plans : Plans) → AsksToAct p plans x q
 
 -- It makes this request. It asks for its begin where it has no entry yet.
 pub record Requests (s : Strand) (b : Birth) (q : Request) : Type 0 where
-  pub wanted : s.wanted ≡ Some q
+  pub want : s.want ≡ Some q
   pub next : AsksNext s.program (own_of s b) q
   pub numbers : HasNumbers s.program q
   pub begins : asks_begin q ≡ has_none s.entries
@@ -91,14 +91,14 @@ IsReplyTo false t (Some q) x = IsAnswerTo t q x ⊎ IsBlockedFor t q x
 IsReplyTo true t (Some q) x = IsGrantOf t q x
 
 abbrev pub IsReply : Strand → Entry → Type 0
-IsReply s x = IsReplyTo (ends_blocked s.entries) s.thread s.wanted x
+IsReply s x = IsReplyTo (ends_blocked s.entries) s.thread s.want x
 
 -- The entries are a whole part, whatever filters mean: nothing comes behind them.
 pub record IsWholePart (p : Source) (plans : Plans) (x : Own) : Type 0 where
   pub steps : List PartStep
   pub trace : IsTrace p x.func x.args (items steps) Finished
   pub woven : AreWoven p plans (unborn x.versions) steps []
-  pub tells : told x.thread steps ≡ x.entries
+  pub tells : filter_entries x.thread steps ≡ x.entries
   pub taken : (walk_of p plans x steps).coming ≡ []
 
 -- It has ended.

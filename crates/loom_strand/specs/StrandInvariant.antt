@@ -3,7 +3,7 @@ use Rattle.std.specs.Prelude.{ℕ, ◌≡◌, ◌≤◌, ◌<◌, ◌⊎◌, tru
 use Rattle.loom_tree.specs.Tree.{Source}
 use Rattle.loom_lang.specs.Rules.{KeepsRules}
 use Rattle.loom_lang.specs.Places.{line_of_function}
-use Rattle.loom_lang.specs.Trace.{Item, Outcome, Finished, Thread, IsTrace, ended}
+use Rattle.loom_lang.specs.Trace.{Item, Outcome, Finished, Thread, IsTrace, thread_end}
 use Rattle.loom_flow.specs.Flow.{Flow}
 use Rattle.loom_flow.specs.State.{Frame, State}
 use Rattle.loom_flow.specs.Position.{Position, before, leaves, over}
@@ -74,47 +74,47 @@ abbrev pub end_line : Source → ℕ → ℕ
 end_line p f = line_of_function (slice_get p.funcs f)
 
 abbrev pub thread_with : Source → ℕ → Thread
-thread_with p f = record { program = p; stopped = ended (end_line p f) }
+thread_with p f = record { program = p; stopped = thread_end (end_line p f) }
 
 -- What is asked for
 
 -- nothing yet: nothing is owed, and no place more was passed than goes without a tick
 abbrev pub AsksNothing : Option Request → Queue → ℕ → Type 0
-AsksNothing wanted os n = (wanted ≡ None) × (os ≡ []) × (n < tick_after)
+AsksNothing want os n = (want ≡ None) × (os ≡ []) × (n < tick_after)
 
 -- the tick that is owed
 abbrev pub AsksTick : Option Request → Queue → Type 0
-AsksTick wanted os = (line : ℕ) × (place : ℕ) × (wanted ≡ Some (r.Tick line place)) × (os ≡ (line, tick place) ∷ [])
+AsksTick want os = (line : ℕ) × (place : ℕ) × (want ≡ Some (r.Tick line place)) × (os ≡ (line, tick place) ∷ [])
 
 -- what comes of the position
 abbrev pub AsksHere : Flow → ℕ → Position → Option Request → Queue → Type 0
-AsksHere c line z wanted os = (q : Request) × (wanted ≡ Some q) × (request_at line (progress c z) ≡ Some q) × (os ≡ [])
+AsksHere c line z want os = (q : Request) × (want ≡ Some q) × (request_at line (progress c z) ≡ Some q) × (os ≡ [])
 
 -- Stages
 
 -- only its begin, or nothing yet
 abbrev pub AsksBegin : ℕ → Option Request → Type 0
-AsksBegin line wanted = (wanted ≡ None) ⊎ (wanted ≡ Some (r.Begin line))
+AsksBegin line want = (want ≡ None) ⊎ (want ≡ Some (r.Begin line))
 
-pub record WaitingInvariant (p : Source) (b : Birth) (es : List Entry) (wanted : Option Request) : Type 0 where
+pub record WaitingInvariant (p : Source) (b : Birth) (es : List Entry) (want : Option Request) : Type 0 where
   pub none : es ≡ []
   pub function : IsFunctionWith p b.func b.args
-  pub asks : AsksBegin (end_line p b.func) wanted
+  pub asks : AsksBegin (end_line p b.func) want
 
-pub record RunningInvariant (p : Source) (t : ℕ) (b : Birth) (es : List Entry) (wanted : Option Request) (n : ℕ) (z : Position) : Type 0 where
+pub record RunningInvariant (p : Source) (t : ℕ) (b : Birth) (es : List Entry) (want : Option Request) (n : ℕ) (z : Position) : Type 0 where
   pub function : IsFunctionWith p b.func b.args
   pub steps : List PartStep
   pub owed : Queue
   pub walk : IsPlainWalk p t steps es owed n
   pub goes : GoesOnFrom (lowered p) (thread_with p b.func) b.func b.args (items steps) z
   pub sound : IsSoundPosition (lowered p) z
-  pub asks : AsksNothing wanted owed n ⊎ (AsksTick wanted owed ⊎ AsksHere (lowered p) (end_line p b.func) z wanted owed)
+  pub asks : AsksNothing want owed n ⊎ (AsksTick want owed ⊎ AsksHere (lowered p) (end_line p b.func) z want owed)
   pub begun : has_none es ≡ false
   pub lives : has_ended es ≡ false
   pub free : ends_blocked es ≡ false
 
 -- Its last entry tells that its request is disabled: it asks for the same again. But for that entry it runs.
-pub record AsksAgain (p : Source) (t : ℕ) (b : Birth) (es : List Entry) (wanted : Option Request) (n : ℕ) (z : Position) : Type 0 where
+pub record AsksAgain (p : Source) (t : ℕ) (b : Birth) (es : List Entry) (want : Option Request) (n : ℕ) (z : Position) : Type 0 where
   pub front : List Entry
   pub request : Request
   pub count : ℕ
@@ -122,25 +122,25 @@ pub record AsksAgain (p : Source) (t : ℕ) (b : Birth) (es : List Entry) (wante
   pub last : Entry
   pub blocked : IsBlockedFor t request last
   pub entries : es ≡ front ++ last ∷ []
-  pub asks : wanted ≡ Some request
+  pub asks : want ≡ Some request
   pub passed : n ≡ 0
 
-pub record EndInvariant (p : Source) (t : ℕ) (b : Birth) (es : List Entry) (wanted : Option Request) : Type 0 where
+pub record EndInvariant (p : Source) (t : ℕ) (b : Birth) (es : List Entry) (want : Option Request) : Type 0 where
   pub steps : List PartStep
   pub owed : Queue
   pub passed : ℕ
   pub walk : IsPlainWalk p t steps es owed passed
   pub whole : IsTrace p b.func b.args (items steps) Finished
   pub ended : has_ended es ≡ true
-  pub asks : wanted ≡ None
+  pub asks : want ≡ None
 
 abbrev pub StageInvariant : Stage → Strand → Option Birth → Type 0
-StageInvariant stage.Waits s None = (s.entries ≡ []) × (s.wanted ≡ None)
-StageInvariant stage.Waits s (Some b) = WaitingInvariant s.program b s.entries s.wanted
+StageInvariant stage.Waits s None = (s.entries ≡ []) × (s.want ≡ None)
+StageInvariant stage.Waits s (Some b) = WaitingInvariant s.program b s.entries s.want
 StageInvariant stage.Runs s (Some b) =
-    RunningInvariant s.program s.thread b s.entries s.wanted s.execution.passed (position s.execution.machine)
-    ⊎ AsksAgain s.program s.thread b s.entries s.wanted s.execution.passed (position s.execution.machine)
-StageInvariant stage.Over s (Some b) = EndInvariant s.program s.thread b s.entries s.wanted
+    RunningInvariant s.program s.thread b s.entries s.want s.execution.passed (position s.execution.machine)
+    ⊎ AsksAgain s.program s.thread b s.entries s.want s.execution.passed (position s.execution.machine)
+StageInvariant stage.Over s (Some b) = EndInvariant s.program s.thread b s.entries s.want
 StageInvariant _ s None = ⊥
 
 -- The machine of a thread that hasn't begun is as it was made.

@@ -4,7 +4,7 @@ ghost use Rattle.loom_flow.specs.declared.code.Step.TheVariants as s;
 ghost use Rattle.loom_lang.specs.Limits.{param_limit};
 ghost use Rattle.loom_flow.specs.Depth.{pops, takes_off};
 ghost use Rattle.loom_flow.specs.Laws.{HasLocal, HasLocals};
-ghost use Rattle.loom_flow.specs.State.{operand, without, arguments};
+ghost use Rattle.loom_flow.specs.State.{operand_value, without, argument_values};
 ghost use Rattle.loom_flow.specs.Progress.{of_ask};
 ghost use Rattle.loom_trace.specs.declared.request.Request.TheVariants as r;
 ghost use Rattle.loom_strand.specs.declared.machine.Phase.TheVariants as phase;
@@ -31,7 +31,7 @@ fn read(line: u32, word: u16) -> Request
 fn read_cell(machine: &Machine, line: u32, array: Array, index: Operand) -> Request
     requires value { pops index ≤ length machine.now.state.values }
     requires local { HasLocal index }
-    ensures { result ≡ cell_request line (λ w. r.Read line w) (cell_at array (operand machine.now.state index)) }
+    ensures { result ≡ cell_request line (λ w. r.Read line w) (cell_at array (operand_value machine.now.state index)) }
 {
     match cell_at(array, machine.operand(index)) {
         Some(word) => Request::Read { line, word },
@@ -45,7 +45,7 @@ fn read_cell(machine: &Machine, line: u32, array: Array, index: Operand) -> Requ
 fn write(machine: &Machine, line: u32, word: u16, a: Operand) -> Request
     requires value { pops a ≤ length machine.now.state.values }
     requires local { HasLocal a }
-    ensures { result ≡ r.Write line word (operand machine.now.state a) }
+    ensures { result ≡ r.Write line word (operand_value machine.now.state a) }
 {
     Request::Write {
         line,
@@ -58,7 +58,7 @@ fn write(machine: &Machine, line: u32, word: u16, a: Operand) -> Request
 fn write_cell(machine: &Machine, line: u32, array: Array, index: Operand, b: Operand) -> Request
     requires values { pops index + pops b ≤ length machine.now.state.values }
     requires locals { HasLocal index × HasLocal b }
-    ensures { result ≡ cell_request line (λ w. r.Write line w (operand machine.now.state b)) (cell_at array (operand (without machine.now.state b) index)) }
+    ensures { result ≡ cell_request line (λ w. r.Write line w (operand_value machine.now.state b)) (cell_at array (operand_value (without machine.now.state b) index)) }
 {
     let value = machine.operand(b);
     match cell_at(array, machine.operand_under(index, b)) {
@@ -73,7 +73,7 @@ fn write_cell(machine: &Machine, line: u32, array: Array, index: Operand, b: Ope
 fn join(machine: &Machine, line: u32, a: Operand) -> Request
     requires value { pops a ≤ length machine.now.state.values }
     requires local { HasLocal a }
-    ensures { result ≡ r.Join line (operand machine.now.state a) }
+    ensures { result ≡ r.Join line (operand_value machine.now.state a) }
 {
     Request::Join {
         line,
@@ -84,7 +84,7 @@ fn join(machine: &Machine, line: u32, a: Operand) -> Request
 fn print(machine: &Machine, line: u32, a: Operand) -> Request
     requires value { pops a ≤ length machine.now.state.values }
     requires local { HasLocal a }
-    ensures { result ≡ r.Print line (operand machine.now.state a) }
+    ensures { result ≡ r.Print line (operand_value machine.now.state a) }
 {
     Request::Print {
         line,
@@ -95,7 +95,7 @@ fn print(machine: &Machine, line: u32, a: Operand) -> Request
 fn spawn(machine: &Machine, line: u32, func: u8, n: u8) -> Request
     requires few { n ≤ param_limit }
     requires there { n ≤ length machine.now.state.values }
-    ensures { result ≡ r.Spawn line func (arguments machine.now.state n) }
+    ensures { result ≡ r.Spawn line func (argument_values machine.now.state n) }
 {
     Request::Spawn {
         line,

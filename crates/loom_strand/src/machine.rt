@@ -1,7 +1,7 @@
 //! The machine of a thread.
 ghost use Rattle.std.specs.Prelude.{slice_get, ◌≡◌, ◌<◌, ◌≤◌, ◌+◌, ◌-◌, [], ◌∷◌, IfOk, Some, length, is_some, unwrap_or, pos, replicate};
 ghost use Rattle.loom_flow.specs.Flow.{Flow, resume};
-ghost use Rattle.loom_flow.specs.State.{operand, without, given, forward, jumped, arguments, without_arguments, frame_locals, at_start};
+ghost use Rattle.loom_flow.specs.State.{operand_value, without, given, forward, jumped, argument_values, without_arguments, local_values, at_start};
 ghost use Rattle.loom_flow.specs.Position.{before, leaves, over};
 ghost use Rattle.loom_flow.specs.Progress.{returns};
 ghost use Rattle.loom_lang.specs.Values.{is_zero};
@@ -133,7 +133,7 @@ impl Machine {
     pub fn operand(&self, a: Operand) -> i64
         requires value { pops a ≤ length self.now.state.values }
         requires local { HasLocal a }
-        ensures { result ≡ operand self.now.state a }
+        ensures { result ≡ operand_value self.now.state a }
     {
         match a {
             Operand::Top => self.values.top(),
@@ -239,7 +239,7 @@ impl Machine {
         requires before { HasNext self.old.state }
         requires value { pops a ≤ length self.old.state.values }
         requires local { HasLocal a }
-        ensures { self.new ≡ with_state self.old (branch_state (is_zero (operand self.old.state a)) (jumped (without self.old.state a) to) (forward (without self.old.state a))) }
+        ensures { self.new ≡ with_state self.old (branch_state (is_zero (operand_value self.old.state a)) (jumped (without self.old.state a) to) (forward (without self.old.state a))) }
     {
         if self.operand(a) == 0 {
             self.drop_operand(a);
@@ -253,7 +253,7 @@ impl Machine {
     pub fn operand_under(&self, a: Operand, over: Operand) -> i64
         requires values { pops a + pops over ≤ length self.now.state.values }
         requires local { HasLocal a }
-        ensures { result ≡ operand (without self.now.state over) a }
+        ensures { result ≡ operand_value (without self.now.state over) a }
     {
         match a {
             Operand::Top => match over {
@@ -270,7 +270,7 @@ impl Machine {
     pub fn arguments(&self, n: u8) -> Args
         requires few { n ≤ param_limit }
         requires there { n ≤ length self.now.state.values }
-        ensures { result ≡ arguments self.now.state n }
+        ensures { result ≡ argument_values self.now.state n }
     {
         self.values.last(n as usize)
     }
@@ -286,7 +286,7 @@ impl Machine {
     pub fn take_arguments(&mut self, n: u8) -> Args
         requires few { n ≤ param_limit }
         requires there { n ≤ length self.old.state.values }
-        ensures args { result ≡ arguments self.old.state n }
+        ensures args { result ≡ argument_values self.old.state n }
         ensures rest { self.new ≡ with_state self.old (without_arguments self.old.state n) }
     {
         let args = self.arguments(n);
@@ -312,7 +312,7 @@ impl Machine {
     pub fn leave(&mut self, a: Operand)
         requires value { pops a ≤ length self.old.state.values }
         requires local { HasLocal a }
-        ensures { self.new ≡ with_position self.old (leaves (without self.old.state a) (operand self.old.state a)) }
+        ensures { self.new ≡ with_position self.old (leaves (without self.old.state a) (operand_value self.old.state a)) }
     {
         let v = self.operand(a);
         self.drop_operand(a);
@@ -352,7 +352,7 @@ fn return_point(sites: &[Site], place: u16) -> usize
 
 // The locals of a new frame.
 fn first_locals(entrance: Entrance, args: Args) -> [i64; LOCAL_LIMIT]
-    ensures { result ≡ frame_locals entrance args }
+    ensures { result ≡ local_values entrance args }
 {
     let given = args.as_slice();
     let count = given.len().min(entrance.params as usize);

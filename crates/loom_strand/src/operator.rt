@@ -1,6 +1,6 @@
 //! The values of operators, and the cells of arrays.
 ghost use Rattle.std.specs.Prelude.{◌≡◌, Some, None};
-ghost use Rattle.loom_lang.specs.Values.{truth, inverted, applied};
+ghost use Rattle.loom_lang.specs.Values.{truth, inverted, op_value};
 ghost use Rattle.loom_strand.specs.Operator.{operator_value, cell_at};
 
 use loom_flow::code::Array;

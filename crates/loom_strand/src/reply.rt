@@ -2,7 +2,7 @@
 ghost use Rattle.std.specs.Prelude.{Some, ◌≡◌};
 ghost use Rattle.loom_flow.specs.Progress.{progress};
 ghost use Rattle.loom_strand.specs.Machine.{position, HasPlaceHere, TakesAnswer};
-ghost use Rattle.loom_strand.specs.Reply.{reply_of, still_wanted, IsAsking, CanFollow, Follows};
+ghost use Rattle.loom_strand.specs.Reply.{reply_of, want_behind, IsAsking, CanFollow, Follows};
 
 use crate::ask::take;
 use crate::machine::Machine;
@@ -68,13 +68,13 @@ pub(crate) fn reply_of(e: &Entry) -> Option<Reply>
 }
 
 /// The request that waits for an answer behind this one.
-pub(crate) fn still_wanted(answer: Reply, wanted: Option<Request>) -> Option<Request>
-    ensures { result ≡ still_wanted (Some answer) wanted }
+pub(crate) fn want_behind(answer: Reply, want: Option<Request>) -> Option<Request>
+    ensures { result ≡ want_behind (Some answer) want }
 {
     match answer {
         Reply::Begins => None,
         Reply::Ticks => None,
-        Reply::Waits => wanted,
+        Reply::Waits => want,
         Reply::Gives(_) => None,
         Reply::Traps => None,
         Reply::Ends => None,

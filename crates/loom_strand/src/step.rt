@@ -10,7 +10,7 @@ ghost use Rattle.loom_flow.specs.Flow.{Flow};
 ghost use Rattle.loom_lang.specs.Limits.{param_limit};
 ghost use Rattle.loom_flow.specs.Depth.{pops, takes_off};
 ghost use Rattle.loom_flow.specs.Laws.{HasLocals};
-ghost use Rattle.loom_flow.specs.State.{operand, without, given, forward, jumped};
+ghost use Rattle.loom_flow.specs.State.{operand_value, without, given, forward, jumped};
 ghost use Rattle.loom_flow.specs.Progress.{goes, of_compute, of_control, of_step, returns};
 ghost use Rattle.loom_lang.specs.Trace.{out};
 ghost use Rattle.loom_strand.specs.declared.machine.Phase.TheVariants as phase;

@@ -6,11 +6,11 @@ ghost use Rattle.loom_trace.specs.declared.request.Request.{Request};
 ghost use Rattle.loom_event.specs.Answer.{IsFunctionWith};
 ghost use Rattle.loom_law.specs.TurnLaws.{is_blocked_entry};
 ghost use Rattle.loom_strand.specs.declared.stage.Stage.TheVariants as stage;
-ghost use Rattle.loom_strand.specs.Strand.{IsNew, IsSame, IsStarted, HasOwnPart, Wants, IsReply};
+ghost use Rattle.loom_strand.specs.Strand.{IsNew, IsSameThread, IsStarted, HasOwnPart, Wants, IsReply};
 
 use crate::args::args_of;
 use crate::machine::Machine;
-use crate::reply::{follow, reply_of, still_wanted};
+use crate::reply::{follow, reply_of, want_behind};
 use crate::run::run;
 use crate::stage::{Birth, Stage, Want};
 use crate::step_result::Stop;
@@ -32,7 +32,7 @@ pub struct Strand {
     thread: u8,
     birth: Option<Birth>,
     stage: Stage,
-    wanted: Option<Request>,
+    want: Option<Request>,
     // entry and back-edge places since the last entry, the one of a tick that is asked for among them
     passed: u32,
     machine: Machine,
@@ -57,7 +57,7 @@ impl Model for Strand {
       limit = vec_capacity s.entries;
       birth = s.birth;
       entries = s.entries.items;
-      wanted = s.wanted;
+      want = s.want;
       execution = record { stage = s.stage; passed = s.passed; machine = s.machine };
     } };
 
@@ -67,7 +67,7 @@ impl Model for Strand {
       limit = vec_capacity s.entries;
       birth = s.birth;
       entries = s.entries.items;
-      wanted = s.wanted;
+      want = s.want;
       execution = record { stage = s.stage; passed = s.passed; machine = s.machine };
     }) };
 }
@@ -95,7 +95,7 @@ impl Strand {
             thread,
             birth: None,
             stage: Stage::Waits,
-            wanted: None,
+            want: None,
             passed: 0,
             machine,
             entries,
@@ -114,7 +114,7 @@ impl Strand {
     pub fn start(&mut self, func: u8, args: &[i64])
         requires unborn { self.old.birth ≡ None }
         requires function { IsFunctionWith self.old.program func args.now }
-        ensures { IsSame self.old (Some (record { func = func; args = args.now })) [] self.new }
+        ensures { IsSameThread self.old (Some (record { func = func; args = args.now })) [] self.new }
     {
         let _ = &self.program;
         let args = args_of(args);
@@ -126,12 +126,12 @@ impl Strand {
     pub fn run_private(&mut self, flow: &Flow) -> Want
         requires started { IsStarted self.old.birth }
         requires program { flow.now.program ≡ self.old.program }
-        ensures same { IsSame self.old self.old.birth self.old.entries self.new }
+        ensures same { IsSameThread self.old self.old.birth self.old.entries self.new }
         ensures wants { Wants self.new self.new.birth result }
-        ensures again { (q : Request) → self.old.wanted ≡ Some q → self.new.wanted ≡ Some q }
+        ensures again { (q : Request) → self.old.want ≡ Some q → self.new.want ≡ Some q }
     {
         self.go_on(flow);
-        match self.wanted {
+        match self.want {
             Some(request) => Want::Ask(request),
             None => Want::Ended,
         }
@@ -141,11 +141,11 @@ impl Strand {
     fn go_on(&mut self, flow: &Flow)
         requires started { IsStarted self.old.birth }
         requires program { flow.now.program ≡ self.old.program }
-        ensures same { IsSame self.old self.old.birth self.old.entries self.new }
-        ensures over { self.new.wanted ≡ None → self.new.execution.stage ≡ stage.Over }
-        ensures again { (q : Request) → self.old.wanted ≡ Some q → self.new.wanted ≡ Some q }
+        ensures same { IsSameThread self.old self.old.birth self.old.entries self.new }
+        ensures over { self.new.want ≡ None → self.new.execution.stage ≡ stage.Over }
+        ensures again { (q : Request) → self.old.want ≡ Some q → self.new.want ≡ Some q }
     {
-        if self.wanted.is_some() {
+        if self.want.is_some() {
             return;
         }
         let Some(birth) = self.birth else {
@@ -154,14 +154,14 @@ impl Strand {
         match self.stage {
             Stage::Waits => {
                 let line = line_of(flow, birth.func);
-                self.wanted = Some(Request::Begin { line });
+                self.want = Some(Request::Begin { line });
             }
             Stage::Runs => {
                 let line = line_of(flow, birth.func);
                 match run(&mut self.machine, &mut self.passed, flow) {
-                    Stop::Asks(request) => self.wanted = Some(request),
-                    Stop::Ticks(line, place) => self.wanted = Some(Request::Tick { line, place }),
-                    Stop::Ends => self.wanted = Some(Request::End { line }),
+                    Stop::Asks(request) => self.want = Some(request),
+                    Stop::Ticks(line, place) => self.want = Some(Request::Tick { line, place }),
+                    Stop::Ends => self.want = Some(Request::End { line }),
                 }
             }
             Stage::Over => {}
@@ -174,9 +174,9 @@ impl Strand {
         requires program { flow.now.program ≡ self.old.program }
         requires answers { IsReply self.old e }
         requires room { length self.old.entries < self.old.limit }
-        ensures same { IsSame self.old self.old.birth (self.old.entries ++ e ∷ []) self.new }
+        ensures same { IsSameThread self.old self.old.birth (self.old.entries ++ e ∷ []) self.new }
         ensures part { HasOwnPart self.new self.new.birth }
-        ensures waits { is_blocked_entry e ≡ true → self.new.wanted ≡ self.old.wanted }
+        ensures waits { is_blocked_entry e ≡ true → self.new.want ≡ self.old.want }
     {
         let Some(birth) = self.birth else {
             unreachable!();
@@ -189,7 +189,7 @@ impl Strand {
         let (stage, passed) = follow(&mut self.machine, flow, birth, answer);
         self.stage = stage;
         self.passed = passed;
-        self.wanted = still_wanted(answer, self.wanted);
+        self.want = want_behind(answer, self.want);
         self.entries.push_reserved(e);
     }
 }

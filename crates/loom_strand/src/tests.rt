@@ -4,7 +4,7 @@ ghost use Rattle.loom_flow.specs.Code.{IsLowered};
 ghost use Rattle.loom_event.specs.Answer.{IsAnswerTo, IsFunctionWith};
 ghost use Rattle.loom_trace.specs.declared.request.Request.TheVariants as r;
 ghost use Rattle.loom_law.specs.TurnLaws.{ends_blocked};
-ghost use Rattle.loom_strand.specs.Strand.{IsSame, IsStarted};
+ghost use Rattle.loom_strand.specs.Strand.{IsSameThread, IsStarted};
 
 mod rows;
 
@@ -27,7 +27,7 @@ use std::test::Fail;
 fn flow_of(alloc: Global, text: &str) -> Result<Flow, LangError> {
     let bytes = text.as_bytes();
     if bytes.len() > FILE_LIMIT {
-        return Err(LangError::Refused);
+        return Err(LangError::NoMemory);
     }
     Ok(lower(alloc, &parse_program(alloc, bytes)?)?)
 }
@@ -64,7 +64,7 @@ fn main_thread(alloc: Global, flow: &Flow) -> Result<Strand, LangError>
             strand.start(func, &[]);
             Ok(strand)
         }
-        None => Err(LangError::Refused),
+        None => Err(LangError::NoMemory),
     }
 }
 
@@ -138,7 +138,7 @@ fn next(flow: &Flow, strand: &mut Strand, values: &[i64]) -> Option<Entry>
     requires thread { strand.old.thread ≡ 1 }
     requires room { length strand.old.entries < strand.old.limit }
     requires free { ends_blocked strand.old.entries ≡ false }
-    ensures same { IsSame strand.old strand.old.birth strand.new.entries strand.new }
+    ensures same { IsSameThread strand.old strand.old.birth strand.new.entries strand.new }
     ensures more { length strand.new.entries ≤ length strand.old.entries + 1 }
     ensures free { ends_blocked strand.new.entries ≡ false }
 {
@@ -159,7 +159,7 @@ fn lock_later(flow: &Flow, strand: &mut Strand) -> bool
     requires thread { strand.old.thread ≡ 1 }
     requires room { length strand.old.entries + 1 < strand.old.limit }
     requires free { ends_blocked strand.old.entries ≡ false }
-    ensures { IsSame strand.old strand.old.birth strand.new.entries strand.new }
+    ensures { IsSameThread strand.old strand.old.birth strand.new.entries strand.new }
 {
     let thread = 1;
     let Want::Ask(Request::Lock { line, m }) = strand.run_private(flow) else {

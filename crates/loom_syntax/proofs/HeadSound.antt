@@ -6,7 +6,7 @@ use Rattle.loom_tree.specs.declared.expression.Op.TheVariants as o
 use Rattle.loom_tree.specs.declared.token.Keyword.TheVariants as w
 use Rattle.loom_tree.specs.declared.token.Sign.TheVariants as g
 use Rattle.loom_tree.specs.Token.{Token}
-use Rattle.loom_syntax.specs.File.{behind_commas, with_commas, declaration_tokens, head_tokens, ended, IsDeclaration, sema_limit}
+use Rattle.loom_syntax.specs.File.{behind_commas, with_commas, declaration_tokens, head_tokens, with_semicolon, IsDeclaration, sema_limit}
 use Rattle.loom_syntax.specs.Head.{Head, SharedName, SharedNamed, SharedValue, SharedMinus, SharedCells, SharedClose, MutexName, SemaName, SemaNamed, SemaValue, Ending, FnName, FnOpen, FnFirst, FnParam, FnNext, FnBrace, HeadNext, Goes, Declares, Begins, begin_item, sema_value, head_step}
 use Rattle.loom_syntax.proofs.Choices.{choose, if_keyword, if_sign, if_minus, if_name, if_number}
 
@@ -72,7 +72,7 @@ Good _ = Unit {0}
 
 abbrev pub next_read : HeadNext → List Token
 next_read (Goes h) = read h
-next_read (Declares d) = ended (declaration_tokens d)
+next_read (Declares d) = with_semicolon (declaration_tokens d)
 next_read (Begins f params) = head_tokens f params ++ Token.sign g.BraceOpen ∷ []
 
 abbrev pub GoodNext : HeadNext → Type 0

@@ -12,7 +12,7 @@ use Rattle.loom_expression.specs.Reader.{after, is_whole, written, plain}
 use Rattle.loom_expression.proofs.Natural as natural
 use Rattle.loom_syntax.specs.File.{right_tree, simple_tree}
 use Rattle.loom_syntax.specs.Tests.{is_keyword, is_sign, name_of}
-use Rattle.loom_syntax.specs.Part.{Assignee, Let, Set, Goal, Call, RightCall, RightSpawn, Sync, Lock, Unlock, Down, Up, Test, If, While, Purpose, Value, Argument, Index, CellValue, Condition, Return, Join, Print, Part, LetName, LetAssign, Started, RightOf, RightNamed, SpawnName, SpawnOpen, SyncName, TestOpen, Arguments, Returned, SetAssign, Reading, Ending, TestBrace, PartNext, Goes, Ends, Opens, assigned, applied, synced, closes, argued, closed, ends_here, read_step, begin_test, begin_keyword, begin_part, right_value, part_step}
+use Rattle.loom_syntax.specs.Part.{Assignee, Let, Set, Goal, Call, RightCall, RightSpawn, Sync, Lock, Unlock, Down, Up, Test, If, While, Purpose, Value, Argument, Index, CellValue, Condition, Return, Join, Print, Part, LetName, LetAssign, Started, RightOf, RightNamed, SpawnName, SpawnOpen, SyncName, TestOpen, Arguments, Returned, SetAssign, Reading, Ending, TestBrace, PartNext, Goes, Ends, Opens, assigned, call_of, synced, closes, behind_argument, behind_expression, ends_here, read_step, begin_test, begin_keyword, begin_part, right_value, part_step}
 
 abbrev pub over : {A B : Type 0} → (A → B) → Option A → Option B
 over f None = None
@@ -64,7 +64,7 @@ pub assigned_map : (target : Assignee) (r : Right Text) → assigned target (rig
 assigned_map (Let x) r = refl
 assigned_map (Set x) r = refl
 
-pub applied_map : (goal : Goal) (es : List Text) → applied goal (map tree es) ≡ simple_tree (applied goal es)
+pub applied_map : (goal : Goal) (es : List Text) → call_of goal (map tree es) ≡ simple_tree (call_of goal es)
 applied_map (Call f) es = refl
 applied_map (RightCall target f) es = assigned_map target (Right.call f es)
 applied_map (RightSpawn target f) es = assigned_map target (Right.spawn f es)
@@ -87,14 +87,14 @@ closes_map Return t = refl
 closes_map Join t = refl
 closes_map Print t = refl
 
-pub argued_map : (goal : Goal) (es : List Text) (t : Token) → argued goal (map tree es) t ≡ next_map (argued goal es t)
+pub argued_map : (goal : Goal) (es : List Text) (t : Token) → behind_argument goal (map tree es) t ≡ next_map (behind_argument goal es t)
 argued_map goal es t =
-    elim (is_sign g.Comma t) as (λ v. (if v then Goes (Reading (Argument goal (map tree es)) expression.fresh) else Goes (Ending (applied goal (map tree es)))) ≡ next_map (if v then Goes (Reading (Argument goal es) expression.fresh) else Goes (Ending (applied goal es))))
+    elim (is_sign g.Comma t) as (λ v. (if v then Goes (Reading (Argument goal (map tree es)) expression.fresh) else Goes (Ending (call_of goal (map tree es)))) ≡ next_map (if v then Goes (Reading (Argument goal es) expression.fresh) else Goes (Ending (call_of goal es))))
     [ true ↦ refl | false ↦ ap (λ z. Goes (Ending z)) (applied_map goal es) ]
 
-pub closed_map : (p : Purpose Text) (e : Text) (t : Token) → closed (purpose_map p) (tree e) t ≡ next_map (closed p e t)
+pub closed_map : (p : Purpose Text) (e : Text) (t : Token) → behind_expression (purpose_map p) (tree e) t ≡ next_map (behind_expression p e t)
 closed_map (Value target) e t = ap Ends (assigned_map target (Right.value e))
-closed_map (Argument goal before) e t = ap (λ z. argued goal z t) (sym (map-append tree before (e ∷ []))) ∙ argued_map goal (before ++ e ∷ []) t
+closed_map (Argument goal before) e t = ap (λ z. behind_argument goal z t) (sym (map-append tree before (e ∷ []))) ∙ argued_map goal (before ++ e ∷ []) t
 closed_map (Index x) e t = refl
 closed_map (CellValue x i) e t = refl
 closed_map (Condition test) e t = refl
@@ -106,10 +106,10 @@ pub here_map : (p : Purpose Text) (s : expression.Reader Text) (t : Token) → e
 here_map p s t = rw (natural.whole_state s, closes_map p t) refl
 
 pub finish_map : (p : Purpose Text) (s : expression.Reader Text) (t : Token)
-    → after (expression.finish plain (natural.reader_map s)) (λ e. Some (closed (purpose_map p) e t)) ≡ over next_map (after (expression.finish written s) (λ e. Some (closed p e t)))
+    → after (expression.finish plain (natural.reader_map s)) (λ e. Some (behind_expression (purpose_map p) e t)) ≡ over next_map (after (expression.finish written s) (λ e. Some (behind_expression p e t)))
 finish_map p s t = rw (natural.finish_state s) (go (expression.finish written s))
   where
-    go : (o : Option Text) → after (natural.tree_if o) (λ e. Some (closed (purpose_map p) e t)) ≡ over next_map (after o (λ e. Some (closed p e t)))
+    go : (o : Option Text) → after (natural.tree_if o) (λ e. Some (behind_expression (purpose_map p) e t)) ≡ over next_map (after o (λ e. Some (behind_expression p e t)))
     go None = refl
     go (Some e) = ap Some (closed_map p e t)
 

@@ -11,9 +11,9 @@ use Rattle.loom_expression.specs.Text.{Text, tokens, IsWritten}
 use Rattle.loom_expression.specs.Reader as expression
 use Rattle.loom_expression.specs.Reader.{after, is_whole, written}
 use Rattle.loom_expression.proofs.Sound as sound
-use Rattle.loom_syntax.specs.File.{with_commas, arguments, right_tokens, simple_tokens, test_tokens, ended, IsRight, IsSimple, block_limit}
+use Rattle.loom_syntax.specs.File.{with_commas, argument_tokens, right_tokens, simple_tokens, test_tokens, with_semicolon, IsRight, IsSimple, block_limit}
 use Rattle.loom_syntax.specs.Tests.{is_sign, name_of}
-use Rattle.loom_syntax.specs.Part.{Assignee, Let, Set, Goal, Call, RightCall, RightSpawn, Sync, Lock, Unlock, Down, Up, Test, If, While, Purpose, Value, Argument, Index, CellValue, Condition, Return, Join, Print, Part, LetName, LetAssign, Started, RightOf, RightNamed, SpawnName, SpawnOpen, SyncName, TestOpen, Arguments, Returned, SetAssign, Reading, Ending, TestBrace, PartNext, Goes, Ends, Opens, assigned, applied, synced, closes, argued, closed, ends_here, read_step, begin_test, begin_keyword, begin_part, right_value, arguments_step, part_step}
+use Rattle.loom_syntax.specs.Part.{Assignee, Let, Set, Goal, Call, RightCall, RightSpawn, Sync, Lock, Unlock, Down, Up, Test, If, While, Purpose, Value, Argument, Index, CellValue, Condition, Return, Join, Print, Part, LetName, LetAssign, Started, RightOf, RightNamed, SpawnName, SpawnOpen, SyncName, TestOpen, Arguments, Returned, SetAssign, Reading, Ending, TestBrace, PartNext, Goes, Ends, Opens, assigned, call_of, synced, closes, behind_argument, behind_expression, ends_here, read_step, begin_test, begin_keyword, begin_part, right_value, arguments_step, part_step}
 use Rattle.loom_syntax.proofs.Choices.{sign_is, choose, if_keyword, if_sign, if_name}
 use Rattle.loom_syntax.proofs.HeadSound.{before_comma, commas_more, before_more}
 
@@ -70,7 +70,7 @@ read (TestBrace test e) = test_tokens (test_word test) e
 
 abbrev pub next_read : PartNext Text → List Token
 next_read (Goes q) = read q
-next_read (Ends s) = ended (simple_tokens s)
+next_read (Ends s) = with_semicolon (simple_tokens s)
 next_read (Opens test e) = test_tokens (test_word test) e ++ Token.sign g.BraceOpen ∷ []
 
 -- what is good where so many blocks are open
@@ -120,12 +120,12 @@ pub assigned_good : (target : Assignee) (r : Right Text) → IsRight r → IsSim
 assigned_good (Let x) r h = h
 assigned_good (Set x) r h = h
 
-pub applied_tokens : (goal : Goal) (es : List Text) → simple_tokens (applied goal es) ≡ goal_read goal ++ arguments es
+pub applied_tokens : (goal : Goal) (es : List Text) → simple_tokens (call_of goal es) ≡ goal_read goal ++ argument_tokens es
 applied_tokens (Call f) es = refl
 applied_tokens (RightCall target f) es = assigned_tokens target (Right.call f es) ∙ simp append_assoc
 applied_tokens (RightSpawn target f) es = assigned_tokens target (Right.spawn f es) ∙ simp append_assoc
 
-pub applied_good : (goal : Goal) (es : List Text) → AllByRecursion IsWritten es → IsSimple (applied goal es)
+pub applied_good : (goal : Goal) (es : List Text) → AllByRecursion IsWritten es → IsSimple (call_of goal es)
 applied_good (Call f) es h = h
 applied_good (RightCall target f) es h = assigned_good target (Right.call f es) h
 applied_good (RightSpawn target f) es h = assigned_good target (Right.spawn f es) h
@@ -154,25 +154,25 @@ abbrev pub closed_read : Purpose Text → Text → List Token
 closed_read p e = purpose_read p ++ tokens e
 
 pub argued_good : (n : ℕ) (goal : Goal) (before : List Text) (e : Text) (t : Token) → AllByRecursion IsWritten before → IsWritten e → closes (Argument goal before) t ≡ true
-    → Reads n (closed_read (Argument goal before) e) t (argued goal (before ++ e ∷ []) t)
+    → Reads n (closed_read (Argument goal before) e) t (behind_argument goal (before ++ e ∷ []) t)
 argued_good n goal before e t all ok = go (is_sign g.Comma t) refl
   where
     more : AllByRecursion IsWritten (before ++ e ∷ [])
     more = all_more IsWritten before e all ok
 
     go : (v : Bool) → is_sign g.Comma t ≡ v → (if v then true else is_sign g.ParenClose t) ≡ true
-        → Reads n (closed_read (Argument goal before) e) t (if v then Goes (Reading (Argument goal (before ++ e ∷ [])) expression.fresh) else Goes (Ending (applied goal (before ++ e ∷ []))))
+        → Reads n (closed_read (Argument goal before) e) t (if v then Goes (Reading (Argument goal (before ++ e ∷ [])) expression.fresh) else Goes (Ending (call_of goal (before ++ e ∷ []))))
     go true is c =
         subst (λ z. Reads n (closed_read (Argument goal before) e) z (Goes (Reading (Argument goal (before ++ e ∷ [])) expression.fresh))) (sym (sign_is g.Comma t is))
         ((more, sound.start_good), rw (before_tokens before e) (simp (append_assoc, append-nil)))
     go false is c =
-        subst (λ z. Reads n (closed_read (Argument goal before) e) z (Goes (Ending (applied goal (before ++ e ∷ []))))) (sym (sign_is g.ParenClose t c))
+        subst (λ z. Reads n (closed_read (Argument goal before) e) z (Goes (Ending (call_of goal (before ++ e ∷ []))))) (sym (sign_is g.ParenClose t c))
         (applied_good goal (before ++ e ∷ []) more, rw (applied_tokens goal (before ++ e ∷ []), commas_tokens before e) (simp append_assoc))
 
-pub closed_good : (n : ℕ) (p : Purpose Text) (e : Text) (t : Token) → GoodPurpose n p → IsWritten e → closes p t ≡ true → Reads n (closed_read p e) t (closed p e t)
+pub closed_good : (n : ℕ) (p : Purpose Text) (e : Text) (t : Token) → GoodPurpose n p → IsWritten e → closes p t ≡ true → Reads n (closed_read p e) t (behind_expression p e t)
 closed_good n (Value target) e t ok good is =
     subst (λ z. Reads n (closed_read (Value target) e) z (Ends (assigned target (Right.value e)))) (sym (sign_is g.Semicolon t is))
-    (assigned_good target (Right.value e) good, ap ended (assigned_tokens target (Right.value e)))
+    (assigned_good target (Right.value e) good, ap with_semicolon (assigned_tokens target (Right.value e)))
 closed_good n (Argument goal before) e t ok good is = argued_good n goal before e t ok good is
 closed_good n (Index x) e t ok good is =
     subst (λ z. Reads n (closed_read (Index x) e) z (Goes (SetAssign x e))) (sym (sign_is g.BracketClose t is)) (good, refl)
@@ -195,8 +195,8 @@ ends_closes p s t is = go (is_whole s) is
 pub read_good : (n : ℕ) (p : Purpose Text) (s : expression.Reader Text) (t : Token) → GoodPurpose n p → sound.GoodReader s → IfSome (read_step written p s t) (Reads n (read (Reading p s)) t)
 read_good n p s t ok good =
     choose (ends_here p s t) _ _ (Reads n (read (Reading p s)) t)
-    (λ is. after_good (expression.finish written s) (λ e. closed p e t) (sound.Spells (sound.read s)) (Reads n (read (Reading p s)) t) (sound.finish_good s good)
-    (λ e spells. subst (λ ts. Reads n (purpose_read p ++ ts) t (closed p e t)) spells.1 (closed_good n p e t ok spells.0 (ends_closes p s t is))))
+    (λ is. after_good (expression.finish written s) (λ e. behind_expression p e t) (sound.Spells (sound.read s)) (Reads n (read (Reading p s)) t) (sound.finish_good s good)
+    (λ e spells. subst (λ ts. Reads n (purpose_read p ++ ts) t (behind_expression p e t)) spells.1 (closed_good n p e t ok spells.0 (ends_closes p s t is))))
     (λ is. after_good (expression.feed written s t) (λ s'. Goes (Reading p s')) (sound.Reads (sound.read s) t) (Reads n (read (Reading p s)) t) (sound.step_good s t good)
     (λ s' reads. ((ok, reads.0), ap (λ ts. purpose_read p ++ ts) reads.1 ∙ sym (append_assoc (purpose_read p) (sound.read s) (t ∷ [])))))
 

@@ -11,9 +11,9 @@ use Rattle.loom_expression.specs.Reader.{after, is_whole, written}
 use Rattle.loom_expression.proofs.Sound as sound
 use Rattle.loom_expression.proofs.Whole.{completes}
 use Rattle.loom_expression.proofs.Viable.{completion, whole_paren, whole_bracket, outside_none}
-use Rattle.loom_syntax.specs.File.{behind_commas, with_commas, simple_tokens, ended, IsSimple}
+use Rattle.loom_syntax.specs.File.{behind_commas, with_commas, simple_tokens, with_semicolon, IsSimple}
 use Rattle.loom_syntax.specs.Tests.{is_sign}
-use Rattle.loom_syntax.specs.Part.{Assignee, Let, Set, Goal, Call, RightCall, RightSpawn, Sync, Lock, Test, Purpose, Value, Argument, Index, CellValue, Condition, Return, Join, Print, Part, LetName, LetAssign, Started, RightOf, RightNamed, SpawnName, SpawnOpen, SyncName, TestOpen, Arguments, Returned, SetAssign, Reading, Ending, TestBrace, PartNext, Goes, Ends, Opens, assigned, applied, synced, closes, closed, ends_here, read_step, begin_part, part_step}
+use Rattle.loom_syntax.specs.Part.{Assignee, Let, Set, Goal, Call, RightCall, RightSpawn, Sync, Lock, Test, Purpose, Value, Argument, Index, CellValue, Condition, Return, Join, Print, Part, LetName, LetAssign, Started, RightOf, RightNamed, SpawnName, SpawnOpen, SyncName, TestOpen, Arguments, Returned, SetAssign, Reading, Ending, TestBrace, PartNext, Goes, Ends, Opens, assigned, call_of, synced, closes, behind_expression, ends_here, read_step, begin_part, part_step}
 use Rattle.loom_syntax.proofs.Choices.{sign_is}
 use Rattle.loom_syntax.proofs.PartSound.{Good}
 
@@ -82,10 +82,10 @@ fed_run p s s' (t ∷ ts) good is = go (expression.feed written s t) refl (sound
     go None was reads is more = cc
     go (Some s1) was reads is more = rw (fed p s s1 t good was) (more s1 reads.0 is)
 
-pub read_to : (p : Purpose Text) (s : expression.Reader Text) (e : Text) (t : Token) → is_whole s ≡ true → expression.finish written s ≡ Some e → closes p t ≡ true → read_step written p s t ≡ Some (closed p e t)
+pub read_to : (p : Purpose Text) (s : expression.Reader Text) (e : Text) (t : Token) → is_whole s ≡ true → expression.finish written s ≡ Some e → closes p t ≡ true → read_step written p s t ≡ Some (behind_expression p e t)
 read_to p s e t whole done is = rw (whole, is, done) refl
 
-pub expression_run : (p : Purpose Text) (e : Text) (t : Token) (rest : List Token) → IsWritten e → closes p t ≡ true → feed_all (Goes (Reading p expression.fresh)) (tokens e ++ t ∷ rest) ≡ feed_all (closed p e t) rest
+pub expression_run : (p : Purpose Text) (e : Text) (t : Token) (rest : List Token) → IsWritten e → closes p t ≡ true → feed_all (Goes (Reading p expression.fresh)) (tokens e ++ t ∷ rest) ≡ feed_all (behind_expression p e t) rest
 expression_run p e t rest ok is =
     let c = completes e ok in
     run_append (Goes (Reading p expression.fresh)) (tokens e) (t ∷ rest)
@@ -130,22 +130,22 @@ first_same q p e rest ok same =
 -- arguments
 
 pub later_run : (goal : Goal) (before : List Text) (e : Text) (es : List Text) → IsWritten e → AllByRecursion IsWritten es
-    → feed_all (Goes (Reading (Argument goal before) expression.fresh)) (tokens e ++ (behind_commas (map tokens es) ++ Token.sign g.ParenClose ∷ [])) ≡ Some (Goes (Ending (applied goal (before ++ e ∷ es))))
+    → feed_all (Goes (Reading (Argument goal before) expression.fresh)) (tokens e ++ (behind_commas (map tokens es) ++ Token.sign g.ParenClose ∷ [])) ≡ Some (Goes (Ending (call_of goal (before ++ e ∷ es))))
 later_run goal before e [] ok all = expression_run (Argument goal before) e (Token.sign g.ParenClose) [] ok refl
 later_run goal before e (e' ∷ es) ok all =
     expression_run (Argument goal before) e (Token.sign g.Comma) ((tokens e' ++ behind_commas (map tokens es)) ++ Token.sign g.ParenClose ∷ []) ok refl
     ∙ ap (feed_all (Goes (Reading (Argument goal (before ++ e ∷ [])) expression.fresh))) (append_assoc (tokens e') (behind_commas (map tokens es)) (Token.sign g.ParenClose ∷ []))
     ∙ later_run goal (before ++ e ∷ []) e' es all.0 all.1
-    ∙ ap (λ z. Some (Goes (Ending (applied goal z)))) (append_assoc before (e ∷ []) (e' ∷ es))
+    ∙ ap (λ z. Some (Goes (Ending (call_of goal z)))) (append_assoc before (e ∷ []) (e' ∷ es))
 
-pub arguments_run : (goal : Goal) (es : List Text) → AllByRecursion IsWritten es → feed_all (Goes (Arguments goal)) (with_commas (map tokens es) ++ Token.sign g.ParenClose ∷ []) ≡ Some (Goes (Ending (applied goal es)))
+pub arguments_run : (goal : Goal) (es : List Text) → AllByRecursion IsWritten es → feed_all (Goes (Arguments goal)) (with_commas (map tokens es) ++ Token.sign g.ParenClose ∷ []) ≡ Some (Goes (Ending (call_of goal es)))
 arguments_run goal [] all = refl
 arguments_run goal (e ∷ es) all =
     ap (feed_all (Goes (Arguments goal))) (append_assoc (tokens e) (behind_commas (map tokens es)) (Token.sign g.ParenClose ∷ []))
     ∙ first_same (Arguments goal) (Argument goal []) e (behind_commas (map tokens es) ++ Token.sign g.ParenClose ∷ []) all.0 (λ t s is. rw (begins_not g.ParenClose t expression.fresh s refl is) refl)
     ∙ later_run goal [] e es all.0 all.1
 
-pub goal_run : (goal : Goal) (es : List Text) → AllByRecursion IsWritten es → feed_all (Goes (Arguments goal)) (ended (with_commas (map tokens es) ++ Token.sign g.ParenClose ∷ [])) ≡ Some (Ends (applied goal es))
+pub goal_run : (goal : Goal) (es : List Text) → AllByRecursion IsWritten es → feed_all (Goes (Arguments goal)) (with_semicolon (with_commas (map tokens es) ++ Token.sign g.ParenClose ∷ [])) ≡ Some (Ends (call_of goal es))
 goal_run goal es all =
     run_append (Goes (Arguments goal)) (with_commas (map tokens es) ++ Token.sign g.ParenClose ∷ []) (Token.sign g.Semicolon ∷ [])
     ∙ rw (arguments_run goal es all) refl
@@ -158,17 +158,17 @@ pub named_same : (target : Assignee) (f : List ℕ) (t : Token) → is_sign g.Pa
 named_same target f t is = rw is refl
 
 pub named_run : (target : Assignee) (f : List ℕ) (ts : List Token) (last : expression.Reader Text) → expression.feed_all written (expression.Named f (record { nodes = 1; unary = 0; brackets = 0 }) []) ts ≡ Some last
-    → feed_all (Goes (RightNamed target f)) (ended ts) ≡ feed_all (Goes (Reading (Value target) (expression.Named f (record { nodes = 1; unary = 0; brackets = 0 }) []))) (ended ts)
+    → feed_all (Goes (RightNamed target f)) (with_semicolon ts) ≡ feed_all (Goes (Reading (Value target) (expression.Named f (record { nodes = 1; unary = 0; brackets = 0 }) []))) (with_semicolon ts)
 named_run target f [] last is = refl
 named_run target f (t ∷ ts) last is = go (expression.feed written (expression.Named f (record { nodes = 1; unary = 0; brackets = 0 }) []) t) refl is
   where
     go : (o : Option (expression.Reader Text)) → expression.feed written (expression.Named f (record { nodes = 1; unary = 0; brackets = 0 }) []) t ≡ o → after o (λ s. expression.feed_all written s ts) ≡ Some last
-        → feed_all (Goes (RightNamed target f)) (ended (t ∷ ts)) ≡ feed_all (Goes (Reading (Value target) (expression.Named f (record { nodes = 1; unary = 0; brackets = 0 }) []))) (ended (t ∷ ts))
+        → feed_all (Goes (RightNamed target f)) (with_semicolon (t ∷ ts)) ≡ feed_all (Goes (Reading (Value target) (expression.Named f (record { nodes = 1; unary = 0; brackets = 0 }) []))) (with_semicolon (t ∷ ts))
     go None was runs = cc
-    go (Some s) was runs = ap (λ o. after o (λ m. feed_all m (ended ts))) (named_same target f t (begins_not g.ParenOpen t (expression.Named f (record { nodes = 1; unary = 0; brackets = 0 }) []) s refl was))
+    go (Some s) was runs = ap (λ o. after o (λ m. feed_all m (with_semicolon ts))) (named_same target f t (begins_not g.ParenOpen t (expression.Named f (record { nodes = 1; unary = 0; brackets = 0 }) []) s refl was))
 
 pub right_first : (target : Assignee) (t : Token) (ts : List Token) (s last : expression.Reader Text) → expression.feed written expression.fresh t ≡ Some s → expression.feed_all written s ts ≡ Some last
-    → feed_all (Goes (RightOf target)) (ended (t ∷ ts)) ≡ feed_all (Goes (Reading (Value target) expression.fresh)) (ended (t ∷ ts))
+    → feed_all (Goes (RightOf target)) (with_semicolon (t ∷ ts)) ≡ feed_all (Goes (Reading (Value target) expression.fresh)) (with_semicolon (t ∷ ts))
 right_first target (Token.name f) ts s last is runs =
     let same : expression.Named f (record { nodes = 1; unary = 0; brackets = 0 }) [] ≡ s = cc in
     named_run target f ts last (ap (λ z. expression.feed_all written z ts) same ∙ runs)
@@ -178,10 +178,10 @@ right_first target (Token.op o) ts s last is runs = refl
 right_first target (Token.sign g) ts s last is runs = refl
 right_first target Token.bad ts s last is runs = refl
 
-pub right_run : (target : Assignee) (e : Text) → IsWritten e → feed_all (Goes (RightOf target)) (ended (tokens e)) ≡ Some (Ends (assigned target (Right.value e)))
+pub right_run : (target : Assignee) (e : Text) → IsWritten e → feed_all (Goes (RightOf target)) (with_semicolon (tokens e)) ≡ Some (Ends (assigned target (Right.value e)))
 right_run target e ok =
     let f = front e ok in
-    let same : feed_all (Goes (RightOf target)) (ended (tokens e)) ≡ feed_all (Goes (Reading (Value target) expression.fresh)) (ended (tokens e)) = rw f.is (right_first target f.first f.rest f.next f.last f.steps f.runs) in
+    let same : feed_all (Goes (RightOf target)) (with_semicolon (tokens e)) ≡ feed_all (Goes (Reading (Value target) expression.fresh)) (with_semicolon (tokens e)) = rw f.is (right_first target f.first f.rest f.next f.last f.steps f.runs) in
     same ∙ expression_run (Value target) e (Token.sign g.Semicolon) [] ok refl
 
 -- whole statements
@@ -193,16 +193,16 @@ pub record IsReadable (s : Simple Text) : Type 0 where
   pub part : Part Text
   pub is : simple_tokens s ≡ first ∷ rest
   pub begins : (room : Bool) → begin_part room first ≡ Some part
-  pub runs : feed_all (Goes part) (ended rest) ≡ Some (Ends s)
+  pub runs : feed_all (Goes part) (with_semicolon rest) ≡ Some (Ends s)
 
 pub cell_run : (x : List ℕ) (i e : Text) → IsWritten i → IsWritten e
-    → feed_all (Goes (Reading (Index x) expression.fresh)) (ended (tokens i ++ Token.sign g.BracketClose ∷ Token.sign g.Assign ∷ tokens e)) ≡ Some (Ends (Simple.set_cell x i e))
+    → feed_all (Goes (Reading (Index x) expression.fresh)) (with_semicolon (tokens i ++ Token.sign g.BracketClose ∷ Token.sign g.Assign ∷ tokens e)) ≡ Some (Ends (Simple.set_cell x i e))
 cell_run x i e oki oke =
     ap (feed_all (Goes (Reading (Index x) expression.fresh))) (append_assoc (tokens i) (Token.sign g.BracketClose ∷ Token.sign g.Assign ∷ tokens e) (Token.sign g.Semicolon ∷ []))
-    ∙ expression_run (Index x) i (Token.sign g.BracketClose) (Token.sign g.Assign ∷ ended (tokens e)) oki refl
+    ∙ expression_run (Index x) i (Token.sign g.BracketClose) (Token.sign g.Assign ∷ with_semicolon (tokens e)) oki refl
     ∙ expression_run (CellValue x i) e (Token.sign g.Semicolon) [] oke refl
 
-pub return_run : (e : Text) → IsWritten e → feed_all (Goes Returned) (ended (tokens e)) ≡ Some (Ends (Simple.return (Some e)))
+pub return_run : (e : Text) → IsWritten e → feed_all (Goes Returned) (with_semicolon (tokens e)) ≡ Some (Ends (Simple.return (Some e)))
 return_run e ok =
     first_same Returned Return e (Token.sign g.Semicolon ∷ []) ok (λ t s is. rw (begins_not g.Semicolon t expression.fresh s refl is) refl)
     ∙ expression_run Return e (Token.sign g.Semicolon) [] ok refl
@@ -237,19 +237,19 @@ IsFinal (Goes q) = ⊥
 IsFinal (Ends s) = Unit {0}
 IsFinal (Opens test e) = Unit {0}
 
-pub record Settled (n : PartNext Text) : Type 0 where
+pub record PartCompletion (n : PartNext Text) : Type 0 where
   pub more : List Token
   pub last : PartNext Text
   pub final : IsFinal last
   pub runs : feed_all n more ≡ Some last
 
-pub at_end : (n : PartNext Text) → IsFinal n → Settled n
+pub at_end : (n : PartNext Text) → IsFinal n → PartCompletion n
 at_end n h = record { more = []; last = n; final = h; runs = refl }
 
-pub behind : (q : Part Text) (t : Token) (n : PartNext Text) → part_step written q t ≡ Some n → Settled n → Settled (Goes q)
+pub behind : (q : Part Text) (t : Token) (n : PartNext Text) → part_step written q t ≡ Some n → PartCompletion n → PartCompletion (Goes q)
 behind q t n is s = record { more = t ∷ s.more; last = s.last; final = s.final; runs = rw is s.runs }
 
-pub reading_settled : (p : Purpose Text) (s : expression.Reader Text) (t : Token) → sound.GoodReader s → closes p t ≡ true → ((e : Text) → Settled (closed p e t)) → Settled (Goes (Reading p s))
+pub reading_settled : (p : Purpose Text) (s : expression.Reader Text) (t : Token) → sound.GoodReader s → closes p t ≡ true → ((e : Text) → PartCompletion (behind_expression p e t)) → PartCompletion (Goes (Reading p s))
 reading_settled p s t good is ends =
     let c = completion s good in
     let z = ends c.text in
@@ -260,20 +260,20 @@ reading_settled p s t good is ends =
       runs = run_append (Goes (Reading p s)) c.more (t ∷ z.more) ∙ rw (fed_run p s c.last c.more good c.runs) (ap (λ o. after o (λ m. feed_all m z.more)) (read_to p c.last c.text t c.whole c.done is) ∙ z.runs);
     }
 
-pub ending_settled : (s : Simple Text) → Settled (Goes (Ending s))
+pub ending_settled : (s : Simple Text) → PartCompletion (Goes (Ending s))
 ending_settled s = behind (Ending s) (Token.sign g.Semicolon) (Ends s) refl (at_end (Ends s) tt)
 
-pub cell_settled : (x : List ℕ) (i : Text) → Settled (Goes (SetAssign x i))
+pub cell_settled : (x : List ℕ) (i : Text) → PartCompletion (Goes (SetAssign x i))
 cell_settled x i =
     behind (SetAssign x i) (Token.sign g.Assign) (Goes (Reading (CellValue x i) expression.fresh)) refl
     (reading_settled (CellValue x i) expression.fresh (Token.sign g.Semicolon) sound.start_good refl (λ e. at_end (Ends (Simple.set_cell x i e)) tt))
 
-pub brace_settled : (test : Test) (e : Text) → Settled (Goes (TestBrace test e))
+pub brace_settled : (test : Test) (e : Text) → PartCompletion (Goes (TestBrace test e))
 brace_settled test e = behind (TestBrace test e) (Token.sign g.BraceOpen) (Opens test e) refl (at_end (Opens test e) tt)
 
-pub purpose_settled : (p : Purpose Text) (s : expression.Reader Text) → sound.GoodReader s → Settled (Goes (Reading p s))
+pub purpose_settled : (p : Purpose Text) (s : expression.Reader Text) → sound.GoodReader s → PartCompletion (Goes (Reading p s))
 purpose_settled (Value target) s good = reading_settled (Value target) s (Token.sign g.Semicolon) good refl (λ e. at_end (Ends (assigned target (Right.value e))) tt)
-purpose_settled (Argument goal before) s good = reading_settled (Argument goal before) s (Token.sign g.ParenClose) good refl (λ e. ending_settled (applied goal (before ++ e ∷ [])))
+purpose_settled (Argument goal before) s good = reading_settled (Argument goal before) s (Token.sign g.ParenClose) good refl (λ e. ending_settled (call_of goal (before ++ e ∷ [])))
 purpose_settled (Index x) s good = reading_settled (Index x) s (Token.sign g.BracketClose) good refl (λ e. cell_settled x e)
 purpose_settled (CellValue x i) s good = reading_settled (CellValue x i) s (Token.sign g.Semicolon) good refl (λ e. at_end (Ends (Simple.set_cell x i e)) tt)
 purpose_settled (Condition test) s good = reading_settled (Condition test) s (Token.sign g.ParenClose) good refl (λ e. brace_settled test e)
@@ -281,22 +281,22 @@ purpose_settled Return s good = reading_settled Return s (Token.sign g.Semicolon
 purpose_settled Join s good = reading_settled Join s (Token.sign g.Semicolon) good refl (λ e. at_end (Ends (Simple.join e)) tt)
 purpose_settled Print s good = reading_settled Print s (Token.sign g.Semicolon) good refl (λ e. at_end (Ends (Simple.print e)) tt)
 
-pub right_named_settled : (target : Assignee) (f : List ℕ) → Settled (Goes (RightNamed target f))
+pub right_named_settled : (target : Assignee) (f : List ℕ) → PartCompletion (Goes (RightNamed target f))
 right_named_settled target f = behind (RightNamed target f) (Token.sign g.Semicolon) (Ends (assigned target (Right.value (Text.var f)))) refl (at_end (Ends (assigned target (Right.value (Text.var f)))) tt)
 
-pub right_settled : (target : Assignee) → Settled (Goes (RightOf target))
+pub right_settled : (target : Assignee) → PartCompletion (Goes (RightOf target))
 right_settled target = behind (RightOf target) (Token.name (97 ∷ [])) (Goes (RightNamed target (97 ∷ []))) refl (right_named_settled target (97 ∷ []))
 
-pub arguments_settled : (goal : Goal) → Settled (Goes (Arguments goal))
-arguments_settled goal = behind (Arguments goal) (Token.sign g.ParenClose) (Goes (Ending (applied goal []))) refl (ending_settled (applied goal []))
+pub arguments_settled : (goal : Goal) → PartCompletion (Goes (Arguments goal))
+arguments_settled goal = behind (Arguments goal) (Token.sign g.ParenClose) (Goes (Ending (call_of goal []))) refl (ending_settled (call_of goal []))
 
-pub spawn_settled : (target : Assignee) (f : List ℕ) → Settled (Goes (SpawnOpen target f))
+pub spawn_settled : (target : Assignee) (f : List ℕ) → PartCompletion (Goes (SpawnOpen target f))
 spawn_settled target f = behind (SpawnOpen target f) (Token.sign g.ParenOpen) (Goes (Arguments (RightSpawn target f))) refl (arguments_settled (RightSpawn target f))
 
-pub let_settled : (x : List ℕ) → Settled (Goes (LetAssign x))
+pub let_settled : (x : List ℕ) → PartCompletion (Goes (LetAssign x))
 let_settled x = behind (LetAssign x) (Token.sign g.Assign) (Goes (RightOf (Let x))) refl (right_settled (Let x))
 
-pub settled : (n : ℕ) (q : Part Text) → Good n q → Settled (Goes q)
+pub settled : (n : ℕ) (q : Part Text) → Good n q → PartCompletion (Goes q)
 settled n LetName ok = behind LetName (Token.name (97 ∷ [])) (Goes (LetAssign (97 ∷ []))) refl (let_settled (97 ∷ []))
 settled n (LetAssign x) ok = let_settled x
 settled n (Started x) ok = behind (Started x) (Token.sign g.Assign) (Goes (RightOf (Set x))) refl (right_settled (Set x))

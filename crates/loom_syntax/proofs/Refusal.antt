@@ -9,7 +9,7 @@ use Rattle.loom_tree.specs.Tree.{Expression, Body}
 use Rattle.loom_expression.specs.Text.{Text}
 use Rattle.loom_expression.specs.Reader.{after}
 use Rattle.loom_syntax.specs.File.{Block, ItemForm, item_tree, IsFile, IsViable, IsRefusedAt}
-use Rattle.loom_syntax.specs.FileReader.{FileReader, Between, fresh, feed, feed_all, finish, Piece, written}
+use Rattle.loom_syntax.specs.FileReader.{FileReader, Between, fresh, feed, feed_all, finish, StatementForm, written}
 use Rattle.loom_syntax.specs.View.{Statement, plain, line_tokens}
 use Rattle.loom_syntax.proofs.PartNatural.{over}
 use Rattle.loom_syntax.proofs.Natural.{reader_map, run_state, finish_state}
@@ -21,7 +21,7 @@ Plain = FileReader Expression Statement Body tree.FileItem
 abbrev pub first_plain : Plain
 first_plain = fresh
 
-pub finished : (s : FileReader Text Piece Block ItemForm) (items : List ItemForm) → finish s ≡ Some items → s ≡ Between items
+pub finished : (s : FileReader Text StatementForm Block ItemForm) (items : List ItemForm) → finish s ≡ Some items → s ≡ Between items
 finished (Between is) items h = let same : is ≡ items = cc in ap Between same
 finished (FileReader.Heading is l d) items h = cc
 finished (FileReader.InFunction is f i) items h = cc
@@ -29,13 +29,13 @@ finished (FileReader.InFunction is f i) items h = cc
 pub parsed : (ps : List LineToken) (s : Plain) (items : List tree.FileItem) → feed_all plain first_plain ps ≡ Some s → finish s ≡ Some items → IsFile ps items
 parsed ps s items is done = go (feed_all written first ps) refl (sym (run_state first ps) ∙ is)
   where
-    last : (v : FileReader Text Piece Block ItemForm) → feed_all written first ps ≡ Some v → reader_map v ≡ s → (o : Option (List ItemForm)) → finish v ≡ o → over (map item_tree) o ≡ Some items → IsFile ps items
+    last : (v : FileReader Text StatementForm Block ItemForm) → feed_all written first ps ≡ Some v → reader_map v ≡ s → (o : Option (List ItemForm)) → finish v ≡ o → over (map item_tree) o ≡ Some items → IsFile ps items
     last v was same None e k = cc
     last v was same (Some own) e k =
         let trees : map item_tree own ≡ items = cc in
         subst (λ z. IsFile ps z) trees (accepted ps own (was ∙ ap Some (finished v own e)))
 
-    go : (o : Option (FileReader Text Piece Block ItemForm)) → feed_all written first ps ≡ o → over reader_map o ≡ Some s → IsFile ps items
+    go : (o : Option (FileReader Text StatementForm Block ItemForm)) → feed_all written first ps ≡ o → over reader_map o ≡ Some s → IsFile ps items
     go None was k = cc
     go (Some v) was k =
         let same : reader_map v ≡ s = cc in
@@ -44,25 +44,25 @@ parsed ps s items is done = go (feed_all written first ps) refl (sym (run_state 
 pub took_viable : (ps : List LineToken) (s : Plain) → feed_all plain first_plain ps ≡ Some s → IsViable ps
 took_viable ps s is = go (feed_all written first ps) refl (sym (run_state first ps) ∙ is)
   where
-    go : (o : Option (FileReader Text Piece Block ItemForm)) → feed_all written first ps ≡ o → over reader_map o ≡ Some s → IsViable ps
+    go : (o : Option (FileReader Text StatementForm Block ItemForm)) → feed_all written first ps ≡ o → over reader_map o ≡ Some s → IsViable ps
     go None was k = cc
     go (Some v) was k = run_viable ps v was
 
 pub refused_not_viable : (ps : List LineToken) → feed_all plain first_plain ps ≡ None → IsViable ps → ⊥
 refused_not_viable ps is v = go (feed_all written first ps) refl (sym (run_state first ps) ∙ is)
   where
-    go : (o : Option (FileReader Text Piece Block ItemForm)) → feed_all written first ps ≡ o → over reader_map o ≡ None → ⊥
+    go : (o : Option (FileReader Text StatementForm Block ItemForm)) → feed_all written first ps ≡ o → over reader_map o ≡ None → ⊥
     go None was k = stuck_not_viable ps was v
     go (Some s) was k = cc
 
 pub unfinished : (ps : List LineToken) (s : Plain) (items : List tree.FileItem) → feed_all plain first_plain ps ≡ Some s → finish s ≡ None → IsFile ps items → ⊥
 unfinished ps s items is open_ x = go (feed_all written first ps) refl (sym (run_state first ps) ∙ is)
   where
-    last : (v : FileReader Text Piece Block ItemForm) → feed_all written first ps ≡ Some v → (o : Option (List ItemForm)) → finish v ≡ o → over (map item_tree) o ≡ None → ⊥
+    last : (v : FileReader Text StatementForm Block ItemForm) → feed_all written first ps ≡ Some v → (o : Option (List ItemForm)) → finish v ≡ o → over (map item_tree) o ≡ None → ⊥
     last v was None e k = unfinished_not_file ps v items was e x
     last v was (Some own) e k = cc
 
-    go : (o : Option (FileReader Text Piece Block ItemForm)) → feed_all written first ps ≡ o → over reader_map o ≡ Some s → ⊥
+    go : (o : Option (FileReader Text StatementForm Block ItemForm)) → feed_all written first ps ≡ o → over reader_map o ≡ Some s → ⊥
     go None was k = cc
     go (Some v) was k =
         let same : reader_map v ≡ s = cc in

@@ -7,14 +7,14 @@ use Rattle.loom_expression.specs.Text.{Text}
 use Rattle.loom_syntax.specs.File.{on, FitMarks, Block, none, plus, minus, word, array, mutex, sema, ItemForm, item_tree, IsFile, IsViable}
 use Rattle.loom_syntax.specs.Head.{Head, SharedName, SharedNamed, SharedValue, SharedMinus, SharedCells, SharedClose, MutexName, SemaName, SemaNamed, SemaValue, Ending, FnName, FnOpen, FnFirst, FnParam, FnNext, FnBrace, HeadNext, Declares, Begins}
 use Rattle.loom_syntax.specs.Part.{PartNext}
-use Rattle.loom_syntax.specs.FileReader.{Around, Then, Else, Loop, OpenBlock, BlockPosition, Start, AfterIf, ElseBrace, Within, At, Header, FileReader, Between, Heading, InFunction, fresh, close, shut_in, around, parted, headed, feed_all, finish, Piece, if_, if_else, while_, written}
+use Rattle.loom_syntax.specs.FileReader.{Around, Then, Else, Loop, OpenBlock, BlockPosition, Start, AfterIf, ElseBrace, Within, At, Header, FileReader, Between, Heading, InFunction, fresh, close, shut_in, around, parted, headed, feed_all, finish, StatementForm, if_, if_else, while_, written}
 use Rattle.loom_syntax.proofs.PartWhole as in_part
 use Rattle.loom_syntax.proofs.PartWhole.{settled}
 use Rattle.loom_syntax.proofs.Sound.{GoodReader, Comes, run_good}
 use Rattle.loom_syntax.proofs.Whole.{run_append, head_run, head_takes, part_takes, file_read}
 
 -- tokens by which a file is complete
-pub record Ended (s : FileReader Text Piece Block ItemForm) : Type 0 where
+pub record FileCompletion (s : FileReader Text StatementForm Block ItemForm) : Type 0 where
   pub more : List LineToken
   pub items : List ItemForm
   pub done : feed_all written s more ≡ Some (Between items)
@@ -29,47 +29,47 @@ pub placed_spells : (ts : List Token) → FitMarks (map on ts) (map placed ts)
 placed_spells [] = tt
 placed_spells (t ∷ ts) = (refl, placed_spells ts)
 
-pub ended_behind : (s s' : FileReader Text Piece Block ItemForm) (ps : List LineToken) → feed_all written s ps ≡ Some s' → Ended s' → Ended s
+pub ended_behind : (s s' : FileReader Text StatementForm Block ItemForm) (ps : List LineToken) → feed_all written s ps ≡ Some s' → FileCompletion s' → FileCompletion s
 ended_behind s s' ps is e = record { more = ps ++ e.more; items = e.items; done = run_append s ps e.more ∙ rw is e.done }
 
 -- open blocks
 
-abbrev pub braces : List (OpenBlock Text Piece Block) → List LineToken
+abbrev pub braces : List (OpenBlock Text StatementForm Block) → List LineToken
 braces [] = brace ∷ []
 braces (o ∷ os) = brace ∷ braces os
 
-pub record Shuts (s : FileReader Text Piece Block ItemForm) (os : List (OpenBlock Text Piece Block)) : Type 0 where
+pub record Shuts (s : FileReader Text StatementForm Block ItemForm) (os : List (OpenBlock Text StatementForm Block)) : Type 0 where
   pub items : List ItemForm
   pub done : feed_all written s (braces os) ≡ Some (Between items)
 
-pub if_shuts : (is : List ItemForm) (f : Header) (os : List (OpenBlock Text Piece Block)) (ss : List Piece) (l : ℕ) (e : Text) (a : Block) → Shuts (InFunction is f (At os (ss ++ if_ l e a ∷ []) Start)) os → Shuts (InFunction is f (At os ss (AfterIf l e a))) os
+pub if_shuts : (is : List ItemForm) (f : Header) (os : List (OpenBlock Text StatementForm Block)) (ss : List StatementForm) (l : ℕ) (e : Text) (a : Block) → Shuts (InFunction is f (At os (ss ++ if_ l e a ∷ []) Start)) os → Shuts (InFunction is f (At os ss (AfterIf l e a))) os
 if_shuts is f [] ss l e a s = record { items = s.items; done = s.done }
 if_shuts is f (o ∷ os) ss l e a s = record { items = s.items; done = s.done }
 
-pub shut_in_shuts : (is : List ItemForm) (f : Header) (a : Block) (l : ℕ) (r : Around Text Block) (before : List Piece) (os : List (OpenBlock Text Piece Block)) → ((ss : List Piece) → Shuts (InFunction is f (At os ss Start)) os)
+pub shut_in_shuts : (is : List ItemForm) (f : Header) (a : Block) (l : ℕ) (r : Around Text Block) (before : List StatementForm) (os : List (OpenBlock Text StatementForm Block)) → ((ss : List StatementForm) → Shuts (InFunction is f (At os ss Start)) os)
     → Shuts (InFunction is f (shut_in written a l r before os)) os
 shut_in_shuts is f a l (Then e) before os h = if_shuts is f os before l e a (h (before ++ if_ l e a ∷ []))
 shut_in_shuts is f a l (Else e first) before os h = h (before ++ if_else l e first a ∷ [])
 shut_in_shuts is f a l (Loop e) before os h = h (before ++ while_ l e a ∷ [])
 
-pub shuts : (is : List ItemForm) (f : Header) (os : List (OpenBlock Text Piece Block)) (ss : List Piece) → Shuts (InFunction is f (At os ss Start)) os
+pub shuts : (is : List ItemForm) (f : Header) (os : List (OpenBlock Text StatementForm Block)) (ss : List StatementForm) → Shuts (InFunction is f (At os ss Start)) os
 shuts is f [] ss = record { items = is ++ ItemForm.func f.line f.name f.params (close written ss) ∷ []; done = refl }
 shuts is f (o ∷ os) ss =
     let s = shut_in_shuts is f (close written ss) o.line o.around o.before os (shuts is f os) in
     record { items = s.items; done = s.done }
 
-pub shut_ended : (s : FileReader Text Piece Block ItemForm) (os : List (OpenBlock Text Piece Block)) → Shuts s os → Ended s
+pub shut_ended : (s : FileReader Text StatementForm Block ItemForm) (os : List (OpenBlock Text StatementForm Block)) → Shuts s os → FileCompletion s
 shut_ended s os h = record { more = braces os; items = h.items; done = h.done }
 
-pub start_ended : (is : List ItemForm) (f : Header) (os : List (OpenBlock Text Piece Block)) (ss : List Piece) → Ended (InFunction is f (At os ss Start))
+pub start_ended : (is : List ItemForm) (f : Header) (os : List (OpenBlock Text StatementForm Block)) (ss : List StatementForm) → FileCompletion (InFunction is f (At os ss Start))
 start_ended is f os ss = shut_ended (InFunction is f (At os ss Start)) os (shuts is f os ss)
 
-pub final_ended : (is : List ItemForm) (f : Header) (os : List (OpenBlock Text Piece Block)) (ss : List Piece) (l : ℕ) (n : PartNext Text) → in_part.IsFinal n → Ended (InFunction is f (parted written os ss l n))
+pub final_ended : (is : List ItemForm) (f : Header) (os : List (OpenBlock Text StatementForm Block)) (ss : List StatementForm) (l : ℕ) (n : PartNext Text) → in_part.IsFinal n → FileCompletion (InFunction is f (parted written os ss l n))
 final_ended is f os ss l (PartNext.Goes q) h = absurd h
-final_ended is f os ss l (PartNext.Ends s) h = start_ended is f os (ss ++ Piece.simple l s ∷ [])
+final_ended is f os ss l (PartNext.Ends s) h = start_ended is f os (ss ++ StatementForm.simple l s ∷ [])
 final_ended is f os ss l (PartNext.Opens test e) h = start_ended is f (record { line = l; around = around test e; before = ss } ∷ os) []
 
-pub inside_ended : (is : List ItemForm) (f : Header) (os : List (OpenBlock Text Piece Block)) (ss : List Piece) (pt : BlockPosition Text Block) → GoodReader (InFunction is f (At os ss pt)) → Ended (InFunction is f (At os ss pt))
+pub inside_ended : (is : List ItemForm) (f : Header) (os : List (OpenBlock Text StatementForm Block)) (ss : List StatementForm) (pt : BlockPosition Text Block) → GoodReader (InFunction is f (At os ss pt)) → FileCompletion (InFunction is f (At os ss pt))
 inside_ended is f os ss Start h = start_ended is f os ss
 inside_ended is f os ss (AfterIf l e a) h = shut_ended (InFunction is f (At os ss (AfterIf l e a))) os (if_shuts is f os ss l e a (shuts is f os (ss ++ if_ l e a ∷ [])))
 inside_ended is f os ss (ElseBrace l e a) h =
@@ -87,7 +87,7 @@ IsFinal (HeadNext.Goes h) = ⊥
 IsFinal (Declares d) = Unit {0}
 IsFinal (Begins f params) = Unit {0}
 
-pub record Settled (h : Head) : Type 0 where
+pub record HeadCompletion (h : Head) : Type 0 where
   pub more : List Token
   pub last : HeadNext
   pub final : IsFinal last
@@ -102,7 +102,7 @@ semicolon = Token.sign g.Semicolon ∷ []
 abbrev pub block_begins : List Token
 block_begins = Token.sign g.ParenClose ∷ Token.sign g.BraceOpen ∷ []
 
-pub head_settled : (h : Head) → Settled h
+pub head_settled : (h : Head) → HeadCompletion h
 head_settled SharedName = record { more = Token.name some_name ∷ semicolon; last = Declares (word some_name none); final = tt; runs = refl }
 head_settled (SharedNamed x) = record { more = semicolon; last = Declares (word x none); final = tt; runs = refl }
 head_settled (SharedValue x) = record { more = Token.num 0 ∷ semicolon; last = Declares (word x (plus 0)); final = tt; runs = refl }
@@ -121,13 +121,13 @@ head_settled (FnParam f params) = record { more = Token.name some_name ∷ block
 head_settled (FnNext f params) = record { more = block_begins; last = Begins f params; final = tt; runs = refl }
 head_settled (FnBrace f params) = record { more = Token.sign g.BraceOpen ∷ []; last = Begins f params; final = tt; runs = refl }
 
-pub headed_ended : (is : List ItemForm) (l : ℕ) (n : HeadNext) → IsFinal n → Ended (headed written is l n)
+pub headed_ended : (is : List ItemForm) (l : ℕ) (n : HeadNext) → IsFinal n → FileCompletion (headed written is l n)
 headed_ended is l (HeadNext.Goes h) k = absurd k
 headed_ended is l (Declares d) k = record { more = []; items = is ++ ItemForm.declared l d ∷ []; done = refl }
 headed_ended is l (Begins f params) k = start_ended is (record { line = l; name = f; params = params }) [] []
 
 -- Each good state has an end.
-pub ended : (s : FileReader Text Piece Block ItemForm) → GoodReader s → Ended s
+pub ended : (s : FileReader Text StatementForm Block ItemForm) → GoodReader s → FileCompletion s
 ended (Between is) h = record { more = []; items = is; done = refl }
 ended (Heading is l d) h =
     let s = head_settled d in
@@ -136,7 +136,7 @@ ended (InFunction is f (At os ss pt)) h = inside_ended is f os ss pt h
 
 -- files
 
-abbrev pub first : FileReader Text Piece Block ItemForm
+abbrev pub first : FileReader Text StatementForm Block ItemForm
 first = fresh
 
 pub accepted : (ps : List LineToken) (items : List ItemForm) → feed_all written first ps ≡ Some (Between items) → IsFile ps (map item_tree items)
@@ -145,7 +145,7 @@ accepted ps items is =
     let c' : Comes [] ps (Between items) = rw is at c in
     record { written = items; rules = c'.good; spelled = subst (λ z. FitMarks z ps) (sym c'.is) c'.spelled; stands = refl }
 
-pub run_viable : (ps : List LineToken) (s : FileReader Text Piece Block ItemForm) → feed_all written first ps ≡ Some s → IsViable ps
+pub run_viable : (ps : List LineToken) (s : FileReader Text StatementForm Block ItemForm) → feed_all written first ps ≡ Some s → IsViable ps
 run_viable ps s is =
     let c : IfSome (feed_all written first ps) (Comes [] ps) = run_good first ps tt in
     let c' : Comes [] ps s = rw is at c in
@@ -161,7 +161,7 @@ stuck_not_viable ps is v =
     let f : feed_all written first (ps ++ v.more) ≡ None = run_append first ps v.more ∙ rw is refl in
     cc
 
-pub unfinished_not_file : (ps : List LineToken) (s : FileReader Text Piece Block ItemForm) (items : List tree.FileItem) → feed_all written first ps ≡ Some s → finish s ≡ None → IsFile ps items → ⊥
+pub unfinished_not_file : (ps : List LineToken) (s : FileReader Text StatementForm Block ItemForm) (items : List tree.FileItem) → feed_all written first ps ≡ Some s → finish s ≡ None → IsFile ps items → ⊥
 unfinished_not_file ps s items is open_ x =
     let e : feed_all written first ps ≡ Some (Between x.written) = file_runs ps items x in
     let same : s ≡ Between x.written = cc in

@@ -10,11 +10,11 @@ use Rattle.loom_tree.specs.Tree.{Simple}
 use Rattle.loom_expression.specs.Text.{Text, tokens, IsWritten}
 use Rattle.loom_expression.specs.Reader as expression
 use Rattle.loom_expression.specs.Reader.{after}
-use Rattle.loom_syntax.specs.File.{Mark, on, at, FitMarks, Block, none, plus, minus, Declaration, word, array, mutex, sema, ItemForm, declared, func, behind_commas, with_commas, simple_tokens, test_tokens, declaration_tokens, head_tokens, begun, ended, in_braces, block_marks, item_marks, block_limit, sema_limit, IsSimple, IsBlock, IsDeclaration, IsItem}
+use Rattle.loom_syntax.specs.File.{Mark, on, at, FitMarks, Block, none, plus, minus, Declaration, word, array, mutex, sema, ItemForm, declared, func, behind_commas, with_commas, simple_tokens, test_tokens, declaration_tokens, head_tokens, begun, with_semicolon, in_braces, block_marks, item_marks, block_limit, sema_limit, IsSimple, IsBlock, IsDeclaration, IsItem}
 use Rattle.loom_syntax.specs.Tests.{is_keyword, is_sign}
 use Rattle.loom_syntax.specs.Head.{Head, SharedName, MutexName, SemaName, FnName, FnFirst, FnNext, HeadNext, Declares, Begins, begin_item, head_step}
 use Rattle.loom_syntax.specs.Part.{Test, If, While, Part, TestOpen, PartNext, begin_part, part_step}
-use Rattle.loom_syntax.specs.FileReader.{Around, Then, Else, Loop, OpenBlock, Start, AfterIf, ElseBrace, Within, At, Header, FileReader, Between, Heading, InFunction, fresh, close, room, around, parted, headed, feed, feed_all, Piece, simple, if_, if_else, while_, written}
+use Rattle.loom_syntax.specs.FileReader.{Around, Then, Else, Loop, OpenBlock, Start, AfterIf, ElseBrace, Within, At, Header, FileReader, Between, Heading, InFunction, fresh, close, room, around, parted, headed, feed, feed_all, StatementForm, simple, if_, if_else, while_, written}
 use Rattle.loom_syntax.proofs.Choices.{keyword_is, sign_is}
 use Rattle.loom_syntax.proofs.HeadSound.{named}
 use Rattle.loom_syntax.proofs.PartSound.{test_word}
@@ -22,17 +22,17 @@ use Rattle.loom_syntax.proofs.PartWhole as in_part
 use Rattle.loom_syntax.proofs.PartWhole.{readable, test_run}
 use Rattle.loom_syntax.proofs.Sound.{begun_more}
 
-pub run_append : (s : FileReader Text Piece Block ItemForm) (a b : List LineToken) → feed_all written s (a ++ b) ≡ after (feed_all written s a) (λ s'. feed_all written s' b)
+pub run_append : (s : FileReader Text StatementForm Block ItemForm) (a b : List LineToken) → feed_all written s (a ++ b) ≡ after (feed_all written s a) (λ s'. feed_all written s' b)
 run_append s [] b = refl
 run_append s (p ∷ a) b = go (feed written s p) (λ s'. run_append s' a b)
   where
-    go : (o : Option (FileReader Text Piece Block ItemForm)) → ((s' : FileReader Text Piece Block ItemForm) → feed_all written s' (a ++ b) ≡ after (feed_all written s' a) (λ s''. feed_all written s'' b))
+    go : (o : Option (FileReader Text StatementForm Block ItemForm)) → ((s' : FileReader Text StatementForm Block ItemForm) → feed_all written s' (a ++ b) ≡ after (feed_all written s' a) (λ s''. feed_all written s'' b))
         → after o (λ s'. feed_all written s' (a ++ b)) ≡ after (after o (λ s'. feed_all written s' a)) (λ s''. feed_all written s'' b)
     go None h = refl
     go (Some s') h = h s'
 
 -- By tokens with these marks the reader comes from s to s'.
-abbrev pub Takes : FileReader Text Piece Block ItemForm → List Mark → FileReader Text Piece Block ItemForm → Type 0
+abbrev pub Takes : FileReader Text StatementForm Block ItemForm → List Mark → FileReader Text StatementForm Block ItemForm → Type 0
 Takes s ms s' = (ps : List LineToken) → FitMarks ms ps → feed_all written s ps ≡ Some s'
 
 pub record Split (ms ns : List Mark) (ps : List LineToken) : Type 0 where
@@ -49,34 +49,34 @@ split (m ∷ ms) ns (p ∷ ps) h =
     let s = split ms ns ps h.1 in
     record { front = p ∷ s.front; rest = s.rest; is = ap (λ z. p ∷ z) s.is; first = (h.0, s.first); second = s.second }
 
-pub takes_append : (s s' s'' : FileReader Text Piece Block ItemForm) (ms ns : List Mark) → Takes s ms s' → Takes s' ns s'' → Takes s (ms ++ ns) s''
+pub takes_append : (s s' s'' : FileReader Text StatementForm Block ItemForm) (ms ns : List Mark) → Takes s ms s' → Takes s' ns s'' → Takes s (ms ++ ns) s''
 takes_append s s' s'' ms ns h k ps spelled =
     let c = split ms ns ps spelled in
     ap (feed_all written s) c.is ∙ run_append s c.front c.rest ∙ rw (h c.front c.first) (k c.rest c.second)
 
-pub takes_is : (s s' : FileReader Text Piece Block ItemForm) (ms ns : List Mark) → ms ≡ ns → Takes s ms s' → Takes s ns s'
+pub takes_is : (s s' : FileReader Text StatementForm Block ItemForm) (ms ns : List Mark) → ms ≡ ns → Takes s ms s' → Takes s ns s'
 takes_is s s' ms ns is h = subst (λ z. Takes s z s') is h
 
-pub takes_to : (s s' s'' : FileReader Text Piece Block ItemForm) (ms : List Mark) → s' ≡ s'' → Takes s ms s' → Takes s ms s''
+pub takes_to : (s s' s'' : FileReader Text StatementForm Block ItemForm) (ms : List Mark) → s' ≡ s'' → Takes s ms s' → Takes s ms s''
 takes_to s s' s'' ms is h = subst (λ z. Takes s ms z) is h
 
-pub takes_from : (s s' s'' : FileReader Text Piece Block ItemForm) (ms : List Mark) → s ≡ s' → Takes s ms s'' → Takes s' ms s''
+pub takes_from : (s s' s'' : FileReader Text StatementForm Block ItemForm) (ms : List Mark) → s ≡ s' → Takes s ms s'' → Takes s' ms s''
 takes_from s s' s'' ms is h = subst (λ z. Takes z ms s'') is h
 
-pub takes_none : (s : FileReader Text Piece Block ItemForm) → Takes s [] s
+pub takes_none : (s : FileReader Text StatementForm Block ItemForm) → Takes s [] s
 takes_none s [] h = refl
 takes_none s (p ∷ ps) h = absurd h
 
 pub placed_is : (p : LineToken) (t : Token) → p.token ≡ t → p ≡ record { token = t; line = p.line }
 placed_is p t is = ap (λ z. record { token = z; line = p.line }) is
 
-pub takes_on : (s s' s'' : FileReader Text Piece Block ItemForm) (t : Token) (ms : List Mark) → ((l : ℕ) → feed written s (record { token = t; line = l }) ≡ Some s') → Takes s' ms s'' → Takes s (on t ∷ ms) s''
+pub takes_on : (s s' s'' : FileReader Text StatementForm Block ItemForm) (t : Token) (ms : List Mark) → ((l : ℕ) → feed written s (record { token = t; line = l }) ≡ Some s') → Takes s' ms s'' → Takes s (on t ∷ ms) s''
 takes_on s s' s'' t ms h k [] spelled = absurd spelled
 takes_on s s' s'' t ms h k (p ∷ ps) spelled =
     let first : feed written s p ≡ Some s' = ap (feed written s) (placed_is p t spelled.0) ∙ h p.line in
     rw first (k ps spelled.1)
 
-pub takes_at : (s s' s'' : FileReader Text Piece Block ItemForm) (l : ℕ) (t : Token) (ms : List Mark) → feed written s (record { token = t; line = l }) ≡ Some s' → Takes s' ms s'' → Takes s (at l t ∷ ms) s''
+pub takes_at : (s s' s'' : FileReader Text StatementForm Block ItemForm) (l : ℕ) (t : Token) (ms : List Mark) → feed written s (record { token = t; line = l }) ≡ Some s' → Takes s' ms s'' → Takes s (at l t ∷ ms) s''
 takes_at s s' s'' l t ms h k [] spelled = absurd spelled
 takes_at s s' s'' l t ms h k (p ∷ ps) spelled =
     let first : feed written s p ≡ Some s' = ap (feed written s) (placed_is p t spelled.0.0 ∙ ap (λ z. record { token = t; line = z }) spelled.0.1) ∙ h in
@@ -108,7 +108,7 @@ pub item_takes : (is : List ItemForm) (l : ℕ) (t : Token) (d : Head) (m : Head
 item_takes is l t d m ts h k =
     takes_at (Between is) (Heading is l d) (headed written is l m) l t (map on ts) (rw h refl) (head_takes is l (HeadNext.Goes d) m ts k)
 
-pub declared_takes : (is : List ItemForm) (l : ℕ) (d : Declaration) → IsDeclaration d → Takes (Between is) (begun l (ended (declaration_tokens d))) (Between (is ++ declared l d ∷ []))
+pub declared_takes : (is : List ItemForm) (l : ℕ) (d : Declaration) → IsDeclaration d → Takes (Between is) (begun l (with_semicolon (declaration_tokens d))) (Between (is ++ declared l d ∷ []))
 declared_takes is l (word x none) h = item_takes is l (Token.word w.Shared) SharedName (Declares (word x none)) (Token.name x ∷ Token.sign g.Semicolon ∷ []) refl refl
 declared_takes is l (word x (plus n)) h = item_takes is l (Token.word w.Shared) SharedName (Declares (word x (plus n))) (Token.name x ∷ Token.sign g.Assign ∷ Token.num n ∷ Token.sign g.Semicolon ∷ []) refl refl
 declared_takes is l (word x (minus n)) h = item_takes is l (Token.word w.Shared) SharedName (Declares (word x (minus n))) (Token.name x ∷ Token.sign g.Assign ∷ Token.op o.Sub ∷ Token.num n ∷ Token.sign g.Semicolon ∷ []) refl refl
@@ -137,7 +137,7 @@ function_takes is l f params =
 
 -- statements up to their blocks
 
-pub part_takes : (is : List ItemForm) (f : Header) (os : List (OpenBlock Text Piece Block)) (ss : List Piece) (l : ℕ) (n m : PartNext Text) (ts : List Token) → in_part.feed_all n ts ≡ Some m
+pub part_takes : (is : List ItemForm) (f : Header) (os : List (OpenBlock Text StatementForm Block)) (ss : List StatementForm) (l : ℕ) (n m : PartNext Text) (ts : List Token) → in_part.feed_all n ts ≡ Some m
     → Takes (InFunction is f (parted written os ss l n)) (map on ts) (InFunction is f (parted written os ss l m))
 part_takes is f os ss l n m [] h =
     let same : n ≡ m = cc in
@@ -169,28 +169,28 @@ begins_no_else v t q is = go (is_keyword w.Else t) refl
     go true was = let same : begin_part {A = Text} v t ≡ None = ap (λ z. begin_part v z) (keyword_is w.Else t was) in cc
     go false was = refl
 
-pub begins : (is : List ItemForm) (f : Header) (os : List (OpenBlock Text Piece Block)) (ss : List Piece) (l : ℕ) (t : Token) (q : Part Text) → begin_part (room os) t ≡ Some q
+pub begins : (is : List ItemForm) (f : Header) (os : List (OpenBlock Text StatementForm Block)) (ss : List StatementForm) (l : ℕ) (t : Token) (q : Part Text) → begin_part (room os) t ≡ Some q
     → feed written (InFunction is f (At os ss Start)) (record { token = t; line = l }) ≡ Some (InFunction is f (At os ss (Within l q)))
 begins is f os ss l t q h = rw (begins_no_brace (room os) t q h, h) refl
 
-pub statement_takes : (is : List ItemForm) (f : Header) (os : List (OpenBlock Text Piece Block)) (ss : List Piece) (l : ℕ) (t : Token) (q : Part Text) (m : PartNext Text) (ts : List Token) → begin_part (room os) t ≡ Some q → in_part.feed_all (PartNext.Goes q) ts ≡ Some m
+pub statement_takes : (is : List ItemForm) (f : Header) (os : List (OpenBlock Text StatementForm Block)) (ss : List StatementForm) (l : ℕ) (t : Token) (q : Part Text) (m : PartNext Text) (ts : List Token) → begin_part (room os) t ≡ Some q → in_part.feed_all (PartNext.Goes q) ts ≡ Some m
     → Takes (InFunction is f (At os ss Start)) (begun l (t ∷ ts)) (InFunction is f (parted written os ss l m))
 statement_takes is f os ss l t q m ts h k =
     takes_at (InFunction is f (At os ss Start)) (InFunction is f (At os ss (Within l q))) (InFunction is f (parted written os ss l m)) l t (map on ts) (begins is f os ss l t q h)
     (part_takes is f os ss l (PartNext.Goes q) m ts k)
 
-pub simple_takes : (is : List ItemForm) (f : Header) (os : List (OpenBlock Text Piece Block)) (ss : List Piece) (l : ℕ) (s : Simple Text) → IsSimple s
-    → Takes (InFunction is f (At os ss Start)) (begun l (ended (simple_tokens s))) (InFunction is f (At os (ss ++ simple l s ∷ []) Start))
+pub simple_takes : (is : List ItemForm) (f : Header) (os : List (OpenBlock Text StatementForm Block)) (ss : List StatementForm) (l : ℕ) (s : Simple Text) → IsSimple s
+    → Takes (InFunction is f (At os ss Start)) (begun l (with_semicolon (simple_tokens s))) (InFunction is f (At os (ss ++ simple l s ∷ []) Start))
 simple_takes is f os ss l s ok =
     let r = readable s ok in
-    takes_is (InFunction is f (At os ss Start)) (InFunction is f (At os (ss ++ simple l s ∷ []) Start)) (begun l (ended (r.first ∷ r.rest))) (begun l (ended (simple_tokens s))) (ap (λ z. begun l (ended z)) (sym r.is))
-    (statement_takes is f os ss l r.first r.part (PartNext.Ends s) (ended r.rest) (r.begins (room os)) r.runs)
+    takes_is (InFunction is f (At os ss Start)) (InFunction is f (At os (ss ++ simple l s ∷ []) Start)) (begun l (with_semicolon (r.first ∷ r.rest))) (begun l (with_semicolon (simple_tokens s))) (ap (λ z. begun l (with_semicolon z)) (sym r.is))
+    (statement_takes is f os ss l r.first r.part (PartNext.Ends s) (with_semicolon r.rest) (r.begins (room os)) r.runs)
 
-pub test_begins : (os : List (OpenBlock Text Piece Block)) (test : Test) → suc (length os) < block_limit → begin_part {A = Text} (room os) (Token.word (test_word test)) ≡ Some (TestOpen test)
+pub test_begins : (os : List (OpenBlock Text StatementForm Block)) (test : Test) → suc (length os) < block_limit → begin_part {A = Text} (room os) (Token.word (test_word test)) ≡ Some (TestOpen test)
 test_begins os If h = rw (lt-ltb (suc (length os)) block_limit h) refl
 test_begins os While h = rw (lt-ltb (suc (length os)) block_limit h) refl
 
-pub test_takes : (is : List ItemForm) (f : Header) (os : List (OpenBlock Text Piece Block)) (ss : List Piece) (l : ℕ) (test : Test) (e : Text) → IsWritten e → suc (length os) < block_limit
+pub test_takes : (is : List ItemForm) (f : Header) (os : List (OpenBlock Text StatementForm Block)) (ss : List StatementForm) (l : ℕ) (test : Test) (e : Text) → IsWritten e → suc (length os) < block_limit
     → Takes (InFunction is f (At os ss Start)) (begun l (test_tokens (test_word test) e) ++ on (Token.sign g.BraceOpen) ∷ []) (InFunction is f (At (record { line = l; around = around test e; before = ss } ∷ os) [] Start))
 test_takes is f os ss l test e ok h =
     let rest : List Token = Token.sign g.ParenOpen ∷ (tokens e ++ Token.sign g.ParenClose ∷ Token.sign g.BraceOpen ∷ []) in
@@ -202,7 +202,7 @@ test_takes is f os ss l test e ok h =
 
 -- blocks
 
-abbrev pub pieces : Block → List Piece
+abbrev pub pieces : Block → List StatementForm
 pieces Block.end = []
 pieces (Block.simple l s rest) = simple l s ∷ pieces rest
 pieces (Block.if_ l e a rest) = if_ l e a ∷ pieces rest
@@ -222,19 +222,19 @@ NoElse [] = ⊥
 NoElse (on t ∷ ms) = is_keyword w.Else t ≡ false
 NoElse (at l t ∷ ms) = is_keyword w.Else t ≡ false
 
-pub simple_no_else : (l : ℕ) (s : Simple Text) (ms : List Mark) → IsSimple s → NoElse (begun l (ended (simple_tokens s)) ++ ms)
+pub simple_no_else : (l : ℕ) (s : Simple Text) (ms : List Mark) → IsSimple s → NoElse (begun l (with_semicolon (simple_tokens s)) ++ ms)
 simple_no_else l s ms ok =
     let r = readable s ok in
-    subst (λ z. NoElse (begun l (ended z) ++ ms)) (sym r.is) (begins_no_else true r.first r.part (r.begins true))
+    subst (λ z. NoElse (begun l (with_semicolon z) ++ ms)) (sym r.is) (begins_no_else true r.first r.part (r.begins true))
 
 pub block_no_else : (n : ℕ) (b : Block) (ms : List Mark) → IsBlock n b → NoElse ms → NoElse (block_marks b ++ ms)
 block_no_else n Block.end ms h k = k
-block_no_else n (Block.simple l s rest) ms h k = subst NoElse (sym (append_assoc (begun l (ended (simple_tokens s))) (block_marks rest) ms)) (simple_no_else l s (block_marks rest ++ ms) h.0)
+block_no_else n (Block.simple l s rest) ms h k = subst NoElse (sym (append_assoc (begun l (with_semicolon (simple_tokens s))) (block_marks rest) ms)) (simple_no_else l s (block_marks rest ++ ms) h.0)
 block_no_else n (Block.if_ l e a rest) ms h k = refl
 block_no_else n (Block.if_else l e a b rest) ms h k = refl
 block_no_else n (Block.while_ l e a rest) ms h k = refl
 
-pub if_takes : (is : List ItemForm) (f : Header) (os : List (OpenBlock Text Piece Block)) (ss : List Piece) (l : ℕ) (e : Text) (a : Block) (ms : List Mark) (s' : FileReader Text Piece Block ItemForm) → NoElse ms
+pub if_takes : (is : List ItemForm) (f : Header) (os : List (OpenBlock Text StatementForm Block)) (ss : List StatementForm) (l : ℕ) (e : Text) (a : Block) (ms : List Mark) (s' : FileReader Text StatementForm Block ItemForm) → NoElse ms
     → Takes (InFunction is f (At os (ss ++ if_ l e a ∷ []) Start)) ms s' → Takes (InFunction is f (At os ss (AfterIf l e a))) ms s'
 if_takes is f os ss l e a [] s' h k ps spelled = absurd h
 if_takes is f os ss l e a (m ∷ ms) s' h k [] spelled = absurd spelled
@@ -271,18 +271,18 @@ else_append head a b rest ms =
 
 -- Where the reader goes on behind a block, it goes on behind it from before it.
 abbrev pub IsTaken : Block → Type 0
-IsTaken b = (is : List ItemForm) (f : Header) (os : List (OpenBlock Text Piece Block)) (ss : List Piece) (ms : List Mark) (s' : FileReader Text Piece Block ItemForm) → IsBlock (suc (length os)) b → NoElse ms
+IsTaken b = (is : List ItemForm) (f : Header) (os : List (OpenBlock Text StatementForm Block)) (ss : List StatementForm) (ms : List Mark) (s' : FileReader Text StatementForm Block ItemForm) → IsBlock (suc (length os)) b → NoElse ms
     → Takes (InFunction is f (At os (ss ++ pieces b) Start)) ms s' → Takes (InFunction is f (At os ss Start)) (block_marks b ++ ms) s'
 
 -- a block in a statement, and the `}` behind it
-pub inner_takes : (a : Block) → IsTaken a → (is : List ItemForm) (f : Header) (l : ℕ) (r : Around Text Block) (before : List Piece) (os : List (OpenBlock Text Piece Block)) (ms : List Mark) (s s' : FileReader Text Piece Block ItemForm) → IsBlock (suc (suc (length os))) a
+pub inner_takes : (a : Block) → IsTaken a → (is : List ItemForm) (f : Header) (l : ℕ) (r : Around Text Block) (before : List StatementForm) (os : List (OpenBlock Text StatementForm Block)) (ms : List Mark) (s s' : FileReader Text StatementForm Block ItemForm) → IsBlock (suc (suc (length os))) a
     → ((line : ℕ) → feed written (InFunction is f (At (record { line = l; around = r; before = before } ∷ os) (pieces a) Start)) (record { token = Token.sign g.BraceClose; line = line }) ≡ Some s) → Takes s ms s'
     → Takes (InFunction is f (At (record { line = l; around = r; before = before } ∷ os) [] Start)) (block_marks a ++ on (Token.sign g.BraceClose) ∷ ms) s'
 inner_takes a ih is f l r before os ms s s' ok closing more =
     ih is f (record { line = l; around = r; before = before } ∷ os) [] (on (Token.sign g.BraceClose) ∷ ms) s' ok refl
     (takes_on (InFunction is f (At (record { line = l; around = r; before = before } ∷ os) (pieces a) Start)) s s' (Token.sign g.BraceClose) ms closing more)
 
-pub more_pieces : (is : List ItemForm) (f : Header) (os : List (OpenBlock Text Piece Block)) (ss : List Piece) (s : Piece) (rest : Block) (ms : List Mark) (s' : FileReader Text Piece Block ItemForm)
+pub more_pieces : (is : List ItemForm) (f : Header) (os : List (OpenBlock Text StatementForm Block)) (ss : List StatementForm) (s : StatementForm) (rest : Block) (ms : List Mark) (s' : FileReader Text StatementForm Block ItemForm)
     → Takes (InFunction is f (At os (ss ++ s ∷ pieces rest) Start)) ms s' → Takes (InFunction is f (At os ((ss ++ s ∷ []) ++ pieces rest) Start)) ms s'
 more_pieces is f os ss s rest ms s' h =
     takes_from (InFunction is f (At os (ss ++ s ∷ pieces rest) Start)) (InFunction is f (At os ((ss ++ s ∷ []) ++ pieces rest) Start)) s' ms
@@ -290,14 +290,14 @@ more_pieces is f os ss s rest ms s' h =
 
 pub simple_taken : (l : ℕ) (s : Simple Text) (rest : Block) → IsTaken rest → IsTaken (Block.simple l s rest)
 simple_taken l s rest ih is f os ss ms s' ok follows h =
-    takes_is (InFunction is f (At os ss Start)) s' (begun l (ended (simple_tokens s)) ++ (block_marks rest ++ ms)) (block_marks (Block.simple l s rest) ++ ms) (sym (append_assoc (begun l (ended (simple_tokens s))) (block_marks rest) ms))
-    (takes_append (InFunction is f (At os ss Start)) (InFunction is f (At os (ss ++ simple l s ∷ []) Start)) s' (begun l (ended (simple_tokens s))) (block_marks rest ++ ms)
+    takes_is (InFunction is f (At os ss Start)) s' (begun l (with_semicolon (simple_tokens s)) ++ (block_marks rest ++ ms)) (block_marks (Block.simple l s rest) ++ ms) (sym (append_assoc (begun l (with_semicolon (simple_tokens s))) (block_marks rest) ms))
+    (takes_append (InFunction is f (At os ss Start)) (InFunction is f (At os (ss ++ simple l s ∷ []) Start)) s' (begun l (with_semicolon (simple_tokens s))) (block_marks rest ++ ms)
     (simple_takes is f os ss l s ok.0)
     (ih is f os (ss ++ simple l s ∷ []) ms s' ok.1 follows (more_pieces is f os ss (simple l s) rest ms s' h)))
 
 pub while_taken : (l : ℕ) (e : Text) (a rest : Block) → IsTaken a → IsTaken rest → IsTaken (Block.while_ l e a rest)
 while_taken l e a rest iha ih is f os ss ms s' ok follows h =
-    let o : OpenBlock Text Piece Block = record { line = l; around = Loop e; before = ss } in
+    let o : OpenBlock Text StatementForm Block = record { line = l; around = Loop e; before = ss } in
     takes_is (InFunction is f (At os ss Start)) s' ((begun l (test_tokens w.While e) ++ on (Token.sign g.BraceOpen) ∷ []) ++ (block_marks a ++ on (Token.sign g.BraceClose) ∷ (block_marks rest ++ ms))) (block_marks (Block.while_ l e a rest) ++ ms)
     (loop_append (begun l (test_tokens w.While e)) (block_marks a) (block_marks rest) ms)
     (takes_append (InFunction is f (At os ss Start)) (InFunction is f (At (o ∷ os) [] Start)) s' (begun l (test_tokens w.While e) ++ on (Token.sign g.BraceOpen) ∷ []) (block_marks a ++ on (Token.sign g.BraceClose) ∷ (block_marks rest ++ ms))
@@ -308,7 +308,7 @@ while_taken l e a rest iha ih is f os ss ms s' ok follows h =
 
 pub if_taken : (l : ℕ) (e : Text) (a rest : Block) → IsTaken a → IsTaken rest → IsTaken (Block.if_ l e a rest)
 if_taken l e a rest iha ih is f os ss ms s' ok follows h =
-    let o : OpenBlock Text Piece Block = record { line = l; around = Then e; before = ss } in
+    let o : OpenBlock Text StatementForm Block = record { line = l; around = Then e; before = ss } in
     takes_is (InFunction is f (At os ss Start)) s' ((begun l (test_tokens w.If e) ++ on (Token.sign g.BraceOpen) ∷ []) ++ (block_marks a ++ on (Token.sign g.BraceClose) ∷ (block_marks rest ++ ms))) (block_marks (Block.if_ l e a rest) ++ ms)
     (loop_append (begun l (test_tokens w.If e)) (block_marks a) (block_marks rest) ms)
     (takes_append (InFunction is f (At os ss Start)) (InFunction is f (At (o ∷ os) [] Start)) s' (begun l (test_tokens w.If e) ++ on (Token.sign g.BraceOpen) ∷ []) (block_marks a ++ on (Token.sign g.BraceClose) ∷ (block_marks rest ++ ms))
@@ -320,7 +320,7 @@ if_taken l e a rest iha ih is f os ss ms s' ok follows h =
 
 pub else_taken : (l : ℕ) (e : Text) (a b rest : Block) → IsTaken a → IsTaken b → IsTaken rest → IsTaken (Block.if_else l e a b rest)
 else_taken l e a b rest iha ihb ih is f os ss ms s' ok follows h =
-    let o : OpenBlock Text Piece Block = record { line = l; around = Then e; before = ss } in
+    let o : OpenBlock Text StatementForm Block = record { line = l; around = Then e; before = ss } in
     let behind = block_marks rest ++ ms in
     let second = block_marks b ++ on (Token.sign g.BraceClose) ∷ behind in
     let first = on (Token.word w.Else) ∷ on (Token.sign g.BraceOpen) ∷ second in

@@ -68,20 +68,20 @@ with_commas (part ∷ parts) = part ++ behind_commas parts
 abbrev pub in_parens : List Token → List Token
 in_parens ts = Token.sign g.ParenOpen ∷ ts ++ Token.sign g.ParenClose ∷ []
 
-abbrev pub arguments : List Text → List Token
-arguments es = in_parens (with_commas (map tokens es))
+abbrev pub argument_tokens : List Text → List Token
+argument_tokens es = in_parens (with_commas (map tokens es))
 
 abbrev pub right_tokens : Right Text → List Token
 right_tokens (Right.value e) = tokens e
-right_tokens (Right.call f es) = Token.name f ∷ arguments es
-right_tokens (Right.spawn f es) = Token.word w.Spawn ∷ Token.name f ∷ arguments es
+right_tokens (Right.call f es) = Token.name f ∷ argument_tokens es
+right_tokens (Right.spawn f es) = Token.word w.Spawn ∷ Token.name f ∷ argument_tokens es
 
 -- a statement without its `;`
 abbrev pub simple_tokens : Simple Text → List Token
 simple_tokens (Simple.let_ x r) = Token.word w.Let ∷ Token.name x ∷ Token.sign g.Assign ∷ right_tokens r
 simple_tokens (Simple.set x r) = Token.name x ∷ Token.sign g.Assign ∷ right_tokens r
 simple_tokens (Simple.set_cell x i e) = Token.name x ∷ Token.sign g.BracketOpen ∷ tokens i ++ Token.sign g.BracketClose ∷ Token.sign g.Assign ∷ tokens e
-simple_tokens (Simple.call f es) = Token.name f ∷ arguments es
+simple_tokens (Simple.call f es) = Token.name f ∷ argument_tokens es
 simple_tokens (Simple.return None) = Token.word w.Return ∷ []
 simple_tokens (Simple.return (Some e)) = Token.word w.Return ∷ tokens e
 simple_tokens (Simple.lock x) = Token.word w.Lock ∷ Token.name x ∷ []
@@ -121,21 +121,21 @@ abbrev pub begun : ℕ → List Token → List Mark
 begun l [] = []
 begun l (t ∷ ts) = at l t ∷ map on ts
 
-abbrev pub ended : List Token → List Token
-ended ts = ts ++ Token.sign g.Semicolon ∷ []
+abbrev pub with_semicolon : List Token → List Token
+with_semicolon ts = ts ++ Token.sign g.Semicolon ∷ []
 
 abbrev pub in_braces : List Mark → List Mark
 in_braces ms = on (Token.sign g.BraceOpen) ∷ ms ++ on (Token.sign g.BraceClose) ∷ []
 
 abbrev pub block_marks : Block → List Mark
 block_marks end = []
-block_marks (simple l s rest) = begun l (ended (simple_tokens s)) ++ block_marks rest
+block_marks (simple l s rest) = begun l (with_semicolon (simple_tokens s)) ++ block_marks rest
 block_marks (if_ l e a rest) = (begun l (test_tokens w.If e) ++ in_braces (block_marks a)) ++ block_marks rest
 block_marks (if_else l e a b rest) = (begun l (test_tokens w.If e) ++ in_braces (block_marks a) ++ on (Token.word w.Else) ∷ in_braces (block_marks b)) ++ block_marks rest
 block_marks (while_ l e a rest) = (begun l (test_tokens w.While e) ++ in_braces (block_marks a)) ++ block_marks rest
 
 abbrev pub item_marks : ItemForm → List Mark
-item_marks (declared l d) = begun l (ended (declaration_tokens d))
+item_marks (declared l d) = begun l (with_semicolon (declaration_tokens d))
 item_marks (func l f params body) = begun l (head_tokens f params) ++ in_braces (block_marks body)
 
 -- The rules that are part of the grammar: each expression is written by its rules, blocks nest no deeper than a limit, the
@@ -224,15 +224,15 @@ given_value none = pos 0
 given_value (plus n) = pos n
 given_value (minus n) = neg_ℤ (pos n)
 
-abbrev pub count_value : Option ℕ → ℕ
-count_value None = 0
-count_value (Some n) = n
+abbrev pub value_or_zero : Option ℕ → ℕ
+value_or_zero None = 0
+value_or_zero (Some n) = n
 
 abbrev pub declaration_tree : ℕ → Declaration → tree.FileItem
 declaration_tree l (Declaration.word x first) = tree.FileItem.word l (record { name = x; cells = None; first = given_value first })
 declaration_tree l (Declaration.array x n) = tree.FileItem.word l (record { name = x; cells = Some n; first = pos 0 })
 declaration_tree l (Declaration.mutex x) = tree.FileItem.mutex l x
-declaration_tree l (Declaration.sema x first) = tree.FileItem.sema l (record { name = x; first = count_value first })
+declaration_tree l (Declaration.sema x first) = tree.FileItem.sema l (record { name = x; first = value_or_zero first })
 
 abbrev pub item_tree : ItemForm → tree.FileItem
 item_tree (declared l d) = declaration_tree l d

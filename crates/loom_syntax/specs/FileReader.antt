@@ -140,19 +140,19 @@ finish (InFunction is f i) = None
 -- files as they are written
 
 -- a statement of a block
-pub data Piece : Type 0 where
-  simple : ℕ → Simple Text → Piece
-  if_ : ℕ → Text → Block → Piece
-  if_else : ℕ → Text → Block → Block → Piece
-  while_ : ℕ → Text → Block → Piece
+pub data StatementForm : Type 0 where
+  simple : ℕ → Simple Text → StatementForm
+  if_ : ℕ → Text → Block → StatementForm
+  if_else : ℕ → Text → Block → Block → StatementForm
+  while_ : ℕ → Text → Block → StatementForm
 
-abbrev pub chain : Piece → Block → Block
+abbrev pub chain : StatementForm → Block → Block
 chain (simple l s) rest = Block.simple l s rest
 chain (if_ l e a) rest = Block.if_ l e a rest
 chain (if_else l e a b) rest = Block.if_else l e a b rest
 chain (while_ l e a) rest = Block.while_ l e a rest
 
-abbrev pub written : FileBuilder Text Piece Block text.ItemForm
+abbrev pub written : FileBuilder Text StatementForm Block text.ItemForm
 written = record {
   expressions = expression.written;
   simple = simple;

@@ -80,10 +80,10 @@ abbrev pub assigned : {A : Type 0} → Assignee → Right A → Simple A
 assigned (Let x) r = Simple.let_ x r
 assigned (Set x) r = Simple.set x r
 
-abbrev pub applied : {A : Type 0} → Goal → List A → Simple A
-applied (Call f) es = Simple.call f es
-applied (RightCall target f) es = assigned target (Right.call f es)
-applied (RightSpawn target f) es = assigned target (Right.spawn f es)
+abbrev pub call_of : {A : Type 0} → Goal → List A → Simple A
+call_of (Call f) es = Simple.call f es
+call_of (RightCall target f) es = assigned target (Right.call f es)
+call_of (RightSpawn target f) es = assigned target (Right.spawn f es)
 
 abbrev pub synced : {A : Type 0} → Sync → List ℕ → Simple A
 synced Lock x = Simple.lock x
@@ -102,19 +102,19 @@ closes Return t = is_sign g.Semicolon t
 closes Join t = is_sign g.Semicolon t
 closes Print t = is_sign g.Semicolon t
 
-abbrev pub argued : {A : Type 0} → Goal → List A → Token → PartNext A
-argued goal es t = if is_sign g.Comma t then Goes (Reading (Argument goal es) expression.fresh) else Goes (Ending (applied goal es))
+abbrev pub behind_argument : {A : Type 0} → Goal → List A → Token → PartNext A
+behind_argument goal es t = if is_sign g.Comma t then Goes (Reading (Argument goal es) expression.fresh) else Goes (Ending (call_of goal es))
 
 -- what is behind an expression and the token that ends it
-abbrev pub closed : {A : Type 0} → Purpose A → A → Token → PartNext A
-closed (Value target) e t = Ends (assigned target (Right.value e))
-closed (Argument goal before) e t = argued goal (before ++ e ∷ []) t
-closed (Index x) e t = Goes (SetAssign x e)
-closed (CellValue x i) e t = Ends (Simple.set_cell x i e)
-closed (Condition test) e t = Goes (TestBrace test e)
-closed Return e t = Ends (Simple.return (Some e))
-closed Join e t = Ends (Simple.join e)
-closed Print e t = Ends (Simple.print e)
+abbrev pub behind_expression : {A : Type 0} → Purpose A → A → Token → PartNext A
+behind_expression (Value target) e t = Ends (assigned target (Right.value e))
+behind_expression (Argument goal before) e t = behind_argument goal (before ++ e ∷ []) t
+behind_expression (Index x) e t = Goes (SetAssign x e)
+behind_expression (CellValue x i) e t = Ends (Simple.set_cell x i e)
+behind_expression (Condition test) e t = Goes (TestBrace test e)
+behind_expression Return e t = Ends (Simple.return (Some e))
+behind_expression Join e t = Ends (Simple.join e)
+behind_expression Print e t = Ends (Simple.print e)
 
 abbrev pub ends_here : {A : Type 0} → Purpose A → expression.Reader A → Token → Bool
 ends_here p s t = if is_whole s then closes p t else false
@@ -122,7 +122,7 @@ ends_here p s t = if is_whole s then closes p t else false
 -- a token in an expression, or behind it
 abbrev pub read_step : {A : Type 0} → expression.ExpressionBuilder A → Purpose A → expression.Reader A → Token → Option (PartNext A)
 read_step b p s t =
-    if ends_here p s t then after (expression.finish b s) (λ e. Some (closed p e t)) else
+    if ends_here p s t then after (expression.finish b s) (λ e. Some (behind_expression p e t)) else
     after (expression.feed b s t) (λ s'. Some (Goes (Reading p s')))
 
 -- the first token of a statement, where a block may open and where none may
@@ -159,8 +159,8 @@ begin_part room Token.bad = None
 
 -- a token behind a part
 
-abbrev pub started : {A : Type 0} → List ℕ → Token → Option (PartNext A)
-started x t =
+abbrev pub behind_name : {A : Type 0} → List ℕ → Token → Option (PartNext A)
+behind_name x t =
     if is_sign g.Assign t then Some (Goes (RightOf (Set x))) else
     if is_sign g.BracketOpen t then Some (Goes (Reading (Index x) expression.fresh)) else
     if is_sign g.ParenOpen t then Some (Goes (Arguments (Call x))) else None
@@ -179,7 +179,7 @@ right_named b target f t =
 
 abbrev pub arguments_step : {A : Type 0} → expression.ExpressionBuilder A → Goal → Token → Option (PartNext A)
 arguments_step b goal t =
-    if is_sign g.ParenClose t then Some (Goes (Ending (applied goal []))) else
+    if is_sign g.ParenClose t then Some (Goes (Ending (call_of goal []))) else
     read_step b (Argument goal []) expression.fresh t
 
 abbrev pub return_step : {A : Type 0} → expression.ExpressionBuilder A → Token → Option (PartNext A)
@@ -189,7 +189,7 @@ return_step b t = if is_sign g.Semicolon t then Some (Ends (Simple.return None))
 abbrev pub part_step : {A : Type 0} → expression.ExpressionBuilder A → Part A → Token → Option (PartNext A)
 part_step b LetName t = after (name_of t) (λ x. Some (Goes (LetAssign x)))
 part_step b (LetAssign x) t = if is_sign g.Assign t then Some (Goes (RightOf (Let x))) else None
-part_step b (Started x) t = started x t
+part_step b (Started x) t = behind_name x t
 part_step b (RightOf target) t = right_of b target t
 part_step b (RightNamed target f) t = right_named b target f t
 part_step b (SpawnName target) t = after (name_of t) (λ f. Some (Goes (SpawnOpen target f)))

@@ -2,7 +2,7 @@
 ghost use Rattle.std.specs.Prelude.{◌≡◌, IfOk};
 ghost use Rattle.loom_tree.specs.Tree.{item_of, items_of};
 ghost use Rattle.loom_syntax.specs.TokenView.{spot_of};
-ghost use Rattle.loom_syntax.specs.File.{count_value, declaration_tree, given_value};
+ghost use Rattle.loom_syntax.specs.File.{value_or_zero, declaration_tree, given_value};
 ghost use Rattle.loom_syntax.specs.View.{plain};
 ghost use Rattle.loom_syntax.specs.HeadView as head;
 ghost use Rattle.loom_syntax.specs.HeadView.{declaration_of, given_of, head_of};
@@ -52,7 +52,7 @@ fn first_value(given: InitialValue) -> i64
 }
 
 fn first_count(given: Option<u32>) -> u32
-    ensures { result ≡ count_value given }
+    ensures { result ≡ value_or_zero given }
 {
     match given {
         None => 0,

@@ -181,7 +181,7 @@ fn assigned(target: Assignee, right: Right) -> Simple
 }
 
 fn applied(goal: Goal, es: Vec<Expr>) -> Simple
-    ensures { simple_of result ≡ m.applied (goal_of goal) (expressions_of es.items) }
+    ensures { simple_of result ≡ m.call_of (goal_of goal) (expressions_of es.items) }
 {
     match goal {
         Goal::Call(f) => Simple::Call(f, Exprs(es)),
@@ -238,7 +238,7 @@ fn closes(purpose: &Purpose, spot: Spot) -> bool
 
 /// What is behind an argument and the `,` or `)` that ends it. An `Err` is want of memory.
 fn argued(alloc: Global, goal: Goal, es: Vec<Expr>, spot: Spot) -> Result<PartNext, NoMemory>
-    ensures { IfOk result (λ n. next_of n ≡ m.argued (goal_of goal) (expressions_of es.items) (token_of spot.entry)) }
+    ensures { IfOk result (λ n. next_of n ≡ m.behind_argument (goal_of goal) (expressions_of es.items) (token_of spot.entry)) }
 {
     if spot.is_sign(Sign::Comma) {
         Ok(PartNext::Goes(read(alloc, Purpose::Argument(goal, es))?))
@@ -249,7 +249,7 @@ fn argued(alloc: Global, goal: Goal, es: Vec<Expr>, spot: Spot) -> Result<PartNe
 
 /// What is behind an expression and the token that ends it. An `Err` is want of memory.
 fn closed(alloc: Global, purpose: Purpose, e: Expr, spot: Spot) -> Result<PartNext, NoMemory>
-    ensures { IfOk result (λ n. next_of n ≡ m.closed (purpose_of purpose) (expression_of e) (token_of spot.entry)) }
+    ensures { IfOk result (λ n. next_of n ≡ m.behind_expression (purpose_of purpose) (expression_of e) (token_of spot.entry)) }
 {
     match purpose {
         Purpose::Value(target) => ends(alloc, assigned(target, Right::Value(e))),
@@ -280,7 +280,7 @@ fn close(
     reader: Reader,
     spot: Spot,
 ) -> Result<Option<PartNext>, NoMemory>
-    ensures { IfOk result (λ r. next_if r ≡ expression.after (expression.finish expression.plain (reader_of reader)) (λ e. Some (m.closed (purpose_of purpose) e (token_of spot.entry)))) }
+    ensures { IfOk result (λ r. next_if r ≡ expression.after (expression.finish expression.plain (reader_of reader)) (λ e. Some (m.behind_expression (purpose_of purpose) e (token_of spot.entry)))) }
 {
     match reader.finish(alloc)? {
         Some(e) => Ok(Some(closed(alloc, purpose, e, spot)?)),
@@ -396,7 +396,7 @@ fn let_assign(name: Name, spot: Spot) -> Option<PartNext>
 }
 
 fn started(alloc: Global, name: Name, spot: Spot) -> Result<Option<PartNext>, NoMemory>
-    ensures { IfOk result (λ r. next_if r ≡ m.started name (token_of spot.entry)) }
+    ensures { IfOk result (λ r. next_if r ≡ m.behind_name name (token_of spot.entry)) }
 {
     if spot.is_sign(Sign::Assign) {
         let binding = Binding::Set;

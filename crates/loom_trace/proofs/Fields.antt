@@ -4,7 +4,7 @@ use Rattle.std.proofs.lemmas.List.{take_more, map-append}
 use Rattle.loom_trace.specs.declared.entry.Entry.{Entry}
 use Rattle.loom_trace.specs.declared.entry.Entry.TheVariants as e
 use Rattle.loom_trace.specs.Text.{spaced, entry_line}
-use Rattle.loom_trace.specs.Parts.{thread_and_line, before, word_of, fields_of}
+use Rattle.loom_trace.specs.Parts.{thread_and_line, place_prefix, word_of, fields_of}
 
 pub spaced-append : (fs gs : List (List ℕ)) → spaced (fs ++ gs) ≡ spaced fs ++ spaced gs
 spaced-append [] gs = refl
@@ -15,7 +15,7 @@ pub spaced_more : {A : Type 0} (text : A → List ℕ) (xs : List A) (i : ℕ) (
 spaced_more text xs i d old mid new h is e =
     rw (e, is, take_more xs i d h, map-append, spaced-append) (simp (append_assoc, append-nil))
 
-pub line_parts : (x : Entry) → entry_line x ≡ before (thread_and_line x) ++ word_of x ++ spaced (fields_of x)
+pub line_parts : (x : Entry) → entry_line x ≡ place_prefix (thread_and_line x) ++ word_of x ++ spaced (fields_of x)
 line_parts (e.Begin t l) = simp append_assoc
 line_parts (e.End t l) = simp append_assoc
 line_parts (e.Trap t l reason) = simp append_assoc

@@ -3,6 +3,6 @@ pub mod Cut
 pub mod Decimal
 pub mod Fields
 pub mod Numbers
-pub mod Told
+pub mod EntryFields
 pub mod Unique
 pub mod Bits

@@ -14,7 +14,7 @@ use Rattle.loom_trace.specs.Text.{spaced, what_fields, ending_word, entry_line, 
 use Rattle.loom_trace.specs.Parts.{thread_and_line, word_of, fields_of}
 use Rattle.loom_trace.proofs.Cut.{Each, Stops, one_cut, same_rest, each_append, above, each_weaker}
 use Rattle.loom_trace.proofs.Numbers.{Digits, digits_told, each_decimal, each_signed}
-use Rattle.loom_trace.proofs.Told.{behind_place, line_fields, entry_of, entry_told}
+use Rattle.loom_trace.proofs.EntryFields.{behind_place, line_fields, entry_of, entry_told}
 
 -- each byte of each list is above a number
 abbrev pub AllAbove : ℕ → List (List ℕ) → Type 0

@@ -10,9 +10,9 @@ abbrev pub thread_before : ℕ → ℕ → List ℕ
 thread_before thread line = thread_prefix thread line ++ 32 ∷ []
 
 -- what stands before a word
-abbrev pub before : Option (ℕ × ℕ) → List ℕ
-before None = []
-before (Some place) = thread_before place.0 place.1
+abbrev pub place_prefix : Option (ℕ × ℕ) → List ℕ
+place_prefix None = []
+place_prefix (Some place) = thread_before place.0 place.1
 
 -- the thread and the line of what a thread does
 abbrev pub thread_and_line : Entry → Option (ℕ × ℕ)

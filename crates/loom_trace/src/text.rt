@@ -3,7 +3,7 @@ ghost use Rattle.std.specs.Prelude.{◌≡◌, ◌+◌, ◌*◌, ◌<◌, ◌≤
 ghost use Rattle.loom_tree.specs.Decimal.{decimal, signed_decimal};
 ghost use Rattle.loom_trace.specs.Limits.{line_limit, front_limit};
 ghost use Rattle.loom_trace.specs.Text.{spaced, what_fields, ending_word, entry_line};
-ghost use Rattle.loom_trace.specs.Parts.{thread_before, thread_and_line, before, word_of, fields_of};
+ghost use Rattle.loom_trace.specs.Parts.{thread_before, thread_and_line, place_prefix, word_of, fields_of};
 
 use crate::entry::{Ending, Entry, What};
 use crate::line::Line;
@@ -197,7 +197,7 @@ fn thread_and_line(e: &Entry) -> Option<(u8, u32)>
 // What stands before the word.
 fn put_before(place: Option<(u8, u32)>, out: &mut Line)
     requires { out.old ≡ [] }
-    ensures text { out.new ≡ before place }
+    ensures text { out.new ≡ place_prefix place }
     ensures short { length out.new ≤ 15 }
 {
     if let Some((thread, line)) = place {

@@ -11,11 +11,11 @@ use Rattle.loom_trace.specs.Limits.{thread_limit}
 use Rattle.loom_event.specs.Replay.{Store, start, thread_at, replay, IsDisabled, AllEnded}
 use Rattle.loom_event.proofs.Stops.{never_stopped}
 use Rattle.loom_law.specs.Control.{Command, command_at, Control, control, first_control, listed_places}
-use Rattle.loom_law.specs.Lawful.{Setting, Front, front_of, over, Lives, IsDisabledFor, IsBlockedBy, IsBlocked, IsHeldOff, IsStalled, IsDue, IsOpen, Ends, MayControl, IsLawful}
+use Rattle.loom_law.specs.Lawful.{Setting, Front, front_of, run_is_over, Lives, IsDisabledFor, IsBlockedBy, IsBlocked, IsHeldOff, IsStalled, IsDue, IsOpen, Ends, MayControl, IsLawful}
 use Rattle.loom_law.specs.Laws.{IsUnfinished}
 use Rattle.loom_law.proofs.NoCommands.{nothing_controlled, nothing_listed, nothing_asked, nobody_held_off, is_open}
 use Rattle.loom_store.specs.Answer.{CanWait}
-use Rattle.loom_world.specs.Book.{Book, plain, setting, front, HasLawfulJournal}
+use Rattle.loom_world.specs.Book.{Book, plain_setting, setting, front, HasLawfulJournal}
 use Rattle.loom_world.specs.Idle.{HasFinish, IsClosed, CanGoOn}
 use Rattle.loom_world.specs.BookInvariant.{wait_in}
 use Rattle.loom_world.proofs.Notes.{blocked_entry}
@@ -25,7 +25,7 @@ pub front_is : (b : Book) (h : HasLawfulJournal b) → front_of (setting b) b.en
 front_is b h = ap (λ z. record { entries = b.entries; store = z; control = control [] b.entries }) h.store
 
 -- It is over where as many entries stand as may.
-pub over_is : (b : Book) → over (setting b) (front b) ≡ (thread_entries b.entries == b.limit)
+pub over_is : (b : Book) → run_is_over (setting b) (front b) ≡ (thread_entries b.entries == b.limit)
 over_is b = ap (λ z. z || (thread_entries b.entries == b.limit)) (never_stopped b.entries)
 
 pub not_yes : (c : Bool) → (c ≡ true → ⊥) → c ≡ false

@@ -15,7 +15,7 @@ use Rattle.loom_law.proofs.Turns.{eq_same, replay_most}
 use Rattle.loom_world.specs.Book.{Book, setting, HasLawfulJournal}
 use Rattle.loom_world.specs.Laws.{HasFewEntries}
 use Rattle.loom_world.proofs.States.{few_threads}
-use Rattle.loom_world.proofs.Appended.{count_last}
+use Rattle.loom_world.proofs.LongerBook.{count_last}
 
 -- Entries
 

@@ -14,7 +14,7 @@ use Rattle.loom_event.specs.Replay.{ThreadState, Store, start, thread_at, after_
 use Rattle.loom_law.specs.Walk.{Version, tick, blocked}
 use Rattle.loom_law.specs.ThreadPart.{Own, AsksToMake, AsksToAct}
 use Rattle.loom_law.specs.Control.{Control, control, versions_of, entries_of}
-use Rattle.loom_law.specs.Lawful.{Setting, Front, front_of, plans, own, over, HasPart, IsDisabledFor, IsLawful}
+use Rattle.loom_law.specs.Lawful.{Setting, Front, front_of, plans, own, run_is_over, HasPart, IsDisabledFor, IsLawful}
 use Rattle.loom_law.specs.Laws.{IsUnfinished, with_newest}
 use Rattle.loom_event.specs.Answer.{IsAnswered}
 use Rattle.loom_law.proofs.Earlier.{by_test, same_number, replay_append, entry_thread}
@@ -23,13 +23,13 @@ use Rattle.loom_law.proofs.Longer.{mine, not_mine, not_taken, newest_taken}
 use Rattle.loom_law.proofs.NoCommands.{nothing_controlled, answer_without, tick_without, blocked_without, thread_unfinished}
 use Rattle.loom_strand.specs.PlainWalk.{first_version}
 use Rattle.loom_strand.specs.Life.{has_none, is_end, has_ended, versions_with}
-use Rattle.loom_world.specs.Book.{Book, plain}
+use Rattle.loom_world.specs.Book.{Book, plain_setting}
 use Rattle.loom_world.specs.BookInvariant.{IsAsFar}
 use Rattle.loom_world.proofs.States.{IsOther, IsBehind, begun_by, ended_by, other_state, own_state, most_threads, few_threads}
 
 -- The journal goes on, and its events leave this store.
 pub record IsGoing (p : Source) (limit : ℕ) (es : List Entry) (st : Store) : Type 0 where
-  pub lawful : IsLawful (plain p limit) es
+  pub lawful : IsLawful (plain_setting p limit) es
   pub store : replay (start p thread_limit) lawful.events ≡ st
   pub goes_on : IsUnfinished es
   pub far : (t : ℕ) (x : ThreadState) → thread_at st t ≡ Some x → IsAsFar (entries_of t es) x
@@ -58,7 +58,7 @@ nothing_made s es u (Some x) h is = cc
 
 not_there : {p : Source} {limit : ℕ} {es : List Entry} {st : Store} → IsGoing p limit es st → (u : ℕ) → thread_at st u ≡ None → entries_of u es ≡ []
 not_there {p} {limit} {es} {st} g u none =
-    nothing_made (plain p limit) es u _ (g.lawful.parts u) (ap (λ z. thread_at z u) g.store ∙ none)
+    nothing_made (plain_setting p limit) es u _ (g.lawful.parts u) (ap (λ z. thread_at z u) g.store ∙ none)
 
 -- How far threads are
 
@@ -110,7 +110,7 @@ versions_more {p} {limit} {es} {st} g t x of says u =
     by_test (t == u) (versions_of [] u (es ++ x ∷ []) ≡ versions_with (entries_of u (es ++ x ∷ [])))
     (λ same.
     let its : is_thread u (thread_of x) ≡ true = ap (is_thread u) of ∙ same in
-    let first : Control.version (control [] es) ≡ first_version = ap (λ (c : Control). c.version) (nothing_controlled (plain p limit) es g.lawful refl) in
+    let first : Control.version (control [] es) ≡ first_version = ap (λ (c : Control). c.version) (nothing_controlled (plain_setting p limit) es g.lawful refl) in
     let says_u : TakesAsSaid (entries_of u es) x = subst (λ z. TakesAsSaid (entries_of z es) x) (same_number t u same) says in
     newest_taken [] u x es its ∙ (versions_own (entries_of u es) x _ _ first (g.versions u) says_u ∙ sym (ap versions_with (mine u x es its))))
     (λ other.
@@ -119,7 +119,7 @@ versions_more {p} {limit} {es} {st} g t x of says u =
 
 -- What a thread asks for is said of its own part of the journal.
 own_is : {p : Source} {limit : ℕ} {es : List Entry} {st : Store} → IsGoing p limit es st → (t : ℕ) (z : ThreadState)
-    → record { thread = t; func = z.func; args = z.args; versions = versions_with (entries_of t es); entries = entries_of t es } ≡ own (plain p limit) es t z
+    → record { thread = t; func = z.func; args = z.args; versions = versions_with (entries_of t es); entries = entries_of t es } ≡ own (plain_setting p limit) es t z
 own_is {p} {limit} {es} {st} g t z = ap (λ vs. record { thread = t; func = z.func; args = z.args; versions = vs; entries = entries_of t es }) (sym (g.versions t))
 
 -- With an event
@@ -170,13 +170,13 @@ by_act st t l (spawn c f us) ys z there far lives h = let b = is_begun st t z th
 by_act st t l (join c) ys z there far lives h = let b = is_begun st t z there h.0 in with_later t l (join c) ys z far b b lives (λ v vs. refl)
 by_act st t l (print v) ys z there far lives h = let b = is_begun st t z there h.0 in with_later t l (print v) ys z far b b lives (λ v vs. refl)
 
-pub event_goes : {p : Source} {limit : ℕ} {es : List Entry} {st : Store} → (g : IsGoing p limit es st) → over (plain p limit) (front_of (plain p limit) es g.lawful.events) ≡ false
+pub event_goes : {p : Source} {limit : ℕ} {es : List Entry} {st : Store} → (g : IsGoing p limit es st) → run_is_over (plain_setting p limit) (front_of (plain_setting p limit) es g.lawful.events) ≡ false
     → (t : ℕ) (z : ThreadState) → thread_at st t ≡ Some z → z.ended ≡ false
-    → (q : Request) (d : Deed) → AsksToAct p (plans (plain p limit)) (record { thread = t; func = z.func; args = z.args; versions = versions_with (entries_of t es); entries = entries_of t es }) q
+    → (q : Request) (d : Deed) → AsksToAct p (plans (plain_setting p limit)) (record { thread = t; func = z.func; args = z.args; versions = versions_with (entries_of t es); entries = entries_of t es }) q
     → IsAnswered q d → IsAllowed st (event_of_deed t d)
     → IsGoing p limit (es ++ entry_by t d.line d.act ∷ []) (after_event st (event_of_deed t d))
 event_goes {p} {limit} {es} {st} g runs t z there lives q d asks answer allowed =
-    let s : Setting = plain p limit in
+    let s : Setting = plain_setting p limit in
     let x : Entry = entry_by t d.line d.act in
     let y : Event = event_of_deed t d in
     let of : thread_of x ≡ Some t = entry_thread t d.line d.act in
@@ -200,7 +200,7 @@ event_goes {p} {limit} {es} {st} g runs t z there lives q d asks answer allowed 
 
 operation_goes : {p : Source} {limit : ℕ} {es : List Entry} {st : Store} → (g : IsGoing p limit es st) → (t : ℕ) (z : ThreadState) → thread_at st t ≡ Some z → z.ended ≡ false
     → has_none (entries_of t es) ≡ false → (x : Entry) → thread_of x ≡ Some t → is_end x ≡ false → ((v : Version) (vs : List Version) → with_newest x v vs ≡ vs)
-    → (more : (h' : IsLawful (plain p limit) (es ++ x ∷ [])) × (h'.events ≡ g.lawful.events)) → IsGoing p limit (es ++ x ∷ []) st
+    → (more : (h' : IsLawful (plain_setting p limit) (es ++ x ∷ [])) × (h'.events ≡ g.lawful.events)) → IsGoing p limit (es ++ x ∷ []) st
 operation_goes {p} {limit} {es} {st} g t z there lives some x of no_end takes more =
     let begun : z.begun ≡ true = IsAsFar.begun (g.far t z there) ∙ ap not some in
     let self : (u : ThreadState) → thread_at st t ≡ Some u → (u.begun ≡ true) × (u.ended ≡ is_end x) =
@@ -215,23 +215,23 @@ operation_goes {p} {limit} {es} {st} g t z there lives some x of no_end takes mo
       few = g.few;
     }
 
-pub tick_goes : {p : Source} {limit : ℕ} {es : List Entry} {st : Store} → (g : IsGoing p limit es st) → over (plain p limit) (front_of (plain p limit) es g.lawful.events) ≡ false
+pub tick_goes : {p : Source} {limit : ℕ} {es : List Entry} {st : Store} → (g : IsGoing p limit es st) → run_is_over (plain_setting p limit) (front_of (plain_setting p limit) es g.lawful.events) ≡ false
     → (t : ℕ) (z : ThreadState) → thread_at st t ≡ Some z → z.ended ≡ false → has_none (entries_of t es) ≡ false
-    → (l k : ℕ) → AsksToMake p (plans (plain p limit)) (record { thread = t; func = z.func; args = z.args; versions = versions_with (entries_of t es); entries = entries_of t es }) l (tick k)
+    → (l k : ℕ) → AsksToMake p (plans (plain_setting p limit)) (record { thread = t; func = z.func; args = z.args; versions = versions_with (entries_of t es); entries = entries_of t es }) l (tick k)
     → IsGoing p limit (es ++ e.Tick t l k ∷ []) st
 tick_goes {p} {limit} {es} {st} g runs t z there lives some l k asks =
-    let s : Setting = plain p limit in
+    let s : Setting = plain_setting p limit in
     let theirs = subst (λ (w : Own). AsksToMake p (plans s) w l (tick k)) (own_is g t z) asks in
     let there_so : thread_at (replay (start p thread_limit) g.lawful.events) t ≡ Some z = ap (λ w. thread_at w t) g.store ∙ there in
     operation_goes g t z there lives some (e.Tick t l k) refl refl (λ v vs. refl) (tick_without s es g.lawful refl g.goes_on runs t z there_so l k theirs)
 
-pub blocked_goes : {p : Source} {limit : ℕ} {es : List Entry} {st : Store} → (g : IsGoing p limit es st) → over (plain p limit) (front_of (plain p limit) es g.lawful.events) ≡ false
+pub blocked_goes : {p : Source} {limit : ℕ} {es : List Entry} {st : Store} → (g : IsGoing p limit es st) → run_is_over (plain_setting p limit) (front_of (plain_setting p limit) es g.lawful.events) ≡ false
     → (t : ℕ) (z : ThreadState) → thread_at st t ≡ Some z → z.ended ≡ false → has_none (entries_of t es) ≡ false
-    → (l : ℕ) (what : What) → AsksToMake p (plans (plain p limit)) (record { thread = t; func = z.func; args = z.args; versions = versions_with (entries_of t es); entries = entries_of t es }) l (blocked what)
-    → IsDisabledFor (plain p limit) (front_of (plain p limit) es g.lawful.events) t what
+    → (l : ℕ) (what : What) → AsksToMake p (plans (plain_setting p limit)) (record { thread = t; func = z.func; args = z.args; versions = versions_with (entries_of t es); entries = entries_of t es }) l (blocked what)
+    → IsDisabledFor (plain_setting p limit) (front_of (plain_setting p limit) es g.lawful.events) t what
     → IsGoing p limit (es ++ e.Blocked t l what ∷ []) st
 blocked_goes {p} {limit} {es} {st} g runs t z there lives some l what asks disabled =
-    let s : Setting = plain p limit in
+    let s : Setting = plain_setting p limit in
     let theirs = subst (λ (w : Own). AsksToMake p (plans s) w l (blocked what)) (own_is g t z) asks in
     let there_so : thread_at (replay (start p thread_limit) g.lawful.events) t ≡ Some z = ap (λ w. thread_at w t) g.store ∙ there in
     operation_goes g t z there lives some (e.Blocked t l what) refl refl (λ v vs. refl) (blocked_without s es g.lawful refl g.goes_on runs t z there_so l what theirs disabled)

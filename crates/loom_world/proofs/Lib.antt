@@ -1,10 +1,10 @@
 pub mod States
 mod Going
-mod Answered
+mod LongerJournal
 mod Notes
 pub mod Ends
-mod Kept
-mod Appended
-mod Finished
+mod InvariantReadings
+mod LongerBook
+mod FirstAndLast
 mod Strands
 pub mod FewEntries

@@ -11,13 +11,13 @@ use Rattle.loom_trace.specs.declared.entry.What.{What}
 use Rattle.loom_trace.specs.declared.request.Request.{Request}
 use Rattle.loom_trace.specs.declared.request.Request.TheVariants as r
 use Rattle.loom_event.specs.Event.{entry_by}
-use Rattle.loom_event.specs.Answer.{trapped, IsEntryOf}
+use Rattle.loom_event.specs.Answer.{trap_deed, IsEntryOf}
 use Rattle.loom_event.specs.Entries.{thread_of, is_thread, last_of_thread}
 use Rattle.loom_trace.specs.Limits.{thread_limit}
 use Rattle.loom_event.specs.Replay.{Store}
 use Rattle.loom_store.specs.declared.answer.Answer.{Answer}
 use Rattle.loom_store.specs.declared.answer.Answer.TheVariants as a
-use Rattle.loom_store.specs.Answer.{CanWait, done}
+use Rattle.loom_store.specs.Answer.{CanWait, given_deed}
 use Rattle.loom_law.proofs.Earlier.{by_test, same_number}
 use Rattle.loom_world.specs.Book.{Book}
 use Rattle.loom_world.specs.BookInvariant.{wait_in, wait_of, HasWaits}
@@ -68,25 +68,25 @@ wait_of_deed t None x h = absurd h
 wait_of_deed t (Some d) x h = ap (λ z. wait_in (Some z)) h ∙ wait_of_act t d.line d.act
 
 wait_of_grant : (t : ℕ) (q : Request) (v : ℤ) (x : Entry) → IsGrantWith t q v x → wait_in (Some x) ≡ None
-wait_of_grant t (r.Begin l) v x h = wait_of_deed t (done (r.Begin l) v) x h
-wait_of_grant t (r.End l) v x h = wait_of_deed t (done (r.End l) v) x h
-wait_of_grant t (r.Trap l n) v x h = wait_of_deed t (done (r.Trap l n) v) x h
-wait_of_grant t (r.Read l w) v x h = wait_of_deed t (done (r.Read l w) v) x h
-wait_of_grant t (r.Write l w u) v x h = wait_of_deed t (done (r.Write l w u) v) x h
-wait_of_grant t (r.Lock l m) v x h = wait_of_deed t (done (r.Lock l m) v) x h
-wait_of_grant t (r.Unlock l m) v x h = wait_of_deed t (done (r.Unlock l m) v) x h
-wait_of_grant t (r.Down l k) v x h = wait_of_deed t (done (r.Down l k) v) x h
-wait_of_grant t (r.Up l k) v x h = wait_of_deed t (done (r.Up l k) v) x h
-wait_of_grant t (r.Spawn l f us) v x h = wait_of_deed t (done (r.Spawn l f us) v) x h
-wait_of_grant t (r.Join l u) v x h = wait_of_deed t (done (r.Join l u) v) x h
-wait_of_grant t (r.Print l u) v x h = wait_of_deed t (done (r.Print l u) v) x h
+wait_of_grant t (r.Begin l) v x h = wait_of_deed t (given_deed (r.Begin l) v) x h
+wait_of_grant t (r.End l) v x h = wait_of_deed t (given_deed (r.End l) v) x h
+wait_of_grant t (r.Trap l n) v x h = wait_of_deed t (given_deed (r.Trap l n) v) x h
+wait_of_grant t (r.Read l w) v x h = wait_of_deed t (given_deed (r.Read l w) v) x h
+wait_of_grant t (r.Write l w u) v x h = wait_of_deed t (given_deed (r.Write l w u) v) x h
+wait_of_grant t (r.Lock l m) v x h = wait_of_deed t (given_deed (r.Lock l m) v) x h
+wait_of_grant t (r.Unlock l m) v x h = wait_of_deed t (given_deed (r.Unlock l m) v) x h
+wait_of_grant t (r.Down l k) v x h = wait_of_deed t (given_deed (r.Down l k) v) x h
+wait_of_grant t (r.Up l k) v x h = wait_of_deed t (given_deed (r.Up l k) v) x h
+wait_of_grant t (r.Spawn l f us) v x h = wait_of_deed t (given_deed (r.Spawn l f us) v) x h
+wait_of_grant t (r.Join l u) v x h = wait_of_deed t (given_deed (r.Join l u) v) x h
+wait_of_grant t (r.Print l u) v x h = wait_of_deed t (given_deed (r.Print l u) v) x h
 wait_of_grant t (r.Tick l k) v x h = ap (λ z. wait_in (Some z)) h
 
 -- The entry says what the answer says.
 pub wait_of_entry : (t : ℕ) (q : Request) (y : Answer) (x : Entry) → IsEntryFor t q y x → wait_in (Some x) ≡ wait_of y
 wait_of_entry t q (a.Granted v) x h = wait_of_grant t q v x h
 wait_of_entry t q (a.Disabled what) x h = ap (λ z. wait_in (Some z)) h
-wait_of_entry t q (a.Trapped n) x h = wait_of_deed t (trapped q) x h
+wait_of_entry t q (a.Trapped n) x h = wait_of_deed t (trap_deed q) x h
 
 -- what a thread is blocked at by its last entry
 pub record IsBlockedEntry (o : Option Entry) (what : What) : Type 0 where

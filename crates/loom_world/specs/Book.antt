@@ -12,8 +12,8 @@ abbrev pub never : List Entry → Bool
 never es = false
 
 -- A run of the program without commands, with as many threads as there may be at most, which make at most `limit` entries.
-abbrev pub plain : Source → ℕ → Setting
-plain p limit = record { program = p; commands = []; limit = limit; threads = thread_limit; stop = never }
+abbrev pub plain_setting : Source → ℕ → Setting
+plain_setting p limit = record { program = p; commands = []; limit = limit; threads = thread_limit; stop = never }
 
 pub record Book : Type 0 where
   pub program : Source
@@ -22,7 +22,7 @@ pub record Book : Type 0 where
   pub store : Store
 
 abbrev pub setting : Book → Setting
-setting b = plain b.program b.limit
+setting b = plain_setting b.program b.limit
 
 -- the end of its journal
 abbrev pub front : Book → Front

@@ -20,7 +20,7 @@ use Rattle.loom_world.specs.Idle.{HasFinish}
 -- What a book keeps beside its journal and its store.
 pub record Notes : Type 0 where
   -- how many entries threads made
-  pub made : ℕ
+  pub entry_count : ℕ
   pub finished : Bool
   -- how many more entries the journal has room for
   pub room : ℕ
@@ -52,9 +52,9 @@ pub record BookInvariant (b : Book) (n : Notes) : Type 0 where
   pub journal : HasLawfulJournal b
   pub least : 1 ≤ b.limit
   pub most : b.limit ≤ entry_limit
-  pub made : n.made ≡ thread_entries b.entries
-  pub few : n.made ≤ b.limit
-  pub end : IsAtEnd b n.finished (n.made + n.room)
+  pub entry_count : n.entry_count ≡ thread_entries b.entries
+  pub few : n.entry_count ≤ b.limit
+  pub end : IsAtEnd b n.finished (n.entry_count + n.room)
   pub far : (t : ℕ) (x : ThreadState) → thread_at b.store t ≡ Some x → IsAsFar (entries_of t b.entries) x
   -- each thread has a function of the program, with as many arguments as parameters
   pub functions : (t : ℕ) (x : ThreadState) → thread_at b.store t ≡ Some x → IsFunctionWith b.program x.func x.args

@@ -4,12 +4,12 @@ use Rattle.loom_trace.specs.declared.entry.Entry.{Entry}
 use Rattle.loom_trace.specs.declared.entry.Entry.TheVariants as e
 use Rattle.loom_trace.specs.declared.request.Request.{Request}
 use Rattle.loom_trace.specs.declared.request.Request.TheVariants as r
-use Rattle.loom_event.specs.Answer.{trapped, IsEntryOf}
+use Rattle.loom_event.specs.Answer.{trap_deed, IsEntryOf}
 use Rattle.loom_trace.specs.Limits.{thread_limit}
 use Rattle.loom_event.specs.Replay.{Store}
 use Rattle.loom_store.specs.declared.answer.Answer.{Answer}
 use Rattle.loom_store.specs.declared.answer.Answer.TheVariants as a
-use Rattle.loom_store.specs.Answer.{CanAnswer, Answers, done}
+use Rattle.loom_store.specs.Answer.{CanAnswer, Answers, given_deed}
 
 abbrev pub line_in : Request → ℕ
 line_in (r.Begin l) = l
@@ -40,7 +40,7 @@ CanBeGranted q v = Unit {0}
 -- the entry of a request of thread t that is granted with this value
 abbrev pub IsGrantWith : ℕ → Request → ℤ → Entry → Type 0
 IsGrantWith t (r.Tick l k) v x = x ≡ e.Tick t l k
-IsGrantWith t q v x = IsEntryOf t (done q v) x
+IsGrantWith t q v x = IsEntryOf t (given_deed q v) x
 
 -- Some store, of no more threads than any may have, answers the request so.
 pub record IsAnswerable (t : ℕ) (q : Request) (y : Answer) : Type 0 where
@@ -55,4 +55,4 @@ pub record IsAnswerable (t : ℕ) (q : Request) (y : Answer) : Type 0 where
 abbrev pub IsEntryFor : ℕ → Request → Answer → Entry → Type 0
 IsEntryFor t q (a.Granted v) x = IsGrantWith t q v x
 IsEntryFor t q (a.Disabled what) x = x ≡ e.Blocked t (line_in q) what
-IsEntryFor t q (a.Trapped n) x = IsEntryOf t (trapped q) x
+IsEntryFor t q (a.Trapped n) x = IsEntryOf t (trap_deed q) x

@@ -6,7 +6,7 @@ use Rattle.loom_event.specs.Answer.{IsFunctionWith}
 use Rattle.loom_event.specs.Entries.{thread_of, IsFinished}
 use Rattle.loom_event.specs.Replay.{thread_at, HasEnded}
 use Rattle.loom_law.specs.Control.{entries_of}
-use Rattle.loom_law.specs.Lawful.{over, Lives, IsBlocked, MayControl}
+use Rattle.loom_law.specs.Lawful.{run_is_over, Lives, IsBlocked, MayControl}
 use Rattle.loom_strand.specs.declared.stage.Birth.{Birth}
 use Rattle.loom_strand.specs.Life.{has_ended}
 use Rattle.loom_world.specs.declared.choice.Choice.{Choice}
@@ -21,7 +21,7 @@ HasFinish b = (kind : Ending) × IsFinished b.entries kind
 
 -- No thread makes an entry any more: there are as many as there may be, or the journal is finished.
 abbrev pub IsClosed : Book → Type 0
-IsClosed b = (over (setting b) (front b) ≡ true) ⊎ HasFinish b
+IsClosed b = (run_is_over (setting b) (front b) ≡ true) ⊎ HasFinish b
 
 -- Why thread t makes no entry now: the first of these that applies.
 abbrev pub IsIdleThread : Book → ℕ → Why → Type 0

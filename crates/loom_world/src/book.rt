@@ -38,7 +38,7 @@ pub(crate) struct Book {
     journal: Journal,
     store: Store,
     // how many entries threads made
-    made: u32,
+    entry_count: u32,
     finished: bool,
     // for each thread what its last entry is blocked at
     waits: Vec<Option<What>>,
@@ -59,7 +59,7 @@ impl Model for Book {
 
     ghost invariant = { λ b. BookInvariant
         (record { program = arc_value b.program; limit = b.limit; entries = b.journal.entries; store = b.store })
-        (record { made = b.made; finished = b.finished; room = b.journal.room; waits = b.waits.items }) };
+        (record { entry_count = b.entry_count; finished = b.finished; room = b.journal.room; waits = b.waits.items }) };
 }
 
 // What a thread waits for that is answered so.
@@ -103,7 +103,7 @@ impl Book {
             limit,
             journal,
             store,
-            made: 0,
+            entry_count: 0,
             finished: false,
             waits,
         })
@@ -130,7 +130,7 @@ impl Book {
         ensures closed { result ≡ true → IsClosed self.now }
         ensures open { result ≡ false → IsClosed self.now → ⊥ }
     {
-        self.finished || self.made == self.limit
+        self.finished || self.entry_count == self.limit
     }
 
     // Whether thread `t` is blocked by what it waits for.
@@ -191,7 +191,7 @@ impl Book {
         let entry = entry_for(t, request, answer);
         self.journal.push(entry.copy());
         self.waits[t as usize - 1] = wait_of(answer);
-        self.made += 1;
+        self.entry_count += 1;
         Ok(entry)
     }
 
@@ -243,7 +243,7 @@ impl Book {
         ensures some { IfSome result (λ k. Ends (setting self.now) (front self.now) k) }
         ensures none { IfNone result ((k : Kind) → Ends (setting self.now) (front self.now) k → ⊥) }
     {
-        if self.made == self.limit {
+        if self.entry_count == self.limit {
             Some(Ending::Limit)
         } else if self.have_ended() {
             Some(Ending::Done)

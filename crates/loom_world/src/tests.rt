@@ -22,7 +22,7 @@ fn world_of(alloc: Global, text: &str, limit: u32) -> Result<World, LangError>
 {
     let bytes = text.as_bytes();
     if bytes.len() > FILE_LIMIT {
-        return Err(LangError::Refused);
+        return Err(LangError::NoMemory);
     }
     Ok(World::make(alloc, &parse_program(alloc, bytes)?, limit)?)
 }

@@ -69,7 +69,7 @@ fn commit(book: &mut Book, flow: &Flow, strand: &mut Strand, t: u8, request: Req
     requires program { flow.now.program ≡ book.old.program }
     requires strand { IsStrandOf book.old t strand.old }
     requires asks { Asks book.old t request }
-    requires wanted { strand.old.wanted ≡ Some request }
+    requires want { strand.old.want ≡ Some request }
     ensures run { IsOfSameRun book.old book.new }
     ensures turns { Turns book.old (choice.Thread t) book.new result }
     ensures strand { IsStrandOf book.new t strand.new }

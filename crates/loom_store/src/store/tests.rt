@@ -21,7 +21,7 @@ fn first_store(alloc: Global, threads: u8) -> Result<Store, LangError>
 {
     let bytes = PROGRAM.as_bytes();
     if bytes.len() > 65536 {
-        return Err(LangError::Refused);
+        return Err(LangError::NoMemory);
     }
     let program = parse_program(alloc, bytes)?;
     Ok(Store::make(alloc, &program, threads)?)

@@ -4,7 +4,7 @@ use Rattle.loom_tree.specs.Tree.{end, body_of, behind, expression_of}
 use Rattle.loom_flow.specs.declared.expression.Spot.{Spot}
 use Rattle.loom_flow.specs.declared.code.Step.TheVariants as s
 use Rattle.loom_flow.specs.declared.code.Control.TheVariants.{Edge}
-use Rattle.loom_flow.specs.FlatCode.{body_code, site, instr, operand_steps}
+use Rattle.loom_flow.specs.FlatCode.{flat_body, site, instr, operand_steps}
 use Rattle.loom_flow.proofs.Bodies.{if_count, while_count, known_then, known_else, known_again, known_first, known_rest, counted_then, counted_else, counted_again, counted_first, counted_rest, count_first, some_first, sites_more, code_step, sites_step, if_sites, while_sites}
 use Rattle.loom_flow.proofs.Jumps.{at_within, pushed, tested_long, aimed_long, if_code, while_code}
 use Rattle.loom_flow.proofs.block.+blocks.Goals as goal
@@ -110,6 +110,6 @@ body-walk-preserved t c =
       counted = counted_rest c.args.scope.now.program c.args.scope.now.locals _ _ _ _ is c.walk.invariant.counted;
       room = omega arith;
       code = code_step c.args.scope.now.program c.args.scope.now.locals c.spot_of-spot.result.line c.deref-in-More-2.result.now.kind _ _ _ _ _ _ is
-          (c.in_ok-statement.ensures.code ∙ ap (λ n. c.walk.code.items ++ body_code c.args.scope.now.program c.args.scope.now.locals (length c.walk.code.items) n (behind c.spot_of-spot.result.line c.deref-in-More-2.result.now.kind end)) place) c.in_ok-statement.ensures.sites ∙ c.walk.invariant.code;
+          (c.in_ok-statement.ensures.code ∙ ap (λ n. c.walk.code.items ++ flat_body c.args.scope.now.program c.args.scope.now.locals (length c.walk.code.items) n (behind c.spot_of-spot.result.line c.deref-in-More-2.result.now.kind end)) place) c.in_ok-statement.ensures.sites ∙ c.walk.invariant.code;
       sites = sites_step c.args.scope.now.program c.args.scope.now.locals c.spot_of-spot.result.line c.spot_of-spot.result.place c.deref-in-More-2.result.now.kind _ _ _ _ _ _ is c.in_ok-statement.ensures.code c.in_ok-statement.ensures.sites ∙ c.walk.invariant.sites;
     }

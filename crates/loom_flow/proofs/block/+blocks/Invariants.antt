@@ -4,7 +4,7 @@ use Rattle.loom_tree.specs.declared.statement.Stmts.{size-Stmts}
 use Rattle.loom_tree.specs.Tree.{body_of}
 use Rattle.loom_lang.specs.Rules.{knows_body}
 use Rattle.loom_flow.specs.Arguments.{takes_body}
-use Rattle.loom_flow.specs.FlatCode.{place_count, body_code, body_sites, site_limit}
+use Rattle.loom_flow.specs.FlatCode.{place_count, flat_body, body_sites, site_limit}
 use Rattle.loom_flow.proofs.block.+blocks.Given as goal
 
 abbrev pub decreases-body : goal.decreases-body
@@ -26,8 +26,8 @@ invariant-body-walk l = record {
   counted : takes_body l.scope.program (body_of l.at) ≡ true;
   room : length l.sites.items + place_count (body_of l.at) ≤ site_limit;
   code :
-      l.code.items ++ body_code l.scope.program l.scope.locals (length l.code.items) (length l.sites.items) (body_of l.at)
-      ≡ l.fn.code.items ++ body_code l.scope.program l.scope.locals (length l.fn.code.items) (length l.fn.sites.items) (body_of l.body);
+      l.code.items ++ flat_body l.scope.program l.scope.locals (length l.code.items) (length l.sites.items) (body_of l.at)
+      ≡ l.fn.code.items ++ flat_body l.scope.program l.scope.locals (length l.fn.code.items) (length l.fn.sites.items) (body_of l.body);
   sites :
       l.sites.items ++ body_sites l.scope.program l.scope.locals (length l.code.items) (body_of l.at)
       ≡ l.fn.sites.items ++ body_sites l.scope.program l.scope.locals (length l.fn.code.items) (body_of l.body);

@@ -1,5 +1,5 @@
 use Rattle.std.proofs.Common.{refl, sym, subst}
-use Rattle.loom_flow.specs.State.{operand, without}
+use Rattle.loom_flow.specs.State.{operand_value, without}
 use Rattle.loom_flow.specs.Question.{write}
 use Rattle.loom_flow.specs.Progress.{asks_act, of_ask}
 use Rattle.loom_trace.specs.declared.request.Request.TheVariants as r
@@ -11,5 +11,5 @@ pub returns-in-WriteCell : goal.returns-in-WriteCell
 returns-in-WriteCell c =
     let z = c.args.machine.now.state in
     subst (λ x. IsAskedBy c.write_cell.result (of_ask z c.args.line x)) (sym c.in-WriteCell.is)
-    (asked_cell c.args.line c.in-WriteCell.array (operand (without z c.in-WriteCell.b) c.in-WriteCell.n) (λ w. r.Write c.args.line w (operand z c.in-WriteCell.b))
-    (λ w. asks_act c.args.line (write w (operand z c.in-WriteCell.b)) (without (without z c.in-WriteCell.b) c.in-WriteCell.n)) c.write_cell.result (λ w. refl) c.write_cell.ensures)
+    (asked_cell c.args.line c.in-WriteCell.array (operand_value (without z c.in-WriteCell.b) c.in-WriteCell.n) (λ w. r.Write c.args.line w (operand_value z c.in-WriteCell.b))
+    (λ w. asks_act c.args.line (write w (operand_value z c.in-WriteCell.b)) (without (without z c.in-WriteCell.b) c.in-WriteCell.n)) c.write_cell.result (λ w. refl) c.write_cell.ensures)

@@ -11,4 +11,4 @@ returns-in-Local c =
     let same : to_z w64 (of_z w64 v) ≡ v = to_z-of_z w64 v (search rules) in
     same ∙ local_read c.self.inside.locals c.in-Local.x
     ∙ ap (λ (m : Machine). state.value_of (slice_get m.state.locals c.in-Local.x)) c.self.view_is
-    ∙ ap (state.operand c.args.self.now.state) (sym c.in-Local.is)
+    ∙ ap (state.operand_value c.args.self.now.state) (sym c.in-Local.is)

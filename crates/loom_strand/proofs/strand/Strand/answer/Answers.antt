@@ -3,11 +3,11 @@ use Rattle.std.specs.Vec.{vec_capacity}
 use Rattle.loom_flow.specs.FlatCode.{lowered}
 use Rattle.loom_strand.specs.Strand.{Strand, IsReply}
 use Rattle.loom_strand.specs.StrandInvariant.{StrandInvariant}
-use Rattle.loom_strand.specs.Reply.{reply_of, still_wanted, CanFollow, Follows}
+use Rattle.loom_strand.specs.Reply.{reply_of, want_behind, CanFollow, Follows}
 use Rattle.loom_strand.specs.declared.reply.Reply.{Reply}
 use Rattle.loom_strand.specs.contracts.strand.Strand.{the_view}
 use Rattle.loom_strand.proofs.PrivateRuns.{flat_is}
-use Rattle.loom_strand.proofs.Again.{blocked_wanted}
+use Rattle.loom_strand.proofs.Again.{blocked_want}
 use Rattle.loom_strand.proofs.AnswerLaws.{HasFollowed, CanFollowAny, after, with_entries, can_answer, answered_kept, answer_started}
 use Rattle.loom_strand.proofs.RequestLaws.{kept_part}
 use Rattle.loom_strand.proofs.strand.Strand.answer.Goals as goal
@@ -18,7 +18,7 @@ unreachable-requires-in_default-reply_of c =
     let s : Strand = the_view c.self.inside in
     let reply : IsReply s c.args.e = subst (λ (z : Strand). IsReply z c.args.e) (sym c.self.view_is) c.requires.answers in
     let none : reply_of c.args.e ≡ None = sym c.reply_of.ensures ∙ c.in_default-reply_of.is in
-    subst (CanFollowAny (lowered s.program) c.self.inside.machine c.in-Some.birth) none (can_answer s c.in-Some.birth s.wanted c.args.e c.self.invariant c.in-Some.is refl reply)
+    subst (CanFollowAny (lowered s.program) c.self.inside.machine c.in-Some.birth) none (can_answer s c.in-Some.birth s.want c.args.e c.self.invariant c.in-Some.is refl reply)
 
 pub follow-stage-requires : goal.follow-stage-requires
 follow-stage-requires c =
@@ -28,7 +28,7 @@ follow-stage-requires c =
     let flat : c.args.flow.now ≡ lowered s.program = flat_is c.args.flow.now s.program c.code.ensures.lowered program in
     let is : reply_of c.args.e ≡ Some c.in-Some-reply_of.answer = sym c.reply_of.ensures ∙ c.in-Some-reply_of.is in
     subst (λ d. CanFollow d c.self.inside.machine c.in-Some.birth c.in-Some-reply_of.answer) (sym flat)
-    (subst (CanFollowAny (lowered s.program) c.self.inside.machine c.in-Some.birth) is (can_answer s c.in-Some.birth s.wanted c.args.e c.self.invariant c.in-Some.is refl reply))
+    (subst (CanFollowAny (lowered s.program) c.self.inside.machine c.in-Some.birth) is (can_answer s c.in-Some.birth s.want c.args.e c.self.invariant c.in-Some.is refl reply))
 
 pub invariant_of-self : goal.invariant_of-self
 invariant_of-self c =
@@ -40,26 +40,26 @@ invariant_of-self c =
     let follows : HasFollowed (lowered s.program) c.self.inside.machine c.follow-stage.new.machine c.in-Some.birth (reply_of c.args.e) c.follow-stage.result.0 c.follow-stage.result.1 =
     subst (λ (y : Option Reply). HasFollowed (lowered s.program) c.self.inside.machine c.follow-stage.new.machine c.in-Some.birth y c.follow-stage.result.0 c.follow-stage.result.1) (sym is)
     (subst (λ d. Follows d c.self.inside.machine c.follow-stage.new.machine c.in-Some.birth c.in-Some-reply_of.answer c.follow-stage.result.0 c.follow-stage.result.1) flat c.follow-stage.ensures) in
-    let wanted : c.still_wanted-self-inside.result ≡ still_wanted (reply_of c.args.e) s.wanted = c.still_wanted-self-inside.ensures ∙ ap (λ y. still_wanted y s.wanted) (sym is) in
-    let kept : StrandInvariant (after s c.args.e (still_wanted (reply_of c.args.e) s.wanted) c.follow-stage.new.machine c.follow-stage.result.0 c.follow-stage.result.1) =
-    answered_kept s c.in-Some.birth s.wanted c.args.e c.follow-stage.new.machine c.follow-stage.result.0 c.follow-stage.result.1 c.self.invariant c.in-Some.is refl reply follows in
-    subst (λ n. StrandInvariant (with_entries s c.push_reserved.new.self.items c.still_wanted-self-inside.result n c.follow-stage.new.machine c.follow-stage.result.0 c.follow-stage.result.1)) (sym c.push_reserved.ensures.capacity)
-    (subst (λ es. StrandInvariant (with_entries s es c.still_wanted-self-inside.result s.limit c.follow-stage.new.machine c.follow-stage.result.0 c.follow-stage.result.1)) (sym c.push_reserved.ensures.items)
-    (subst (λ o. StrandInvariant (after s c.args.e o c.follow-stage.new.machine c.follow-stage.result.0 c.follow-stage.result.1)) (sym wanted) kept))
+    let want : c.want_behind-self-inside.result ≡ want_behind (reply_of c.args.e) s.want = c.want_behind-self-inside.ensures ∙ ap (λ y. want_behind y s.want) (sym is) in
+    let kept : StrandInvariant (after s c.args.e (want_behind (reply_of c.args.e) s.want) c.follow-stage.new.machine c.follow-stage.result.0 c.follow-stage.result.1) =
+    answered_kept s c.in-Some.birth s.want c.args.e c.follow-stage.new.machine c.follow-stage.result.0 c.follow-stage.result.1 c.self.invariant c.in-Some.is refl reply follows in
+    subst (λ n. StrandInvariant (with_entries s c.push_reserved.new.self.items c.want_behind-self-inside.result n c.follow-stage.new.machine c.follow-stage.result.0 c.follow-stage.result.1)) (sym c.push_reserved.ensures.capacity)
+    (subst (λ es. StrandInvariant (with_entries s es c.want_behind-self-inside.result s.limit c.follow-stage.new.machine c.follow-stage.result.0 c.follow-stage.result.1)) (sym c.push_reserved.ensures.items)
+    (subst (λ o. StrandInvariant (after s c.args.e o c.follow-stage.new.machine c.follow-stage.result.0 c.follow-stage.result.1)) (sym want) kept))
 
 pub returns-clause-part : goal.returns-clause-part
 returns-clause-part c =
     let s : Strand = the_view c.self.inside in
     let reply : IsReply s c.args.e = subst (λ (z : Strand). IsReply z c.args.e) (sym c.self.view_is) c.requires.answers in
-    kept_part (with_entries s c.push_reserved.new.self.items c.still_wanted-self-inside.result (vec_capacity c.push_reserved.new.self) c.follow-stage.new.machine c.follow-stage.result.0 c.follow-stage.result.1) s.birth
+    kept_part (with_entries s c.push_reserved.new.self.items c.want_behind-self-inside.result (vec_capacity c.push_reserved.new.self) c.follow-stage.new.machine c.follow-stage.result.0 c.follow-stage.result.1) s.birth
     (invariant_of-self c) refl
-    (answer_started s s.birth s.wanted c.args.e c.self.invariant refl refl reply)
+    (answer_started s s.birth s.want c.args.e c.self.invariant refl refl reply)
 
 pub returns-clause-waits : goal.returns-clause-waits
 returns-clause-waits c told =
     let s : Strand = the_view c.self.inside in
-    let same : still_wanted (reply_of c.args.e) s.wanted ≡ s.wanted = blocked_wanted c.args.e s.wanted told in
+    let same : want_behind (reply_of c.args.e) s.want ≡ s.want = blocked_want c.args.e s.want told in
     let is : reply_of c.args.e ≡ Some c.in-Some-reply_of.answer = sym c.reply_of.ensures ∙ c.in-Some-reply_of.is in
-    let wanted : c.still_wanted-self-inside.result ≡ s.wanted = c.still_wanted-self-inside.ensures ∙ (ap (λ y. still_wanted y s.wanted) (sym is) ∙ same) in
-    let P : Strand → Type 0 = λ z. c.still_wanted-self-inside.result ≡ z.wanted in
-    subst P c.self.view_is wanted
+    let want : c.want_behind-self-inside.result ≡ s.want = c.want_behind-self-inside.ensures ∙ (ap (λ y. want_behind y s.want) (sym is) ∙ same) in
+    let P : Strand → Type 0 = λ z. c.want_behind-self-inside.result ≡ z.want in
+    subst P c.self.view_is want

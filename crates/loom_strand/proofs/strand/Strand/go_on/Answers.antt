@@ -21,7 +21,7 @@ invariant_of-self c =
       kept = c.self.invariant;
       birth = c.in-Some.is;
       stage = c.in-Waits.is;
-      wanted = nothing_wanted s.wanted (sym c.is_some.ensures ∙ c.if-is_some.false);
+      want = nothing_wanted s.want (sym c.is_some.ensures ∙ c.if-is_some.false);
     } in
     resumed_begins c.args.flow.now s c.in-Some.birth c.line_of-line.result free c.line_of-line.ensures.line
 
@@ -41,7 +41,7 @@ run-requires-clause-sound c =
       kept = c.self.invariant;
       birth = c.in-Some.is;
       stage = c.in-Runs.is;
-      wanted = nothing_wanted s.wanted (sym c.is_some.ensures ∙ c.if-is_some.false);
+      want = nothing_wanted s.want (sym c.is_some.ensures ∙ c.if-is_some.false);
     } in
     free_sound c.args.flow.now s c.in-Some.birth free
 
@@ -55,7 +55,7 @@ run-requires-clause-room c =
       kept = c.self.invariant;
       birth = c.in-Some.is;
       stage = c.in-Runs.is;
-      wanted = nothing_wanted s.wanted (sym c.is_some.ensures ∙ c.if-is_some.false);
+      want = nothing_wanted s.want (sym c.is_some.ensures ∙ c.if-is_some.false);
     } in
     free_room c.args.flow.now s c.in-Some.birth free
 
@@ -69,7 +69,7 @@ run-requires-clause-few c =
       kept = c.self.invariant;
       birth = c.in-Some.is;
       stage = c.in-Runs.is;
-      wanted = nothing_wanted s.wanted (sym c.is_some.ensures ∙ c.if-is_some.false);
+      want = nothing_wanted s.want (sym c.is_some.ensures ∙ c.if-is_some.false);
     } in
     free_few c.args.flow.now s c.in-Some.birth free
 
@@ -83,7 +83,7 @@ invariant_of-self-in-Asks c =
       kept = c.self.invariant;
       birth = c.in-Some.is;
       stage = c.in-Runs.is;
-      wanted = nothing_wanted s.wanted (sym c.is_some.ensures ∙ c.if-is_some.false);
+      want = nothing_wanted s.want (sym c.is_some.ensures ∙ c.if-is_some.false);
     } in
     resumed_asks c.args.flow.now s c.in-Some.birth c.in-Asks.request c.run.new.machine c.run.new.passed free c.in-Asks.ensures
 
@@ -97,7 +97,7 @@ invariant_of-self-in-Ticks c =
       kept = c.self.invariant;
       birth = c.in-Some.is;
       stage = c.in-Runs.is;
-      wanted = nothing_wanted s.wanted (sym c.is_some.ensures ∙ c.if-is_some.false);
+      want = nothing_wanted s.want (sym c.is_some.ensures ∙ c.if-is_some.false);
     } in
     resumed_ticks c.args.flow.now s c.in-Some.birth c.run.new.machine c.run.new.passed c.in-Ticks.line c.in-Ticks.place free c.in-Ticks.ensures
 
@@ -111,6 +111,6 @@ invariant_of-self-in-Ends c =
       kept = c.self.invariant;
       birth = c.in-Some.is;
       stage = c.in-Runs.is;
-      wanted = nothing_wanted s.wanted (sym c.is_some.ensures ∙ c.if-is_some.false);
+      want = nothing_wanted s.want (sym c.is_some.ensures ∙ c.if-is_some.false);
     } in
     resumed_ends c.args.flow.now s c.in-Some.birth c.run.new.machine c.run.new.passed c.line_of-line-in-Runs.result free c.in-Ends.ensures c.line_of-line-in-Runs.ensures.line

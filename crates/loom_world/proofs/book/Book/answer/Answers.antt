@@ -10,7 +10,7 @@ use Rattle.loom_world.specs.Asking.{Asks, MakesAnswer}
 use Rattle.loom_world.specs.contracts.book.Book.{the_view}
 use Rattle.loom_world.specs.BookInvariant.{BookInvariant}
 use Rattle.loom_world.proofs.States.{most_threads}
-use Rattle.loom_world.proofs.Appended.{kept_more, answered_so}
+use Rattle.loom_world.proofs.LongerBook.{kept_more, answered_so}
 use Rattle.loom_world.proofs.book.Book.answer.Goals as goal
 
 pub ask-answer-requires-clause-numbers : goal.ask-answer-requires-clause-numbers

@@ -2,7 +2,7 @@ use Rattle.std.proofs.Common.{◌≡◌, Some, subst}
 use Rattle.loom_event.specs.Replay.{ThreadState, thread_at}
 use Rattle.loom_store.specs.Threads.{state_of}
 use Rattle.loom_world.specs.Book.{Book}
-use Rattle.loom_world.proofs.Kept.{not_true}
+use Rattle.loom_world.proofs.InvariantReadings.{not_true}
 use Rattle.loom_world.proofs.book.Book.can_go_on.Goals as goal
 
 pub returns-then-not-thread-clause-yes : goal.returns-then-not-thread-clause-yes

@@ -6,7 +6,7 @@ use Rattle.loom_world.specs.Idle.{IsIdleControl}
 use Rattle.loom_world.specs.contracts.book.Book.{the_view}
 use Rattle.loom_world.specs.BookInvariant.{BookInvariant}
 use Rattle.loom_world.proofs.Ends.{no_control}
-use Rattle.loom_world.proofs.Finished.{finished_kept, not_idle}
+use Rattle.loom_world.proofs.FirstAndLast.{finished_kept, not_idle}
 use Rattle.loom_world.proofs.book.Book.control.Goals as goal
 
 pub invariant_of-self : goal.invariant_of-self

@@ -3,7 +3,7 @@ use Rattle.loom_trace.specs.Limits.{thread_limit}
 use Rattle.loom_event.specs.Replay.{ThreadState, thread_at}
 use Rattle.loom_store.specs.Threads.{state_of}
 use Rattle.loom_world.specs.Book.{Book}
-use Rattle.loom_world.proofs.Kept.{not_false, ended_more, all_ended}
+use Rattle.loom_world.proofs.InvariantReadings.{not_false, ended_more, all_ended}
 use Rattle.loom_world.proofs.book.Book.have_ended.Goals as goal
 use Rattle.loom_world.proofs.book.Book.have_ended.Goals.{in-Some+else-not-thread, in_default}
 

@@ -2,7 +2,7 @@ use Rattle.std.proofs.Common.{sym, subst}
 use Rattle.loom_law.specs.Lawful.{IsBlocked}
 use Rattle.loom_world.specs.Book.{Book, setting, front}
 use Rattle.loom_world.specs.contracts.book.Book.{the_view}
-use Rattle.loom_world.proofs.Kept.{is_blocked_at, is_free_at, is_free_without}
+use Rattle.loom_world.proofs.InvariantReadings.{is_blocked_at, is_free_at, is_free_without}
 use Rattle.loom_world.proofs.book.Book.is_blocked.Goals as goal
 
 pub returns-in-Some-clause-blocked : goal.returns-in-Some-clause-blocked

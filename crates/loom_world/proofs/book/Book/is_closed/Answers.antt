@@ -1,7 +1,7 @@
 use Rattle.std.proofs.Common.{sym, subst}
 use Rattle.loom_world.specs.Idle.{IsClosed}
 use Rattle.loom_world.specs.contracts.book.Book.{the_view}
-use Rattle.loom_world.proofs.Kept.{open_if}
+use Rattle.loom_world.proofs.InvariantReadings.{open_if}
 use Rattle.loom_world.proofs.book.Book.is_closed.Goals as goal
 
 pub returns-else-self-clause-open : goal.returns-else-self-clause-open

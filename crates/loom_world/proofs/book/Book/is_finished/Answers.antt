@@ -1,7 +1,7 @@
 use Rattle.std.proofs.Common.{sym, subst}
 use Rattle.loom_world.specs.Idle.{HasFinish}
 use Rattle.loom_world.specs.contracts.book.Book.{the_view}
-use Rattle.loom_world.proofs.Kept.{not_written}
+use Rattle.loom_world.proofs.InvariantReadings.{not_written}
 use Rattle.loom_world.proofs.book.Book.is_finished.Goals as goal
 
 pub returns-clause-unfinished : goal.returns-clause-unfinished

@@ -1,7 +1,7 @@
 use Rattle.std.proofs.Common.{◌≤◌, length, subst, arith}
 use Rattle.loom_trace.specs.Limits.{thread_limit}
 use Rattle.loom_world.specs.Book.{Book}
-use Rattle.loom_world.proofs.Kept.{all_blocked}
+use Rattle.loom_world.proofs.InvariantReadings.{all_blocked}
 use Rattle.loom_world.proofs.book.Book.is_stuck.Goals as goal
 
 pub returns-clause-stuck : goal.returns-clause-stuck

@@ -5,7 +5,7 @@ use Rattle.loom_lang.specs.Rules.{KeepsRules}
 use Rattle.loom_trace.specs.Limits.{thread_limit}
 use Rattle.loom_event.specs.Replay.{start}
 use Rattle.loom_world.specs.BookInvariant.{BookInvariant}
-use Rattle.loom_world.proofs.Finished.{new_kept}
+use Rattle.loom_world.proofs.FirstAndLast.{new_kept}
 use Rattle.loom_world.proofs.book.Book.make.Goals as goal
 
 pub invariant_of-result : goal.invariant_of-result

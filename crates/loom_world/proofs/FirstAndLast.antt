@@ -21,12 +21,12 @@ use Rattle.loom_strand.specs.Life.{has_none, has_ended, versions_with}
 use Rattle.loom_lang.proofs.MainFunction.{main_found, main_function}
 use Rattle.loom_world.specs.declared.choice.Why.{Why}
 use Rattle.loom_world.specs.declared.choice.Why.TheVariants as why
-use Rattle.loom_world.specs.Book.{Book, IsNewBook, plain, setting, front, HasLawfulJournal}
+use Rattle.loom_world.specs.Book.{Book, IsNewBook, plain_setting, setting, front, HasLawfulJournal}
 use Rattle.loom_world.specs.Idle.{HasFinish, IsIdleControl}
 use Rattle.loom_world.specs.BookInvariant.{Notes, IsAsFar, wait_in, HasWaits, AreNoWaits, BookInvariant}
 use Rattle.loom_world.proofs.Notes.{waits_kept}
 use Rattle.loom_world.proofs.Ends.{front_is, may_finish}
-use Rattle.loom_world.proofs.Kept.{not_written}
+use Rattle.loom_world.proofs.InvariantReadings.{not_written}
 
 -- With `Finish`
 
@@ -51,14 +51,14 @@ finished_journal b h kind goes_on ends =
 
 -- A book keeps what it keeps when it is finished.
 pub finished_kept : (b : Book) (n : Notes) (k : BookInvariant b n) (kind : Ending) → n.finished ≡ false → Ends (setting b) (front b) kind → (room : ℕ)
-    → BookInvariant (finished_book b kind) (record { made = n.made; finished = true; room = room; waits = n.waits })
+    → BookInvariant (finished_book b kind) (record { entry_count = n.entry_count; finished = true; room = room; waits = n.waits })
 finished_kept b n k kind unfinished ends room =
     let goes_on : IsUnfinished b.entries = λ a h. not_written b n k unfinished (a, h) in
     record {
       journal = finished_journal b k.journal kind goes_on ends;
       least = k.least;
       most = k.most;
-      made = k.made ∙ sym (count_same b.entries (e.Finish kind) refl);
+      entry_count = k.entry_count ∙ sym (count_same b.entries (e.Finish kind) refl);
       few = k.few;
       end = (kind, record { front = b.entries; is = refl });
       far = λ t x is. subst (λ z. IsAsFar z x) (sym (not_mine t (e.Finish kind) b.entries refl)) (k.far t x is);
@@ -110,16 +110,16 @@ first_waits b ws none h = record {
 }
 
 first_journal : (p : Source) (limit : ℕ) → HasLawfulJournal (record { program = p; limit = limit; entries = []; store = start p thread_limit })
-first_journal p limit = let h = beginning (plain p limit) in record { lawful = h.0; store = ap (replay (start p thread_limit)) h.1 }
+first_journal p limit = let h = beginning (plain_setting p limit) in record { lawful = h.0; store = ap (replay (start p thread_limit)) h.1 }
 
 -- A new book keeps all of it.
 pub new_kept : (p : Source) (limit room : ℕ) (ws : List (Option What)) → KeepsRules p → 1 ≤ limit → limit ≤ entry_limit → room ≡ limit + control_limit → AreNoWaits ws
-    → BookInvariant (record { program = p; limit = limit; entries = []; store = start p thread_limit }) (record { made = 0; finished = false; room = room; waits = ws })
+    → BookInvariant (record { program = p; limit = limit; entries = []; store = start p thread_limit }) (record { entry_count = 0; finished = false; room = room; waits = ws })
 new_kept p limit room ws rules least most left none = record {
   journal = first_journal p limit;
   least = least;
   most = most;
-  made = refl;
+  entry_count = refl;
   few = omega arith;
   end = (none_unfinished, omega (arith, left));
   far = first_far p;

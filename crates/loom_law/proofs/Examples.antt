@@ -5,12 +5,12 @@ use Rattle.loom_trace.specs.declared.entry.Entry.TheVariants as e
 use Rattle.loom_trace.specs.declared.entry.What.TheVariants as w
 use Rattle.loom_trace.specs.declared.entry.Ending.TheVariants as k
 use Rattle.loom_lang.specs.Trace.{Locals, begin, end, read, write, spawn, join, print, made, begins, done, enter, out, Finished, IsTrace}
-use Rattle.loom_event.proofs.Shown.{adds}
+use Rattle.loom_event.proofs.Examples.{adds}
 use Rattle.loom_event.proofs.Runs.{next, given}
 use Rattle.loom_command.specs.Filter.{Region, Clause, Filter}
 use Rattle.loom_law.specs.Filter.{plan_of}
 use Rattle.loom_command.specs.Filter as filters
-use Rattle.loom_law.specs.Walk.{Version, Operation, enters, past, leave, blocked, PartStep, goes, makes, items, told}
+use Rattle.loom_law.specs.Walk.{Version, Operation, enters, past, leave, blocked, PartStep, goes, makes, items, filter_entries}
 use Rattle.loom_law.specs.Walk as walk
 use Rattle.loom_command.specs.Script as script
 use Rattle.loom_law.specs.Control.{means, install, Command}
@@ -19,15 +19,15 @@ use Rattle.loom_lang.specs.Places.{nowhere}
 use Rattle.loom_event.specs.Event.{Event}
 use Rattle.loom_event.specs.Replay.{start, thread_at, replay}
 use Rattle.loom_event.specs.Run.{AreRun}
-use Rattle.loom_event.proofs.Shown.{event}
+use Rattle.loom_event.proofs.Examples.{event}
 use Rattle.loom_law.specs.Filter.{is_alone}
 use Rattle.loom_law.specs.Control.{Control, command_at, listed_places}
-use Rattle.loom_law.specs.Lawful.{Setting, Front, plans, over, owes_cross, is_cross, IsDue, IsParked, MayMove, MayInstall, HasPart, StandsAt, running_thread, front_at, IsOutside, HasCompletions, HasPosts, IsLawful}
+use Rattle.loom_law.specs.Lawful.{Setting, Front, plans, run_is_over, owes_cross, is_cross, IsDue, IsParked, MayMove, MayInstall, HasPart, StandsAt, running_thread, front_at, IsOutside, HasCompletions, HasPosts, IsLawful}
 use Rattle.loom_event.proofs.Runs.{threads_traced, does, events_told, event_of}
 use Rattle.loom_event.proofs.Runs as runs
 use Rattle.loom_event.proofs.Stops as stops
 use Rattle.loom_event.specs.Run.{IsTraced}
-use Rattle.loom_event.proofs.Shown.{deed}
+use Rattle.loom_event.proofs.Examples.{deed}
 use Rattle.loom_law.specs.Filter.{clauses}
 use Rattle.loom_law.specs.Walk.{unborn, holds, walk_from}
 use Rattle.loom_tree.specs.Tree.{Source}
@@ -233,7 +233,7 @@ none_alone zero c h = cc
 none_alone (suc zero) c h = never (1 == c) h
 none_alone (suc (suc k)) c h = cc
 
-moves : {f : Front} {t : ℕ} {x : Entry} → over setting f ≡ false → Control.closing f.control ≡ false → Control.next f.control ≡ 2
+moves : {f : Front} {t : ℕ} {x : Entry} → run_is_over setting f ≡ false → Control.closing f.control ≡ false → Control.next f.control ≡ 2
     → Control.asked f.control ≡ None → is_cross x ≡ owes_cross x (listed_places t f.entries) → IsParked setting f t x (Control.asked f.control)
     → MayMove setting f t x
 moves {f = f} runs closing next asked crosses parked = record {
@@ -324,7 +324,7 @@ bare_own = record main_own {
 
 pub bare_is_no_part : IsPart adds (plans setting) bare_own → ⊥
 bare_is_no_part h =
-    let none : none_cross (told 1 h.steps) ≡ true = subst (λ es. none_cross es ≡ true) (sym h.tells) refl in
+    let none : none_cross (filter_entries 1 h.steps) ≡ true = subst (λ es. none_cross es ≡ true) (sym h.tells) refl in
     let held : Covers [] 1 (3 ∷ 4 ∷ []) (clauses (plans setting 1)) =
     covered adds (plans setting) (unborn (version ∷ [])) 1 h.steps h.ahead (e.Begin 1 5 ∷ e.Spawn 1 6 2 0 [] ∷ []) 7 1 (3 ∷ 4 ∷ []) _
     (steps_cross 1 h.steps none) h.woven (good_start (plans setting) (version ∷ [])) h.tells in

@@ -6,7 +6,7 @@ use Rattle.loom_trace.specs.declared.entry.What.{What}
 use Rattle.loom_trace.specs.declared.entry.Ending.{Ending}
 use Rattle.loom_event.specs.Entries.{thread_entries, last_of_thread}
 use Rattle.loom_event.specs.Replay.{ThreadState, Store, thread_at, IsDisabled, AllEnded}
-use Rattle.loom_law.specs.Lawful.{over, Lives, IsBlocked}
+use Rattle.loom_law.specs.Lawful.{run_is_over, Lives, IsBlocked}
 use Rattle.loom_law.proofs.Earlier.{same_number}
 use Rattle.loom_law.proofs.Turns.{eq_same}
 use Rattle.loom_store.specs.Answer.{CanWait}
@@ -19,35 +19,35 @@ end_if : (b : Book) (more : ℕ) (f c : Bool) → f ≡ c → IsAtEnd b f more �
 end_if b more f c is h = subst (λ z. IsAtEnd b z more) is h
 
 pub is_written : (b : Book) (n : Notes) → BookInvariant b n → n.finished ≡ true → HasFinish b
-is_written b n k is = end_if b (n.made + n.room) n.finished true is k.end
+is_written b n k is = end_if b (n.entry_count + n.room) n.finished true is k.end
 
 pub not_written : (b : Book) (n : Notes) → BookInvariant b n → n.finished ≡ false → HasFinish b → ⊥
-not_written b n k is h = (end_if b (n.made + n.room) n.finished false is k.end).0 h.0 h.1
+not_written b n k is h = (end_if b (n.entry_count + n.room) n.finished false is k.end).0 h.0 h.1
 
-pub room_left : (b : Book) (n : Notes) → BookInvariant b n → n.finished ≡ false → n.made + n.room ≡ b.limit + control_limit
-room_left b n k is = (end_if b (n.made + n.room) n.finished false is k.end).1
+pub room_left : (b : Book) (n : Notes) → BookInvariant b n → n.finished ≡ false → n.entry_count + n.room ≡ b.limit + control_limit
+room_left b n k is = (end_if b (n.entry_count + n.room) n.finished false is k.end).1
 
-pub count_is : (b : Book) (n : Notes) → BookInvariant b n → (n.made == b.limit) ≡ (thread_entries b.entries == b.limit)
-count_is b n k = ap (λ z. z == b.limit) k.made
+pub count_is : (b : Book) (n : Notes) → BookInvariant b n → (n.entry_count == b.limit) ≡ (thread_entries b.entries == b.limit)
+count_is b n k = ap (λ z. z == b.limit) k.entry_count
 
-pub full_over : (b : Book) (n : Notes) → BookInvariant b n → (n.made == b.limit) ≡ true → over (setting b) (front b) ≡ true
+pub full_over : (b : Book) (n : Notes) → BookInvariant b n → (n.entry_count == b.limit) ≡ true → run_is_over (setting b) (front b) ≡ true
 full_over b n k full = over_is b ∙ (sym (count_is b n k) ∙ full)
 
-pub less_goes_on : (b : Book) (n : Notes) → BookInvariant b n → (n.made == b.limit) ≡ false → over (setting b) (front b) ≡ false
+pub less_goes_on : (b : Book) (n : Notes) → BookInvariant b n → (n.entry_count == b.limit) ≡ false → run_is_over (setting b) (front b) ≡ false
 less_goes_on b n k less = over_is b ∙ (sym (count_is b n k) ∙ less)
 
-pub open_if : (b : Book) (n : Notes) → BookInvariant b n → n.finished ≡ false → (n.made == b.limit) ≡ false → IsClosed b → ⊥
+pub open_if : (b : Book) (n : Notes) → BookInvariant b n → n.finished ≡ false → (n.entry_count == b.limit) ≡ false → IsClosed b → ⊥
 open_if b n k is less (inl over_so) = let same : true ≡ false = sym over_so ∙ less_goes_on b n k less in cc
 open_if b n k is less (inr h) = not_written b n k is h
 
 -- Where it goes on the limit isn't reached, and it isn't finished.
-pub not_full : (b : Book) (n : Notes) → BookInvariant b n → (IsClosed b → ⊥) → n.made < b.limit
-not_full b n k goes_on = by_count (n.made == b.limit) refl
+pub not_full : (b : Book) (n : Notes) → BookInvariant b n → (IsClosed b → ⊥) → n.entry_count < b.limit
+not_full b n k goes_on = by_count (n.entry_count == b.limit) refl
   where
-    by_count : (c : Bool) → (n.made == b.limit) ≡ c → n.made < b.limit
+    by_count : (c : Bool) → (n.entry_count == b.limit) ≡ c → n.entry_count < b.limit
     by_count true e = absurd (goes_on (inl (full_over b n k e)))
     by_count false e =
-        let ne : n.made ≡ b.limit → ⊥ = λ g. (let same : true ≡ false = sym (eq_same b.limit) ∙ subst (λ z. (z == b.limit) ≡ false) g e in cc) in
+        let ne : n.entry_count ≡ b.limit → ⊥ = λ g. (let same : true ≡ false = sym (eq_same b.limit) ∙ subst (λ z. (z == b.limit) ≡ false) g e in cc) in
         omega (arith, ne, k.few)
 
 pub not_finished : (b : Book) (n : Notes) → BookInvariant b n → (IsClosed b → ⊥) → n.finished ≡ false
@@ -150,5 +150,5 @@ not_false true h = refl
 not_false false h = cc
 
 -- as many entries as there may be, or fewer
-pub entries_at : (b : Book) (n : Notes) → BookInvariant b n → (c : Bool) → (n.made == b.limit) ≡ c → (thread_entries b.entries == b.limit) ≡ c
+pub entries_at : (b : Book) (n : Notes) → BookInvariant b n → (c : Bool) → (n.entry_count == b.limit) ≡ c → (thread_entries b.entries == b.limit) ≡ c
 entries_at b n k c h = sym (count_is b n k) ∙ h

@@ -11,22 +11,22 @@ use Rattle.loom_trace.specs.declared.entry.What.TheVariants as w
 use Rattle.loom_trace.specs.declared.request.Request.{Request}
 use Rattle.loom_trace.specs.declared.request.Request.TheVariants as r
 use Rattle.loom_event.specs.Event.{entry_by, event_of_deed}
-use Rattle.loom_event.specs.Answer.{asks_begin, granted, trapped, IsEntryOf, IsBlockedFor, request_for}
+use Rattle.loom_event.specs.Answer.{asks_begin, grant_deed, trap_deed, IsEntryOf, IsBlockedFor, request_for}
 use Rattle.loom_event.specs.Replay.{ThreadState, Store, thread_at, after_event, replay, start, IsDisabled}
 use Rattle.loom_law.specs.Walk.{Plans, tick, blocked}
 use Rattle.loom_law.specs.ThreadPart.{Own, AsksToMake, AsksToAct}
 use Rattle.loom_law.specs.Control.{entries_of}
-use Rattle.loom_law.specs.Lawful.{Setting, Front, front_of, plans, over, IsDisabledFor}
+use Rattle.loom_law.specs.Lawful.{Setting, Front, front_of, plans, run_is_over, IsDisabledFor}
 use Rattle.loom_law.specs.TurnLaws.{ends_blocked}
 use Rattle.loom_law.proofs.SameRequest.{blocks}
 use Rattle.loom_strand.specs.Life.{has_none, versions_with}
 use Rattle.loom_strand.specs.Strand.{AsksNext}
 use Rattle.loom_store.specs.declared.answer.Answer.{Answer}
 use Rattle.loom_store.specs.declared.answer.Answer.TheVariants as a
-use Rattle.loom_store.specs.Answer.{Answers, done, deed_of}
+use Rattle.loom_store.specs.Answer.{Answers, given_deed, deed_of}
 use Rattle.loom_store.specs.Laws.{LeadsTo}
 use Rattle.loom_store.proofs.Deeds.{deeds}
-use Rattle.loom_world.specs.Book.{plain}
+use Rattle.loom_world.specs.Book.{plain_setting}
 use Rattle.loom_world.specs.Entry.{line_in, IsGrantWith, IsEntryFor}
 use Rattle.loom_world.proofs.Going.{IsGoing, event_goes, tick_goes, blocked_goes}
 
@@ -37,7 +37,7 @@ own_by es t z = record { thread = t; func = z.func; args = z.args; versions = ve
 -- The thread lives, and the run goes on.
 pub record IsAsking (p : Source) (limit : ℕ) (es : List Entry) (st : Store) (t : ℕ) (q : Request) : Type 0 where
   pub going : IsGoing p limit es st
-  pub runs : over (plain p limit) (front_of (plain p limit) es going.lawful.events) ≡ false
+  pub runs : run_is_over (plain_setting p limit) (front_of (plain_setting p limit) es going.lawful.events) ≡ false
   pub state : ThreadState
   pub there : thread_at st t ≡ Some state
   pub lives : state.ended ≡ false
@@ -46,7 +46,7 @@ pub record IsAsking (p : Source) (limit : ℕ) (es : List Entry) (st : Store) (t
 
 -- with a deed
 deed_goes : {p : Source} {limit : ℕ} {es : List Entry} {st : Store} {t : ℕ} {q : Request} (h : IsAsking p limit es st t q)
-    → AsksToAct p (plans (plain p limit)) (own_by es t h.state) q → (o : Option Deed) (x : Entry) (new : Store) → IsEntryOf t o x → LeadsTo st t q o new
+    → AsksToAct p (plans (plain_setting p limit)) (own_by es t h.state) q → (o : Option Deed) (x : Entry) (new : Store) → IsEntryOf t o x → LeadsTo st t q o new
     → IsGoing p limit (es ++ x ∷ []) new
 deed_goes h asks None x new tells leads = absurd tells
 deed_goes {p} {limit} {es} {st} {t} {q} h asks (Some d) x new tells leads =
@@ -56,38 +56,38 @@ deed_goes {p} {limit} {es} {st} {t} {q} h asks (Some d) x new tells leads =
 
 -- granted
 granted_goes : {p : Source} {limit : ℕ} {es : List Entry} {st : Store} {t : ℕ} (q : Request) (h : IsAsking p limit es st t q) (v : ℤ) (x : Entry) (new : Store)
-    → IsGrantWith t q v x → LeadsTo st t q (done q v) new → IsGoing p limit (es ++ x ∷ []) new
-granted_goes (r.Begin l) h v x new tells leads = deed_goes h (h.next _) (done (r.Begin l) v) x new tells leads
-granted_goes (r.End l) h v x new tells leads = deed_goes h (h.next _) (done (r.End l) v) x new tells leads
-granted_goes (r.Trap l n) h v x new tells leads = deed_goes h (h.next _) (done (r.Trap l n) v) x new tells leads
-granted_goes (r.Read l w) h v x new tells leads = deed_goes h (h.next _) (done (r.Read l w) v) x new tells leads
-granted_goes (r.Write l w u) h v x new tells leads = deed_goes h (h.next _) (done (r.Write l w u) v) x new tells leads
-granted_goes (r.Lock l m) h v x new tells leads = deed_goes h (h.next _) (done (r.Lock l m) v) x new tells leads
-granted_goes (r.Unlock l m) h v x new tells leads = deed_goes h (h.next _) (done (r.Unlock l m) v) x new tells leads
-granted_goes (r.Down l k) h v x new tells leads = deed_goes h (h.next _) (done (r.Down l k) v) x new tells leads
-granted_goes (r.Up l k) h v x new tells leads = deed_goes h (h.next _) (done (r.Up l k) v) x new tells leads
-granted_goes (r.Spawn l f us) h v x new tells leads = deed_goes h (h.next _) (done (r.Spawn l f us) v) x new tells leads
-granted_goes (r.Join l u) h v x new tells leads = deed_goes h (h.next _) (done (r.Join l u) v) x new tells leads
-granted_goes (r.Print l u) h v x new tells leads = deed_goes h (h.next _) (done (r.Print l u) v) x new tells leads
+    → IsGrantWith t q v x → LeadsTo st t q (given_deed q v) new → IsGoing p limit (es ++ x ∷ []) new
+granted_goes (r.Begin l) h v x new tells leads = deed_goes h (h.next _) (given_deed (r.Begin l) v) x new tells leads
+granted_goes (r.End l) h v x new tells leads = deed_goes h (h.next _) (given_deed (r.End l) v) x new tells leads
+granted_goes (r.Trap l n) h v x new tells leads = deed_goes h (h.next _) (given_deed (r.Trap l n) v) x new tells leads
+granted_goes (r.Read l w) h v x new tells leads = deed_goes h (h.next _) (given_deed (r.Read l w) v) x new tells leads
+granted_goes (r.Write l w u) h v x new tells leads = deed_goes h (h.next _) (given_deed (r.Write l w u) v) x new tells leads
+granted_goes (r.Lock l m) h v x new tells leads = deed_goes h (h.next _) (given_deed (r.Lock l m) v) x new tells leads
+granted_goes (r.Unlock l m) h v x new tells leads = deed_goes h (h.next _) (given_deed (r.Unlock l m) v) x new tells leads
+granted_goes (r.Down l k) h v x new tells leads = deed_goes h (h.next _) (given_deed (r.Down l k) v) x new tells leads
+granted_goes (r.Up l k) h v x new tells leads = deed_goes h (h.next _) (given_deed (r.Up l k) v) x new tells leads
+granted_goes (r.Spawn l f us) h v x new tells leads = deed_goes h (h.next _) (given_deed (r.Spawn l f us) v) x new tells leads
+granted_goes (r.Join l u) h v x new tells leads = deed_goes h (h.next _) (given_deed (r.Join l u) v) x new tells leads
+granted_goes (r.Print l u) h v x new tells leads = deed_goes h (h.next _) (given_deed (r.Print l u) v) x new tells leads
 granted_goes {p} {limit} {es} {st} {t} (r.Tick l k) h v x new tells leads =
     let more = tick_goes h.going h.runs t h.state h.there h.lives (sym h.begins) l k (h.next _) in
     subst (λ z. IsGoing p limit (es ++ x ∷ []) z) (sym leads) (subst (λ z. IsGoing p limit (es ++ z ∷ []) st) (sym tells) more)
 
 -- trapped
 trapped_goes : {p : Source} {limit : ℕ} {es : List Entry} {st : Store} {t : ℕ} (q : Request) (h : IsAsking p limit es st t q) (x : Entry) (new : Store)
-    → IsEntryOf t (trapped q) x → LeadsTo st t q (trapped q) new → IsGoing p limit (es ++ x ∷ []) new
-trapped_goes (r.Begin l) h x new tells leads = deed_goes h (h.next _) (trapped (r.Begin l)) x new tells leads
-trapped_goes (r.End l) h x new tells leads = deed_goes h (h.next _) (trapped (r.End l)) x new tells leads
-trapped_goes (r.Trap l n) h x new tells leads = deed_goes h (h.next _) (trapped (r.Trap l n)) x new tells leads
-trapped_goes (r.Read l w) h x new tells leads = deed_goes h (h.next _) (trapped (r.Read l w)) x new tells leads
-trapped_goes (r.Write l w u) h x new tells leads = deed_goes h (h.next _) (trapped (r.Write l w u)) x new tells leads
-trapped_goes (r.Lock l m) h x new tells leads = deed_goes h (h.next _) (trapped (r.Lock l m)) x new tells leads
-trapped_goes (r.Unlock l m) h x new tells leads = deed_goes h (h.next _) (trapped (r.Unlock l m)) x new tells leads
-trapped_goes (r.Down l k) h x new tells leads = deed_goes h (h.next _) (trapped (r.Down l k)) x new tells leads
-trapped_goes (r.Up l k) h x new tells leads = deed_goes h (h.next _) (trapped (r.Up l k)) x new tells leads
-trapped_goes (r.Spawn l f us) h x new tells leads = deed_goes h (h.next _) (trapped (r.Spawn l f us)) x new tells leads
-trapped_goes (r.Join l u) h x new tells leads = deed_goes h (h.next _) (trapped (r.Join l u)) x new tells leads
-trapped_goes (r.Print l u) h x new tells leads = deed_goes h (h.next _) (trapped (r.Print l u)) x new tells leads
+    → IsEntryOf t (trap_deed q) x → LeadsTo st t q (trap_deed q) new → IsGoing p limit (es ++ x ∷ []) new
+trapped_goes (r.Begin l) h x new tells leads = deed_goes h (h.next _) (trap_deed (r.Begin l)) x new tells leads
+trapped_goes (r.End l) h x new tells leads = deed_goes h (h.next _) (trap_deed (r.End l)) x new tells leads
+trapped_goes (r.Trap l n) h x new tells leads = deed_goes h (h.next _) (trap_deed (r.Trap l n)) x new tells leads
+trapped_goes (r.Read l w) h x new tells leads = deed_goes h (h.next _) (trap_deed (r.Read l w)) x new tells leads
+trapped_goes (r.Write l w u) h x new tells leads = deed_goes h (h.next _) (trap_deed (r.Write l w u)) x new tells leads
+trapped_goes (r.Lock l m) h x new tells leads = deed_goes h (h.next _) (trap_deed (r.Lock l m)) x new tells leads
+trapped_goes (r.Unlock l m) h x new tells leads = deed_goes h (h.next _) (trap_deed (r.Unlock l m)) x new tells leads
+trapped_goes (r.Down l k) h x new tells leads = deed_goes h (h.next _) (trap_deed (r.Down l k)) x new tells leads
+trapped_goes (r.Up l k) h x new tells leads = deed_goes h (h.next _) (trap_deed (r.Up l k)) x new tells leads
+trapped_goes (r.Spawn l f us) h x new tells leads = deed_goes h (h.next _) (trap_deed (r.Spawn l f us)) x new tells leads
+trapped_goes (r.Join l u) h x new tells leads = deed_goes h (h.next _) (trap_deed (r.Join l u)) x new tells leads
+trapped_goes (r.Print l u) h x new tells leads = deed_goes h (h.next _) (trap_deed (r.Print l u)) x new tells leads
 trapped_goes (r.Tick l k) h x new tells leads = absurd tells
 
 -- disabled: what a thread waits for isn't its begin, and the line is that of the request
@@ -96,33 +96,33 @@ disabled_goes : {p : Source} {limit : ℕ} {es : List Entry} {st : Store} {t : �
 disabled_goes {p} {limit} {es} {st} {t} q h (w.Lock m) l x is free disabled tells =
     let same : r.Lock l m ≡ q = cc in
     let line : line_in q ≡ l = ap line_in (sym same) in
-    let act : AsksToAct p (plans (plain p limit)) (own_by es t h.state) q =
-    subst (λ z. AsksToAct p (plans (plain p limit)) (own_by es t h.state) z) same (subst (λ z. AsksNext p (own_by es t h.state) z) (sym same) h.next (plans (plain p limit))) in
+    let act : AsksToAct p (plans (plain_setting p limit)) (own_by es t h.state) q =
+    subst (λ z. AsksToAct p (plans (plain_setting p limit)) (own_by es t h.state) z) same (subst (λ z. AsksNext p (own_by es t h.state) z) (sym same) h.next (plans (plain_setting p limit))) in
     let some : has_none (entries_of t es) ≡ false = sym h.begins ∙ ap asks_begin (sym same) in
     let named : IsBlockedFor t q (e.Blocked t l (w.Lock m)) = subst (λ z. IsBlockedFor t z (e.Blocked t l (w.Lock m))) same refl in
-    let asks = blocks p (plans (plain p limit)) (own_by es t h.state) q l (w.Lock m) act named free in
+    let asks = blocks p (plans (plain_setting p limit)) (own_by es t h.state) q l (w.Lock m) act named free in
     let so : IsDisabled (replay (start p thread_limit) h.going.lawful.events) (w.Lock m) = subst (λ z. IsDisabled z (w.Lock m)) (sym h.going.store) disabled in
     let more = blocked_goes h.going h.runs t h.state h.there h.lives some l (w.Lock m) asks so in
     subst (λ z. IsGoing p limit (es ++ z ∷ []) st) (sym (tells ∙ ap (λ z. e.Blocked t z (w.Lock m)) line)) more
 disabled_goes {p} {limit} {es} {st} {t} q h (w.Down m) l x is free disabled tells =
     let same : r.Down l m ≡ q = cc in
     let line : line_in q ≡ l = ap line_in (sym same) in
-    let act : AsksToAct p (plans (plain p limit)) (own_by es t h.state) q =
-    subst (λ z. AsksToAct p (plans (plain p limit)) (own_by es t h.state) z) same (subst (λ z. AsksNext p (own_by es t h.state) z) (sym same) h.next (plans (plain p limit))) in
+    let act : AsksToAct p (plans (plain_setting p limit)) (own_by es t h.state) q =
+    subst (λ z. AsksToAct p (plans (plain_setting p limit)) (own_by es t h.state) z) same (subst (λ z. AsksNext p (own_by es t h.state) z) (sym same) h.next (plans (plain_setting p limit))) in
     let some : has_none (entries_of t es) ≡ false = sym h.begins ∙ ap asks_begin (sym same) in
     let named : IsBlockedFor t q (e.Blocked t l (w.Down m)) = subst (λ z. IsBlockedFor t z (e.Blocked t l (w.Down m))) same refl in
-    let asks = blocks p (plans (plain p limit)) (own_by es t h.state) q l (w.Down m) act named free in
+    let asks = blocks p (plans (plain_setting p limit)) (own_by es t h.state) q l (w.Down m) act named free in
     let so : IsDisabled (replay (start p thread_limit) h.going.lawful.events) (w.Down m) = subst (λ z. IsDisabled z (w.Down m)) (sym h.going.store) disabled in
     let more = blocked_goes h.going h.runs t h.state h.there h.lives some l (w.Down m) asks so in
     subst (λ z. IsGoing p limit (es ++ z ∷ []) st) (sym (tells ∙ ap (λ z. e.Blocked t z (w.Down m)) line)) more
 disabled_goes {p} {limit} {es} {st} {t} q h (w.Join c) l x is free disabled tells =
     let same : r.Join l (pos c) ≡ q = cc in
     let line : line_in q ≡ l = ap line_in (sym same) in
-    let act : AsksToAct p (plans (plain p limit)) (own_by es t h.state) q =
-    subst (λ z. AsksToAct p (plans (plain p limit)) (own_by es t h.state) z) same (subst (λ z. AsksNext p (own_by es t h.state) z) (sym same) h.next (plans (plain p limit))) in
+    let act : AsksToAct p (plans (plain_setting p limit)) (own_by es t h.state) q =
+    subst (λ z. AsksToAct p (plans (plain_setting p limit)) (own_by es t h.state) z) same (subst (λ z. AsksNext p (own_by es t h.state) z) (sym same) h.next (plans (plain_setting p limit))) in
     let some : has_none (entries_of t es) ≡ false = sym h.begins ∙ ap asks_begin (sym same) in
     let named : IsBlockedFor t q (e.Blocked t l (w.Join c)) = subst (λ z. IsBlockedFor t z (e.Blocked t l (w.Join c))) same refl in
-    let asks = blocks p (plans (plain p limit)) (own_by es t h.state) q l (w.Join c) act named free in
+    let asks = blocks p (plans (plain_setting p limit)) (own_by es t h.state) q l (w.Join c) act named free in
     let so : IsDisabled (replay (start p thread_limit) h.going.lawful.events) (w.Join c) = subst (λ z. IsDisabled z (w.Join c)) (sym h.going.store) disabled in
     let more = blocked_goes h.going h.runs t h.state h.there h.lives some l (w.Join c) asks so in
     subst (λ z. IsGoing p limit (es ++ z ∷ []) st) (sym (tells ∙ ap (λ z. e.Blocked t z (w.Join c)) line)) more

@@ -13,7 +13,7 @@ use Rattle.loom_trace.specs.declared.entry.What.TheVariants as w
 use Rattle.loom_trace.specs.declared.request.Request.{Request}
 use Rattle.loom_trace.specs.declared.request.Request.TheVariants as r
 use Rattle.loom_event.specs.Event.{entry_by, event_of_deed}
-use Rattle.loom_event.specs.Answer.{granted, trapped, trap_at, cause_of, request_for, IsEntryOf, IsAnswerTo, IsBlockedFor, IsFunctionWith, HasNumbers}
+use Rattle.loom_event.specs.Answer.{grant_deed, trap_deed, trap_at, cause_of, request_for, IsEntryOf, IsAnswerTo, IsBlockedFor, IsFunctionWith, HasNumbers}
 use Rattle.loom_event.specs.Answer as event
 use Rattle.loom_event.specs.Entries.{thread_of, is_thread, thread_entries, is_some_thread, last_of_thread}
 use Rattle.loom_event.specs.Replay.{ThreadState, Store, new_thread, thread_at, after_event, after_act, replay, IsDisabled}
@@ -27,11 +27,11 @@ use Rattle.loom_strand.specs.Life.{has_none, IsLastBlockedFor}
 use Rattle.loom_strand.specs.Strand.{IsReplyTo}
 use Rattle.loom_store.specs.declared.answer.Answer.{Answer}
 use Rattle.loom_store.specs.declared.answer.Answer.TheVariants as a
-use Rattle.loom_store.specs.Answer.{CanWait, Answers, IsTrapped, done, deed_of}
+use Rattle.loom_store.specs.Answer.{CanWait, Answers, IsTrapped, given_deed, deed_of}
 use Rattle.loom_store.specs.Laws.{LeadsTo}
 use Rattle.loom_store.proofs.Deeds.{deeds}
 use Rattle.loom_store.proofs.Sizes.{all_wait, lasting_waits}
-use Rattle.loom_world.specs.Book.{Book, plain, setting, front}
+use Rattle.loom_world.specs.Book.{Book, plain_setting, setting, front}
 use Rattle.loom_world.specs.Idle.{IsClosed}
 use Rattle.loom_world.specs.Threads.{IsSameThread, KeepsThreads}
 use Rattle.loom_world.specs.Asking.{Asks, MakesAnswer}
@@ -39,10 +39,10 @@ use Rattle.loom_world.specs.BookInvariant.{Notes, wait_in, wait_of, IsAtEnd, Boo
 use Rattle.loom_world.specs.Entry.{line_in, IsGrantWith, IsEntryFor}
 use Rattle.loom_world.proofs.States.{IsSpawnedBy, fresh_state}
 use Rattle.loom_world.proofs.Going.{IsGoing}
-use Rattle.loom_world.proofs.Answered.{IsAsking, answer_goes}
+use Rattle.loom_world.proofs.LongerJournal.{IsAsking, answer_goes}
 use Rattle.loom_world.proofs.Notes.{wait_of_entry, waits_more}
 use Rattle.loom_world.proofs.Ends.{disabled_for, not_yes}
-use Rattle.loom_world.proofs.Kept.{full_over, less_goes_on, not_full, not_finished, room_left}
+use Rattle.loom_world.proofs.InvariantReadings.{full_over, less_goes_on, not_full, not_finished, room_left}
 
 -- The last entry of a thread
 
@@ -121,7 +121,7 @@ grant_answers t (r.Join l u) v x h = inl (v, h)
 grant_answers t (r.Print l u) v x h = inl (v, h)
 grant_answers t (r.Tick l k) v x h = h
 
-trap_answers : (t : ℕ) (q : Request) (x : Entry) → IsEntryOf t (trapped q) x → IsAnswerTo t q x
+trap_answers : (t : ℕ) (q : Request) (x : Entry) → IsEntryOf t (trap_deed q) x → IsAnswerTo t q x
 trap_answers t (r.Begin l) x h = inr h
 trap_answers t (r.End l) x h = inr h
 trap_answers t (r.Trap l n) x h = inr h
@@ -181,9 +181,9 @@ same_what : (l m : ℕ) (what that : What) (q : Request) → request_for l what 
 same_what l m what that q is so t = what_in t q (e.Blocked t l what) (told_blocked t l what q (e.Blocked t l what) is refl) m that so
 
 grant_so : (t l : ℕ) (what : What) (q : Request) (v : ℤ) (x : Entry) → request_for l what ≡ Some q → IsGrantWith t q v x → event.IsGrantOf t q x
-grant_so t l (w.Lock m) q v x is h = let same : r.Lock l m ≡ q = cc in (v, subst (λ z. IsEntryOf t (granted z v) x) same (subst (λ z. IsGrantWith t z v x) (sym same) h))
-grant_so t l (w.Down m) q v x is h = let same : r.Down l m ≡ q = cc in (v, subst (λ z. IsEntryOf t (granted z v) x) same (subst (λ z. IsGrantWith t z v x) (sym same) h))
-grant_so t l (w.Join c) q v x is h = let same : r.Join l (pos c) ≡ q = cc in (v, subst (λ z. IsEntryOf t (granted z v) x) same (subst (λ z. IsGrantWith t z v x) (sym same) h))
+grant_so t l (w.Lock m) q v x is h = let same : r.Lock l m ≡ q = cc in (v, subst (λ z. IsEntryOf t (grant_deed z v) x) same (subst (λ z. IsGrantWith t z v x) (sym same) h))
+grant_so t l (w.Down m) q v x is h = let same : r.Down l m ≡ q = cc in (v, subst (λ z. IsEntryOf t (grant_deed z v) x) same (subst (λ z. IsGrantWith t z v x) (sym same) h))
+grant_so t l (w.Join c) q v x is h = let same : r.Join l (pos c) ≡ q = cc in (v, subst (λ z. IsEntryOf t (grant_deed z v) x) same (subst (λ z. IsGrantWith t z v x) (sym same) h))
 grant_so t l (w.Enter i c) q v x is h = cc
 grant_so t l (w.Wait i n) q v x is h = cc
 
@@ -271,7 +271,7 @@ trap_function : (p : Source) (l : ℕ) (o : Option Cause) → HasFunction p (tra
 trap_function p l None = tt
 trap_function p l (Some c) = tt
 
-trapped_function : (p : Source) (q : Request) → HasFunction p (trapped q)
+trapped_function : (p : Source) (q : Request) → HasFunction p (trap_deed q)
 trapped_function p (r.Begin l) = tt
 trapped_function p (r.End l) = tt
 trapped_function p (r.Trap l n) = trap_function p l (cause_of n)
@@ -286,7 +286,7 @@ trapped_function p (r.Join l u) = tt
 trapped_function p (r.Print l u) = tt
 trapped_function p (r.Tick l k) = tt
 
-granted_function : (p : Source) (q : Request) (v : ℤ) → HasNumbers p q → HasFunction p (done q v)
+granted_function : (p : Source) (q : Request) (v : ℤ) → HasNumbers p q → HasFunction p (given_deed q v)
 granted_function p (r.Begin l) v h = tt
 granted_function p (r.End l) v h = tt
 granted_function p (r.Trap l n) v h = trap_function p l (cause_of n)
@@ -350,8 +350,8 @@ going b n k goes_on = record {
   few = k.few_threads;
 }
 
-less : (b : Book) (n : Notes) (k : BookInvariant b n) → (IsClosed b → ⊥) → (n.made == b.limit) ≡ false
-less b n k goes_on = not_yes (n.made == b.limit) (λ full. goes_on (inl (full_over b n k full)))
+less : (b : Book) (n : Notes) (k : BookInvariant b n) → (IsClosed b → ⊥) → (n.entry_count == b.limit) ≡ false
+less b n k goes_on = not_yes (n.entry_count == b.limit) (λ full. goes_on (inl (full_over b n k full)))
 
 asking : (b : Book) (n : Notes) (k : BookInvariant b n) (goes_on : IsClosed b → ⊥) (t : ℕ) (q : Request) → Asks b t q → IsAsking b.program b.limit b.entries b.store t q
 asking b n k goes_on t q asks = record {
@@ -369,24 +369,24 @@ entry_of_deed t None x h = absurd h
 entry_of_deed t (Some d) x h = ap thread_of h ∙ entry_thread t d.line d.act
 
 entry_of_grant : (t : ℕ) (q : Request) (v : ℤ) (x : Entry) → IsGrantWith t q v x → thread_of x ≡ Some t
-entry_of_grant t (r.Begin l) v x h = entry_of_deed t (done (r.Begin l) v) x h
-entry_of_grant t (r.End l) v x h = entry_of_deed t (done (r.End l) v) x h
-entry_of_grant t (r.Trap l n) v x h = entry_of_deed t (done (r.Trap l n) v) x h
-entry_of_grant t (r.Read l w) v x h = entry_of_deed t (done (r.Read l w) v) x h
-entry_of_grant t (r.Write l w u) v x h = entry_of_deed t (done (r.Write l w u) v) x h
-entry_of_grant t (r.Lock l m) v x h = entry_of_deed t (done (r.Lock l m) v) x h
-entry_of_grant t (r.Unlock l m) v x h = entry_of_deed t (done (r.Unlock l m) v) x h
-entry_of_grant t (r.Down l k) v x h = entry_of_deed t (done (r.Down l k) v) x h
-entry_of_grant t (r.Up l k) v x h = entry_of_deed t (done (r.Up l k) v) x h
-entry_of_grant t (r.Spawn l g us) v x h = entry_of_deed t (done (r.Spawn l g us) v) x h
-entry_of_grant t (r.Join l u) v x h = entry_of_deed t (done (r.Join l u) v) x h
-entry_of_grant t (r.Print l u) v x h = entry_of_deed t (done (r.Print l u) v) x h
+entry_of_grant t (r.Begin l) v x h = entry_of_deed t (given_deed (r.Begin l) v) x h
+entry_of_grant t (r.End l) v x h = entry_of_deed t (given_deed (r.End l) v) x h
+entry_of_grant t (r.Trap l n) v x h = entry_of_deed t (given_deed (r.Trap l n) v) x h
+entry_of_grant t (r.Read l w) v x h = entry_of_deed t (given_deed (r.Read l w) v) x h
+entry_of_grant t (r.Write l w u) v x h = entry_of_deed t (given_deed (r.Write l w u) v) x h
+entry_of_grant t (r.Lock l m) v x h = entry_of_deed t (given_deed (r.Lock l m) v) x h
+entry_of_grant t (r.Unlock l m) v x h = entry_of_deed t (given_deed (r.Unlock l m) v) x h
+entry_of_grant t (r.Down l k) v x h = entry_of_deed t (given_deed (r.Down l k) v) x h
+entry_of_grant t (r.Up l k) v x h = entry_of_deed t (given_deed (r.Up l k) v) x h
+entry_of_grant t (r.Spawn l g us) v x h = entry_of_deed t (given_deed (r.Spawn l g us) v) x h
+entry_of_grant t (r.Join l u) v x h = entry_of_deed t (given_deed (r.Join l u) v) x h
+entry_of_grant t (r.Print l u) v x h = entry_of_deed t (given_deed (r.Print l u) v) x h
 entry_of_grant t (r.Tick l k) v x h = ap thread_of h
 
 entry_by_thread : (t : ℕ) (q : Request) (y : Answer) (x : Entry) → IsEntryFor t q y x → thread_of x ≡ Some t
 entry_by_thread t q (a.Granted v) x h = entry_of_grant t q v x h
 entry_by_thread t q (a.Disabled what) x h = ap thread_of h
-entry_by_thread t q (a.Trapped m) x h = entry_of_deed t (trapped q) x h
+entry_by_thread t q (a.Trapped m) x h = entry_of_deed t (trap_deed q) x h
 
 pub count_last : (es : List Entry) (x : Entry) → is_some_thread (thread_of x) ≡ true → thread_entries (es ++ x ∷ []) ≡ suc (thread_entries es)
 count_last [] x h = rw h refl
@@ -406,7 +406,7 @@ book_with b x st = record { program = b.program; limit = b.limit; entries = b.en
 -- A book keeps what it keeps with the entry that an answer makes.
 pub kept_more : (b : Book) (n : Notes) (k : BookInvariant b n) (goes_on : IsClosed b → ⊥) (t : ℕ) (q : Request) → 1 ≤ t → t ≤ thread_limit → Asks b t q → (IsBlocked (setting b) (front b) t → ⊥)
     → (y : Answer) (x : Entry) (new : Store) (room : ℕ) → Answers b.store t q y new → IsEntryFor t q y x → room + 1 ≡ n.room
-    → BookInvariant (book_with b x new) (record { made = n.made + 1; finished = n.finished; room = room; waits = slice_set n.waits (t - 1) (wait_of y) })
+    → BookInvariant (book_with b x new) (record { entry_count = n.entry_count + 1; finished = n.finished; room = room; waits = slice_set n.waits (t - 1) (wait_of y) })
 kept_more b n k goes_on t q first last asks free y x new room answers tells left =
     let of : thread_of x ≡ Some t = entry_by_thread t q y x tells in
     let leads = deeds b.store t q y new answers in
@@ -421,9 +421,9 @@ kept_more b n k goes_on t q first last asks free y x new room answers tells left
       journal = record { lawful = more.lawful; store = more.store };
       least = k.least;
       most = k.most;
-      made = omega (arith, counted, k.made);
+      entry_count = omega (arith, counted, k.entry_count);
       few = omega (arith, full);
-      end = unfinished_at_end (book_with b x new) n.finished (n.made + 1 + room) unfinished more.goes_on (omega (arith, left, all));
+      end = unfinished_at_end (book_with b x new) n.finished (n.entry_count + 1 + room) unfinished more.goes_on (omega (arith, left, all));
       far = more.far;
       functions = functions_more b.program b.store new t q (deed_of q y) k.functions (deed_function b.program q y asks.numbers) leads;
       versions = more.versions;
@@ -443,5 +443,5 @@ answered_so b n k goes_on t q first last asks free y x new answers tells = recor
   threads = keeps_deed b.store new t q (deed_of q y) (deeds b.store t q y new answers);
   goes_on = goes_on;
   free = free;
-  few = subst (λ z. z < b.limit) k.made (not_full b n k goes_on);
+  few = subst (λ z. z < b.limit) k.entry_count (not_full b n k goes_on);
 }

@@ -6,12 +6,12 @@ use Rattle.loom_tree.specs.declared.statement.Kind.TheVariants as k
 use Rattle.loom_tree.specs.Tree.{Body, end, behind, Source}
 use Rattle.loom_lang.specs.declared.refusal.Reason.{Reason}
 use Rattle.loom_lang.specs.declared.refusal.LangRefusal.{LangRefusal}
-use Rattle.loom_lang.specs.Rules.{lines}
+use Rattle.loom_lang.specs.Rules.{statement_lines}
 use Rattle.loom_lang.specs.Refusal.{lets_at, unknown_lines, miscounted_lines}
-use Rattle.loom_lang.specs.Fault.{noted}
+use Rattle.loom_lang.specs.Fault.{behind_faults}
 use Rattle.loom_lang.proofs.Faults.{noted_on}
 
-pub lines_behind : (l : ℕ) (s : Kind) (rest : Body) → lines (behind l s rest) ≡ lines (behind l s end) ++ lines rest
+pub lines_behind : (l : ℕ) (s : Kind) (rest : Body) → statement_lines (behind l s rest) ≡ statement_lines (behind l s end) ++ statement_lines rest
 lines_behind l (k.If e a b) rest = simp (append-nil, append_assoc)
 lines_behind l (k.While e a) rest = simp append-nil
 lines_behind l _ rest = refl
@@ -37,8 +37,8 @@ miscounted_behind p l _ rest = refl
 
 -- the steps of walks, at statements that are a first one and a rest
 
-pub unknown_step : (first new : Option LangRefusal) (why : Reason) (p : Source) (locals : List (List ℕ)) (l : ℕ) (s : Kind) (all rest : Body) → all ≡ behind l s rest → new ≡ noted first why (unknown_lines p locals (behind l s end)) → noted new why (unknown_lines p locals rest) ≡ noted first why (unknown_lines p locals all)
+pub unknown_step : (first new : Option LangRefusal) (why : Reason) (p : Source) (locals : List (List ℕ)) (l : ℕ) (s : Kind) (all rest : Body) → all ≡ behind l s rest → new ≡ behind_faults first why (unknown_lines p locals (behind l s end)) → behind_faults new why (unknown_lines p locals rest) ≡ behind_faults first why (unknown_lines p locals all)
 unknown_step first new why p locals l s all rest e h = noted_on first new why (unknown_lines p locals (behind l s end)) (unknown_lines p locals rest) _ (ap (unknown_lines p locals) e ∙ unknown_behind p locals l s rest) h
 
-pub miscounted_step : (first new : Option LangRefusal) (why : Reason) (p : Source) (l : ℕ) (s : Kind) (all rest : Body) → all ≡ behind l s rest → new ≡ noted first why (miscounted_lines p (behind l s end)) → noted new why (miscounted_lines p rest) ≡ noted first why (miscounted_lines p all)
+pub miscounted_step : (first new : Option LangRefusal) (why : Reason) (p : Source) (l : ℕ) (s : Kind) (all rest : Body) → all ≡ behind l s rest → new ≡ behind_faults first why (miscounted_lines p (behind l s end)) → behind_faults new why (miscounted_lines p rest) ≡ behind_faults first why (miscounted_lines p all)
 miscounted_step first new why p l s all rest e h = noted_on first new why (miscounted_lines p (behind l s end)) (miscounted_lines p rest) _ (ap (miscounted_lines p) e ∙ miscounted_behind p l s rest) h

@@ -12,8 +12,8 @@ use Rattle.loom_lang.specs.declared.refusal.Reason.TheVariants as reason
 use Rattle.loom_lang.specs.Limits.{function_limit, param_limit, local_limit, name_limit, cell_limit, statement_limit}
 use Rattle.loom_lang.specs.Rules.{is_distinct, is_apart, locals_of, lines_of, cell_count, shared_names, file_names, KeepsRules, FunctionKeepsRules, FunctionsKeepRules}
 use Rattle.loom_lang.specs.FileItems.{source_of_items}
-use Rattle.loom_lang.specs.Refusal.{line_if, unknown_lines, miscounted_lines, main_lines, locals_at, over, shared_lines, lines_of_reason, IsFaultless}
-use Rattle.loom_lang.specs.Program.{IsText}
+use Rattle.loom_lang.specs.Refusal.{line_if, unknown_lines, miscounted_lines, main_lines, locals_at, first_excess, shared_lines, lines_of_reason, IsFaultless}
+use Rattle.loom_lang.specs.Program.{IsTextOf}
 use Rattle.loom_lang.proofs.WellFormed.{IsFormedFunction, HasForm, text_formed}
 use Rattle.loom_lang.proofs.Empty.{is_empty, empty_append, none_among, among_none}
 use Rattle.loom_lang.proofs.Distinct.{apart_nil, distinct_behind}
@@ -40,7 +40,7 @@ abbrev params_in : Function → List ℕ
 params_in f = line_if (nat_lt param_limit (length f.params)) f.line
 
 abbrev over_in : Function → List ℕ
-over_in f = over local_limit (map (λ (d : Local). d.line) (locals_at f))
+over_in f = first_excess local_limit (map (λ (d : Local). d.line) (locals_at f))
 
 params_kept : (f : Function) → is_empty (params_in f) ≡ true → length f.params ≤ param_limit
 params_kept f h = ltb-false param_limit (length f.params) (go (nat_lt param_limit (length f.params)) h)
@@ -88,7 +88,7 @@ no_main_kept true l h = refl
 no_main_kept false l h = cc
 
 -- Items of a text without a fault keep the rules.
-pub faultless_lawful : (bytes : List ℕ) (items : List FileItem) (last : ℕ) → IsText bytes items → IsFaultless items last → KeepsRules (source_of_items items)
+pub faultless_lawful : (bytes : List ℕ) (items : List FileItem) (last : ℕ) → IsTextOf bytes items → IsFaultless items last → KeepsRules (source_of_items items)
 faultless_lawful bytes items last text h =
     let p : Source = source_of_items items in
     let form : HasForm p = text_formed bytes items text in

@@ -8,7 +8,7 @@ use Rattle.loom_lang.specs.declared.refusal.Reason.{Reason}
 use Rattle.loom_lang.specs.declared.refusal.Reason.TheVariants as reason
 use Rattle.loom_lang.specs.declared.refusal.LangRefusal.{LangRefusal}
 use Rattle.loom_lang.specs.Refusal.{rank, lines_of_reason, IsAmong, IsFaultless, IsFirstFault}
-use Rattle.loom_lang.specs.Fault.{is_before, sooner, noted, noted_all, reasons}
+use Rattle.loom_lang.specs.Fault.{is_before, sooner, behind_faults, noted_all, reasons}
 
 -- the line and the reason of a fault stand at this one or behind it
 abbrev IsAtOrBehind : LangRefusal → ℕ → Reason → Type 0
@@ -93,14 +93,14 @@ least_of_same Is Are (Some f) there back h = record { stands = there f.line f.re
 abbrev OrAmong : (ℕ → Reason → Type 0) → Reason → List ℕ → ℕ → Reason → Type 0
 OrAmong Is why ls l r = Is l r ⊎ (IsAmong l ls × (r ≡ why))
 
-noted_least : (Is : ℕ → Reason → Type 0) (first : Option LangRefusal) (why : Reason) (ls : List ℕ) → AreLeast Is first → AreLeast (OrAmong Is why ls) (noted first why ls)
+noted_least : (Is : ℕ → Reason → Type 0) (first : Option LangRefusal) (why : Reason) (ls : List ℕ) → AreLeast Is first → AreLeast (OrAmong Is why ls) (behind_faults first why ls)
 noted_least Is first why [] h = least_of_same Is (OrAmong Is why []) first (λ l r x. inl x) back h
   where
     back : (l : ℕ) (r : Reason) → OrAmong Is why [] l r → Is l r
     back l r (inl x) = x
     back l r (inr x) = absurd x.0
 noted_least Is first why (k ∷ ls) h =
-    least_of_same (OrAmong (Or Is k why) why ls) (OrAmong Is why (k ∷ ls)) (noted first why (k ∷ ls)) there back
+    least_of_same (OrAmong (Or Is k why) why ls) (OrAmong Is why (k ∷ ls)) (behind_faults first why (k ∷ ls)) there back
     (noted_least (Or Is k why) (Some (sooner first (record { line = k; reason = why }))) why ls (sooner_least Is first (record { line = k; reason = why }) h))
   where
     there : (l : ℕ) (r : Reason) → OrAmong (Or Is k why) why ls l r → OrAmong Is why (k ∷ ls) l r
@@ -130,7 +130,7 @@ all_least Is items last first [] h = least_of_same Is (OrFound Is items last [])
 all_least Is items last first (why ∷ whys) h =
     let found : List ℕ = lines_of_reason items last why in
     least_of_same (OrFound (OrAmong Is why found) items last whys) (OrFound Is items last (why ∷ whys)) (noted_all items last first (why ∷ whys)) there back
-    (all_least (OrAmong Is why found) items last (noted first why found) whys (noted_least Is first why found h))
+    (all_least (OrAmong Is why found) items last (behind_faults first why found) whys (noted_least Is first why found h))
   where
     there : (l : ℕ) (r : Reason) → OrFound (OrAmong Is why (lines_of_reason items last why)) items last whys l r → OrFound Is items last (why ∷ whys) l r
     there l r (inl (inl x)) = inl x

@@ -9,9 +9,9 @@ use Rattle.loom_tree.specs.declared.item.Sema.{Sema}
 use Rattle.loom_tree.specs.Tree.{Body, end, simple, if_, while_, Function, FileItem, word, mutex, sema, func, Source}
 use Rattle.loom_lang.specs.declared.local.Local.{Local}
 use Rattle.loom_lang.specs.Limits.{cell_limit}
-use Rattle.loom_lang.specs.Rules.{is_in, is_distinct, is_function, takes, knows, knows_simple, knows_body, counts_simple, counts_body, locals_of, is_ascending, shared_names, cells_of, cell_count}
+use Rattle.loom_lang.specs.Rules.{is_in, is_distinct, is_function, takes, knows, knows_simple, knows_body, counts_simple, counts_body, locals_of, is_ascending, shared_names, cells_in, cell_count}
 use Rattle.loom_lang.specs.FileItems.{source_of_items}
-use Rattle.loom_lang.specs.Refusal.{line_if, second_lines, unknown_lines, miscounted_lines, locals_at, over, shared_lines, cells_over}
+use Rattle.loom_lang.specs.Refusal.{line_if, second_lines, unknown_lines, miscounted_lines, locals_at, first_excess, shared_lines, cells_over}
 use Rattle.loom_lang.proofs.Empty.{is_empty, empty_append, empty_line_if}
 use Rattle.loom_lang.proofs.Repetition.{locals_names}
 
@@ -109,14 +109,14 @@ taken_fit x n (f ∷ fs) d h =
 
 -- limits
 
-pub over_kept : (most : ℕ) (ls : List ℕ) → is_empty (over most ls) ≡ true → length ls ≤ most
+pub over_kept : (most : ℕ) (ls : List ℕ) → is_empty (first_excess most ls) ≡ true → length ls ≤ most
 over_kept most ls h = let d : length (drop most ls) ≡ 0 = go (drop most ls) h in omega (arith, length-drop most ls)
   where
     go : (xs : List ℕ) → is_empty (take 1 xs) ≡ true → length xs ≡ 0
     go [] k = refl
     go (x ∷ xs) k = cc
 
-pub kept_over : (most : ℕ) (ls : List ℕ) → length ls ≤ most → is_empty (over most ls) ≡ true
+pub kept_over : (most : ℕ) (ls : List ℕ) → length ls ≤ most → is_empty (first_excess most ls) ≡ true
 kept_over most ls h = ap (λ (z : List ℕ). is_empty (take 1 z)) (nil_from_length (drop most ls) (omega (arith, length-drop most ls)))
 
 pub local_count : (f : Function) → length (map (λ (d : Local). d.line) (locals_at f)) ≡ length (locals_of f)
@@ -139,11 +139,11 @@ shared_count (func f ∷ is) = shared_count is
 
 pub cells_kept : (before : ℕ) (items : List FileItem) → before ≤ cell_limit → is_empty (cells_over before items) ≡ true → before + cell_count (source_of_items items).words ≤ cell_limit
 cells_kept before [] b h = omega arith
-cells_kept before (word l w ∷ is) b h = go (nat_lt cell_limit (before + cells_of w)) refl h (cells_kept (before + cells_of w) is)
+cells_kept before (word l w ∷ is) b h = go (nat_lt cell_limit (before + cells_in w)) refl h (cells_kept (before + cells_in w) is)
   where
-    go : (t : Bool) → nat_lt cell_limit (before + cells_of w) ≡ t → is_empty (cond t (l ∷ []) (cells_over (before + cells_of w) is)) ≡ true → (before + cells_of w ≤ cell_limit → is_empty (cells_over (before + cells_of w) is) ≡ true → before + cells_of w + cell_count (source_of_items is).words ≤ cell_limit) → before + (cells_of w + cell_count (source_of_items is).words) ≤ cell_limit
+    go : (t : Bool) → nat_lt cell_limit (before + cells_in w) ≡ t → is_empty (cond t (l ∷ []) (cells_over (before + cells_in w) is)) ≡ true → (before + cells_in w ≤ cell_limit → is_empty (cells_over (before + cells_in w) is) ≡ true → before + cells_in w + cell_count (source_of_items is).words ≤ cell_limit) → before + (cells_in w + cell_count (source_of_items is).words) ≤ cell_limit
     go true e k g = cc
-    go false e k g = let r : before + cells_of w + cell_count (source_of_items is).words ≤ cell_limit = g (ltb-false cell_limit (before + cells_of w) e) k in omega arith
+    go false e k g = let r : before + cells_in w + cell_count (source_of_items is).words ≤ cell_limit = g (ltb-false cell_limit (before + cells_in w) e) k in omega arith
 cells_kept before (mutex l x ∷ is) b h = cells_kept before is b h
 cells_kept before (sema l s ∷ is) b h = cells_kept before is b h
 cells_kept before (func f ∷ is) b h = cells_kept before is b h
@@ -151,7 +151,7 @@ cells_kept before (func f ∷ is) b h = cells_kept before is b h
 pub kept_cells : (before : ℕ) (items : List FileItem) → before + cell_count (source_of_items items).words ≤ cell_limit → is_empty (cells_over before items) ≡ true
 kept_cells before [] h = refl
 kept_cells before (word l w ∷ is) h =
-    ap (λ t. is_empty (cond t (l ∷ []) (cells_over (before + cells_of w) is))) (le-ltb cell_limit (before + cells_of w) (omega arith)) ∙ kept_cells (before + cells_of w) is (omega arith)
+    ap (λ t. is_empty (cond t (l ∷ []) (cells_over (before + cells_in w) is))) (le-ltb cell_limit (before + cells_in w) (omega arith)) ∙ kept_cells (before + cells_in w) is (omega arith)
 kept_cells before (mutex l x ∷ is) h = kept_cells before is h
 kept_cells before (sema l s ∷ is) h = kept_cells before is h
 kept_cells before (func f ∷ is) h = kept_cells before is h

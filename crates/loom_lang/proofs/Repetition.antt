@@ -7,7 +7,7 @@ use Rattle.loom_lang.specs.declared.refusal.Reason.{Reason}
 use Rattle.loom_lang.specs.declared.refusal.LangRefusal.{LangRefusal}
 use Rattle.loom_lang.specs.Rules.{is_in, let_names, lets, locals_of}
 use Rattle.loom_lang.specs.Refusal.{line_if, at_line, lets_at, locals_at, repeated, twice_lines}
-use Rattle.loom_lang.specs.Fault.{names_of, name_of, line_of, locals_in, noted}
+use Rattle.loom_lang.specs.Fault.{names_of, name_of, line_of, locals_in, behind_faults}
 use Rattle.loom_lang.proofs.Distinct.{AreSame, same_swapped, same_append, same_more}
 use Rattle.loom_lang.proofs.Faults.{noted_on, drop_at}
 
@@ -56,15 +56,15 @@ twice_same (i ∷ is) xs ys ls ms h g =
 
 -- the steps of walks, which put names and locals behind those before
 
-pub repeated_on : (first new : Option LangRefusal) (why : Reason) (names : List (List ℕ)) (locals : List Local) (i : ℕ) (d : Local) → i < length locals → d ≡ get_or locals i d → new ≡ noted first why (line_if (is_in d.name (names ++ names_of (take i locals))) d.line) → noted new why (repeated (names ++ names_of (take (i + 1) locals)) (drop (i + 1) locals)) ≡ noted first why (repeated (names ++ names_of (take i locals)) (drop i locals))
+pub repeated_on : (first new : Option LangRefusal) (why : Reason) (names : List (List ℕ)) (locals : List Local) (i : ℕ) (d : Local) → i < length locals → d ≡ get_or locals i d → new ≡ behind_faults first why (line_if (is_in d.name (names ++ names_of (take i locals))) d.line) → behind_faults new why (repeated (names ++ names_of (take (i + 1) locals)) (drop (i + 1) locals)) ≡ behind_faults first why (repeated (names ++ names_of (take i locals)) (drop i locals))
 repeated_on first new why names locals i d l e h =
     let before : List (List ℕ) = names_of (take i locals) in
     let more : names_of (take (i + 1) locals) ≡ before ++ d.name ∷ [] = ap names_of (take_more locals i d l ∙ ap (λ z. take i locals ++ z ∷ []) (sym e)) ∙ map-append _ (take i locals) (d ∷ []) in
     let same : AreSame (names ++ names_of (take (i + 1) locals)) (d.name ∷ (names ++ before)) = λ x. ap (λ z. is_in x (names ++ z)) more ∙ ap (is_in x) (sym (append_assoc names before (d.name ∷ []))) ∙ same_swapped (names ++ before) (d.name ∷ []) x in
-    ap (noted new why) (repeated_same (drop (i + 1) locals) _ _ same)
+    ap (behind_faults new why) (repeated_same (drop (i + 1) locals) _ _ same)
     ∙ noted_on first new why (line_if (is_in d.name (names ++ before)) d.line) _ _ (ap (repeated (names ++ before)) (drop_at locals i d l e)) h
 
-pub twice_on : (first new : Option LangRefusal) (why : Reason) (names more : List (List ℕ)) (locals others : List Local) (i : FileItem) (is all : List FileItem) → all ≡ i ∷ is → more ≡ names ++ name_of i ∷ [] → others ≡ locals ++ locals_in i → new ≡ noted first why (line_if (is_in (name_of i) (names ++ names_of locals)) (line_of i) ++ repeated more (locals_in i)) → noted new why (twice_lines more (names_of others) is) ≡ noted first why (twice_lines names (names_of locals) all)
+pub twice_on : (first new : Option LangRefusal) (why : Reason) (names more : List (List ℕ)) (locals others : List Local) (i : FileItem) (is all : List FileItem) → all ≡ i ∷ is → more ≡ names ++ name_of i ∷ [] → others ≡ locals ++ locals_in i → new ≡ behind_faults first why (line_if (is_in (name_of i) (names ++ names_of locals)) (line_of i) ++ repeated more (locals_in i)) → behind_faults new why (twice_lines more (names_of others) is) ≡ behind_faults first why (twice_lines names (names_of locals) all)
 twice_on first new why names more locals others i is all e m o h =
     let own : List (List ℕ) = names_of (locals_in i) in
     let head : List ℕ = line_if (is_in (name_of i) (names ++ names_of locals)) (line_of i) in

@@ -11,19 +11,19 @@ use Rattle.loom_lang.specs.declared.refusal.Reason.{Reason}
 use Rattle.loom_lang.specs.declared.refusal.Reason.TheVariants as reason
 use Rattle.loom_lang.specs.FileItems.{source_of_items}
 use Rattle.loom_lang.specs.Rules.{KeepsRules}
-use Rattle.loom_lang.specs.Program.{IsText, IsProgram}
-use Rattle.loom_lang.specs.Refusal.{IsFaulty, IsRefusedProgram}
+use Rattle.loom_lang.specs.Program.{IsTextOf, IsProgram}
+use Rattle.loom_lang.specs.Refusal.{IsFaultyProgram, IsRefusedProgram}
 use Rattle.loom_lang.specs.Laws.{HasOneProgram}
 use Rattle.loom_lang.proofs.Faultless.{lawful_faultless}
 
 -- all texts of the bytes are of these tokens
-pub text_tokens : (bytes : List ℕ) (ps : List LineToken) (items : List FileItem) → AreTokens bytes ps → IsText bytes items → IsFile ps items
+pub text_tokens : (bytes : List ℕ) (ps : List LineToken) (items : List FileItem) → AreTokens bytes ps → IsTextOf bytes items → IsFile ps items
 text_tokens bytes ps items l t = let P : List LineToken → Type 0 = λ z. IsFile z items in subst P (one_list_of_tokens bytes t.tokens ps t.lexed l) t.file
 
-pub one_text : (bytes : List ℕ) (a b : List FileItem) → IsText bytes a → IsText bytes b → a ≡ b
+pub one_text : (bytes : List ℕ) (a b : List FileItem) → IsTextOf bytes a → IsTextOf bytes b → a ≡ b
 one_text bytes a b s t = one_file s.tokens a b s.file (text_tokens bytes s.tokens b s.lexed t)
 
-pub program_of_text : (bytes : List ℕ) (items : List FileItem) (q : Source) → IsText bytes items → IsProgram bytes q → source_of_items items ≡ q
+pub program_of_text : (bytes : List ℕ) (items : List FileItem) (q : Source) → IsTextOf bytes items → IsProgram bytes q → source_of_items items ≡ q
 program_of_text bytes items q t h = ap source_of_items (one_text bytes items h.items t h.text) ∙ h.gathered
 
 pub one_program : HasOneProgram
@@ -42,7 +42,7 @@ pub no_program_of_tokens : (bytes : List ℕ) (ps : List LineToken) (n : ℕ) �
 no_program_of_tokens bytes ps n l r q h = no_file ps n h.items r (text_tokens bytes ps h.items l h.text)
 
 -- bytes that are in the grammar and break the rules are no program
-faulty_no_program : (bytes : List ℕ) (line : ℕ) (why : Reason) → IsFaulty bytes line why → (q : Source) → IsProgram bytes q → ⊥
+faulty_no_program : (bytes : List ℕ) (line : ℕ) (why : Reason) → IsFaultyProgram bytes line why → (q : Source) → IsProgram bytes q → ⊥
 faulty_no_program bytes line why f q h =
     lawful_faultless f.items (last_line bytes) (subst KeepsRules (sym (program_of_text bytes f.items q f.text h)) h.lawful) line why f.fault.stands
 

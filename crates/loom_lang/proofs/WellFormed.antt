@@ -12,11 +12,11 @@ use Rattle.loom_lexer.specs.Name.{IsName, IsProper}
 use Rattle.loom_lexer.proofs.Proper.{AreProper, tokens_proper}
 use Rattle.loom_expression.specs.Text as expression
 use Rattle.loom_expression.specs.Text.{Text, tokens, node_limit, IsWritten}
-use Rattle.loom_syntax.specs.File.{Mark, on, at, FitsMark, FitMarks, Block, end, simple, if_, if_else, while_, none, plus, minus, Declaration, ItemForm, declared, func, behind_commas, with_commas, in_parens, right_tokens, simple_tokens, test_tokens, declaration_tokens, head_tokens, begun, ended, in_braces, block_marks, item_marks, IsRight, IsSimple, IsBlock, IsDeclaration, IsItem, right_tree, simple_tree, block_tree, declaration_tree, item_tree, IsFile}
+use Rattle.loom_syntax.specs.File.{Mark, on, at, FitsMark, FitMarks, Block, end, simple, if_, if_else, while_, none, plus, minus, Declaration, ItemForm, declared, func, behind_commas, with_commas, in_parens, right_tokens, simple_tokens, test_tokens, declaration_tokens, head_tokens, begun, with_semicolon, in_braces, block_marks, item_marks, IsRight, IsSimple, IsBlock, IsDeclaration, IsItem, right_tree, simple_tree, block_tree, declaration_tree, item_tree, IsFile}
 use Rattle.loom_lang.specs.WellFormed.{node_count, HasProperNumbers, IsWellFormed, IsWellFormedRight, IsWellFormedStatement, IsWellFormedBlock, IsWellFormedWord, IsWellFormedSema}
 use Rattle.loom_lang.specs.Rules.{let_names, lets, locals_of, file_names}
 use Rattle.loom_lang.specs.FileItems.{source_of_items}
-use Rattle.loom_lang.specs.Program.{IsText}
+use Rattle.loom_lang.specs.Program.{IsTextOf}
 
 -- lists
 
@@ -61,8 +61,8 @@ begun_proper : (l : ℕ) (ts : List Token) → AreProperMarks (begun l ts) → A
 begun_proper l [] a = tt
 begun_proper l (t ∷ ts) a = (a.0, on_proper ts a.1)
 
-ended_proper : (l : ℕ) (ts : List Token) → AreProperMarks (begun l (ended ts)) → AreProperTokens ts
-ended_proper l ts a = (parts IsProper ts _ (begun_proper l (ended ts) a)).0
+ended_proper : (l : ℕ) (ts : List Token) → AreProperMarks (begun l (with_semicolon ts)) → AreProperTokens ts
+ended_proper l ts a = (parts IsProper ts _ (begun_proper l (with_semicolon ts) a)).0
 
 parens_proper : (ts : List Token) → AreProperTokens (in_parens ts) → AreProperTokens ts
 parens_proper ts a = (parts IsProper ts _ a.1).0
@@ -152,7 +152,7 @@ record IsFormed (n : ℕ) (b : Body) : Type 0 where
 block_formed : (n : ℕ) (b : Block) → IsBlock n b → AreProperMarks (block_marks b) → IsFormed n (block_tree b)
 block_formed n end h a = record { form = tt; names = tt }
 block_formed n (simple l s rest) h a =
-    let m = parts IsProperMark (begun l (ended (simple_tokens s))) (block_marks rest) a in
+    let m = parts IsProperMark (begun l (with_semicolon (simple_tokens s))) (block_marks rest) a in
     let own : AreProperTokens (simple_tokens s) = ended_proper l (simple_tokens s) m.0 in
     let behind = block_formed n rest h.1 m.1 in
     record {
@@ -276,7 +276,7 @@ form_of p k =
       functions = k.functions;
     }
 
-pub text_formed : (bytes : List ℕ) (items : List tree.FileItem) → IsText bytes items → HasForm (source_of_items items)
+pub text_formed : (bytes : List ℕ) (items : List tree.FileItem) → IsTextOf bytes items → HasForm (source_of_items items)
 text_formed bytes items h =
     let f : IsFile h.tokens items = h.file in
     let marks : AreProperMarks (flat_map item_marks f.written) = marks_proper _ h.tokens f.spelled (tokens_proper bytes h.tokens h.lexed) in

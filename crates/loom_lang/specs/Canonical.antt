@@ -26,18 +26,18 @@ operator o.Div = codes "/"
 operator o.Rem = codes "%"
 
 -- Parentheses stand round the operands that have two operands of their own, and round nothing else.
-abbrev pub operand : Expression → List ℕ → List ℕ
-operand (bin o a b) text = codes "(" ++ text ++ codes ")"
-operand _ text = text
+abbrev pub operand_text : Expression → List ℕ → List ℕ
+operand_text (bin o a b) text = codes "(" ++ text ++ codes ")"
+operand_text _ text = text
 
 -- A unary operator stands directly before its operand, a binary one between spaces.
 abbrev pub expression_text : Expression → List ℕ
 expression_text (num n) = signed_decimal n
 expression_text (var x) = x
 expression_text (cell x i) = x ++ codes "[" ++ expression_text i ++ codes "]"
-expression_text (neg a) = codes "-" ++ operand a (expression_text a)
-expression_text (inverse a) = codes "!" ++ operand a (expression_text a)
-expression_text (bin o a b) = operand a (expression_text a) ++ codes " " ++ operator o ++ codes " " ++ operand b (expression_text b)
+expression_text (neg a) = codes "-" ++ operand_text a (expression_text a)
+expression_text (inverse a) = codes "!" ++ operand_text a (expression_text a)
+expression_text (bin o a b) = operand_text a (expression_text a) ++ codes " " ++ operator o ++ codes " " ++ operand_text b (expression_text b)
 
 -- Statements
 

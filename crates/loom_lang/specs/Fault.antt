@@ -18,14 +18,14 @@ sooner None f = f
 sooner (Some g) f = cond (is_before f g) f g
 
 -- behind faults for one reason at these lines
-abbrev pub noted : Option LangRefusal → Reason → List ℕ → Option LangRefusal
-noted first why [] = first
-noted first why (l ∷ ls) = noted (Some (sooner first (record { line = l; reason = why }))) why ls
+abbrev pub behind_faults : Option LangRefusal → Reason → List ℕ → Option LangRefusal
+behind_faults first why [] = first
+behind_faults first why (l ∷ ls) = behind_faults (Some (sooner first (record { line = l; reason = why }))) why ls
 
 -- behind all faults for these reasons
 abbrev pub noted_all : List FileItem → ℕ → Option LangRefusal → List Reason → Option LangRefusal
 noted_all items last first [] = first
-noted_all items last first (why ∷ whys) = noted_all items last (noted first why (lines_of_reason items last why)) whys
+noted_all items last first (why ∷ whys) = noted_all items last (behind_faults first why (lines_of_reason items last why)) whys
 
 -- the reasons, in the order in which they are looked for
 abbrev pub reasons : List Reason

@@ -4,7 +4,7 @@ use Rattle.std.specs.Cmp.Lexicographic.{pointwise}
 use Rattle.loom_tree.specs.declared.item.Word.{Word}
 use Rattle.loom_tree.specs.declared.item.Sema.{Sema}
 use Rattle.loom_tree.specs.Tree.{Function, Source}
-use Rattle.loom_lang.specs.Rules.{cells_of}
+use Rattle.loom_lang.specs.Rules.{cells_in}
 
 -- where a name first stands in a list
 abbrev pub index_of : List ℕ → List (List ℕ) → Option ℕ
@@ -19,7 +19,7 @@ pub record Cells : Type 0 where
 -- A word's or an array's cells have the numbers behind those of the `shared` items that stand before it.
 abbrev pub cells_from : ℕ → List Word → List ℕ → Option Cells
 cells_from n [] x = None
-cells_from n (w ∷ ws) x = if pointwise ◌==◌ w.name x then Some (record { first = n; count = w.cells }) else cells_from (n + cells_of w) ws x
+cells_from n (w ∷ ws) x = if pointwise ◌==◌ w.name x then Some (record { first = n; count = w.cells }) else cells_from (n + cells_in w) ws x
 
 abbrev pub cells_named : Source → List ℕ → Option Cells
 cells_named p x = cells_from 0 p.words x

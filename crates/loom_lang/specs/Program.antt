@@ -8,7 +8,7 @@ use Rattle.loom_lang.specs.Rules.{KeepsRules}
 use Rattle.loom_lang.specs.FileItems.{source_of_items}
 
 -- the bytes are a text of these items
-pub record IsText (bytes : List ℕ) (items : List FileItem) : Type 0 where
+pub record IsTextOf (bytes : List ℕ) (items : List FileItem) : Type 0 where
   pub tokens : List LineToken
   pub lexed : AreTokens bytes tokens
   pub file : IsFile tokens items
@@ -16,6 +16,6 @@ pub record IsText (bytes : List ℕ) (items : List FileItem) : Type 0 where
 -- The bytes are a program: a text of the grammar, whose items keep the rules on names and the limits.
 pub record IsProgram (bytes : List ℕ) (p : Source) : Type 0 where
   pub items : List FileItem
-  pub text : IsText bytes items
+  pub text : IsTextOf bytes items
   pub gathered : source_of_items items ≡ p
   pub lawful : KeepsRules p

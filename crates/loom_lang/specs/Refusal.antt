@@ -10,9 +10,9 @@ use Rattle.loom_lang.specs.declared.refusal.Which.TheVariants as which
 use Rattle.loom_lang.specs.declared.refusal.Reason.{Reason}
 use Rattle.loom_lang.specs.declared.refusal.Reason.TheVariants as reason
 use Rattle.loom_lang.specs.Limits.{function_limit, param_limit, local_limit, name_limit, cell_limit, statement_limit}
-use Rattle.loom_lang.specs.Rules.{is_in, is_function, knows, knows_simple, counts_simple, let_names, locals_of, lines_of, cells_of}
+use Rattle.loom_lang.specs.Rules.{is_in, is_function, knows, knows_simple, counts_simple, let_names, locals_of, lines_of, cells_in}
 use Rattle.loom_lang.specs.FileItems.{source_of_items}
-use Rattle.loom_lang.specs.Program.{IsText}
+use Rattle.loom_lang.specs.Program.{IsTextOf}
 
 -- The lines at which each reason stands. That of a statement is the one on which it begins.
 
@@ -72,8 +72,8 @@ twice_lines names locals (sema l s ∷ is) = line_if (is_in s.name (names ++ loc
 twice_lines names locals (func f ∷ is) = line_if (is_in f.name (names ++ locals)) f.line ++ (repeated (f.name ∷ names) (locals_at f) ++ twice_lines (f.name ∷ names) (locals_of f ++ locals) is)
 
 -- `TooMany`: the first beyond the limit
-abbrev pub over : ℕ → List ℕ → List ℕ
-over most lines = take 1 (drop most lines)
+abbrev pub first_excess : ℕ → List ℕ → List ℕ
+first_excess most lines = take 1 (drop most lines)
 
 -- the lines of the words, arrays, mutexes and semaphores
 abbrev pub shared_lines : List FileItem → List ℕ
@@ -86,7 +86,7 @@ shared_lines (func f ∷ is) = shared_lines is
 -- the first word or array with which there are more cells than there may be, so many being before it
 abbrev pub cells_over : ℕ → List FileItem → List ℕ
 cells_over before [] = []
-cells_over before (word l w ∷ is) = cond (nat_lt cell_limit (before + cells_of w)) (l ∷ []) (cells_over (before + cells_of w) is)
+cells_over before (word l w ∷ is) = cond (nat_lt cell_limit (before + cells_in w)) (l ∷ []) (cells_over (before + cells_in w) is)
 cells_over before (_ ∷ is) = cells_over before is
 
 -- The lines at which a reason stands in the items of a file that ends on this line. Where the grammar is left is told by the tokens.
@@ -97,12 +97,12 @@ lines_of_reason items last reason.UnknownName = flat_map (λ (f : Function). unk
 lines_of_reason items last reason.NameTwice = twice_lines [] [] items
 lines_of_reason items last reason.WrongCount = main_lines (source_of_items items) ++ flat_map (λ (f : Function). miscounted_lines (source_of_items items) f.body) (source_of_items items).funcs
 lines_of_reason items last reason.NoMain = line_if (not (is_function (source_of_items items).funcs (codes "main"))) last
-lines_of_reason items last (reason.TooMany which.Functions) = over function_limit (map (λ (f : Function). f.line) (source_of_items items).funcs)
+lines_of_reason items last (reason.TooMany which.Functions) = first_excess function_limit (map (λ (f : Function). f.line) (source_of_items items).funcs)
 lines_of_reason items last (reason.TooMany which.Params) = flat_map (λ (f : Function). line_if (nat_lt param_limit (length f.params)) f.line) (source_of_items items).funcs
-lines_of_reason items last (reason.TooMany which.Locals) = flat_map (λ (f : Function). over local_limit (map (λ (d : Local). d.line) (locals_at f))) (source_of_items items).funcs
-lines_of_reason items last (reason.TooMany which.Names) = over name_limit (shared_lines items)
+lines_of_reason items last (reason.TooMany which.Locals) = flat_map (λ (f : Function). first_excess local_limit (map (λ (d : Local). d.line) (locals_at f))) (source_of_items items).funcs
+lines_of_reason items last (reason.TooMany which.Names) = first_excess name_limit (shared_lines items)
 lines_of_reason items last (reason.TooMany which.Cells) = cells_over 0 items
-lines_of_reason items last (reason.TooMany which.Statements) = over statement_limit (lines_of (source_of_items items))
+lines_of_reason items last (reason.TooMany which.Statements) = first_excess statement_limit (lines_of (source_of_items items))
 
 -- The order of the reasons, and of what there is too much of. It is an order only: `TooMany` is the seventh reason whatever there is too much of.
 abbrev pub rank : Reason → ℕ
@@ -146,12 +146,12 @@ pub record IsNoFile (bytes : List ℕ) (line : ℕ) : Type 0 where
   pub stands : line ≡ line_at (last_line bytes) (slice_get tokens token)
 
 -- The bytes are in the grammar, and the rules are broken.
-pub record IsFaulty (bytes : List ℕ) (line : ℕ) (why : Reason) : Type 0 where
+pub record IsFaultyProgram (bytes : List ℕ) (line : ℕ) (why : Reason) : Type 0 where
   pub items : List FileItem
-  pub text : IsText bytes items
+  pub text : IsTextOf bytes items
   pub fault : IsFirstFault items (last_line bytes) line why
 
 -- The bytes are no program, for this reason at this line.
 abbrev pub IsRefusedProgram : List ℕ → ℕ → Reason → Type 0
 IsRefusedProgram bytes line reason.Syntax = IsNoFile bytes line
-IsRefusedProgram bytes line why = IsFaulty bytes line why
+IsRefusedProgram bytes line why = IsFaultyProgram bytes line why

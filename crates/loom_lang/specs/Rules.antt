@@ -135,14 +135,14 @@ abbrev pub locals_of : Function → List (List ℕ)
 locals_of f = f.params ++ lets f.body
 
 -- the lines on which statements begin, in the order of the text
-abbrev pub lines : Body → List ℕ
-lines end = []
-lines (simple l s rest) = l ∷ lines rest
-lines (if_ l e a b rest) = l ∷ (lines a ++ (lines b ++ lines rest))
-lines (while_ l e a rest) = l ∷ (lines a ++ lines rest)
+abbrev pub statement_lines : Body → List ℕ
+statement_lines end = []
+statement_lines (simple l s rest) = l ∷ statement_lines rest
+statement_lines (if_ l e a b rest) = l ∷ (statement_lines a ++ (statement_lines b ++ statement_lines rest))
+statement_lines (while_ l e a rest) = l ∷ (statement_lines a ++ statement_lines rest)
 
 abbrev pub lines_of : Source → List ℕ
-lines_of p = flat_map (λ (f : Function). lines f.body) p.funcs
+lines_of p = flat_map (λ (f : Function). statement_lines f.body) p.funcs
 
 -- each is above the one before it
 abbrev pub is_ascending : ℕ → List ℕ → Bool
@@ -157,8 +157,8 @@ abbrev pub file_names : Source → List (List ℕ)
 file_names p = shared_names p ++ map (λ (f : Function). f.name) p.funcs
 
 -- how many cells the words and arrays have, a plain word one
-abbrev pub cells_of : Word → ℕ
-cells_of w = cells_or_one w.cells
+abbrev pub cells_in : Word → ℕ
+cells_in w = cells_or_one w.cells
   where
     cells_or_one : Option ℕ → ℕ
     cells_or_one None = 1
@@ -166,7 +166,7 @@ cells_of w = cells_or_one w.cells
 
 abbrev pub cell_count : List Word → ℕ
 cell_count [] = 0
-cell_count (w ∷ ws) = cells_of w + cell_count ws
+cell_count (w ∷ ws) = cells_in w + cell_count ws
 
 -- what is asked of each function by itself
 pub record FunctionKeepsRules (p : Source) (f : Function) : Type 0 where

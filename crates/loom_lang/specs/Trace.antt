@@ -8,7 +8,7 @@ use Rattle.loom_tree.specs.Tree.{Expression, num, var, cell, neg, inverse, bin, 
 use Rattle.loom_tree.specs.Tree as tree
 use Rattle.loom_lang.specs.Rules.{lets}
 use Rattle.loom_lang.specs.Numbers.{Cells, cells_named, mutex_number, sema_number, function_number}
-use Rattle.loom_lang.specs.Values.{is_zero, applied, divides, negated, inverted}
+use Rattle.loom_lang.specs.Values.{is_zero, op_value, divides, negated, inverted}
 
 -- the locals of a frame and their values
 abbrev pub Locals : Type 0
@@ -99,8 +99,8 @@ pub record Thread : Type 1 where
   pub program : Source
   pub stopped : Lists
 
-abbrev pub trapped : Thread → ℕ → Cause → Lists
-trapped t line c = emit (made line (trap c)) t.stopped
+abbrev pub trap_lists : Thread → ℕ → Cause → Lists
+trap_lists t line c = emit (made line (trap c)) t.stopped
 
 -- with the number of a name; in a program each name has one
 abbrev pub numbered : Option ℕ → (ℕ → Lists) → Lists
@@ -129,29 +129,29 @@ variable t line None x more = reading_word line (cells_named t.program x) more
 -- with the number of an array's cell, where the index is one of the array
 abbrev pub within : Thread → ℕ → ℕ → Option ℕ → ℤ → (ℕ → Lists) → Lists
 within t line first None v more = broken
-within t line first (Some n) (pos i) more = choice (nat_lt i n) (more (first + i)) (trapped t line index)
-within t line first (Some n) (negsuc i) more = trapped t line index
+within t line first (Some n) (pos i) more = choice (nat_lt i n) (more (first + i)) (trap_lists t line index)
+within t line first (Some n) (negsuc i) more = trap_lists t line index
 
-abbrev pub indexed : Thread → ℕ → Option Cells → ℤ → (ℕ → Lists) → Lists
-indexed t line None v more = broken
-indexed t line (Some c) v more = within t line c.first c.count v more
+abbrev pub at_index : Thread → ℕ → Option Cells → ℤ → (ℕ → Lists) → Lists
+at_index t line None v more = broken
+at_index t line (Some c) v more = within t line c.first c.count v more
 
 -- a division by 0 traps
 abbrev pub operated : Thread → ℕ → Op → ℤ → ℤ → (ℤ → Lists) → Lists
-operated t line o a b more = choice (divides o && is_zero b) (trapped t line division) (more (applied o a b))
+operated t line o a b more = choice (divides o && is_zero b) (trap_lists t line division) (more (op_value o a b))
 
 -- operands from left to right, both sides of each operator
 abbrev pub expression : Thread → ℕ → Locals → Expression → (ℤ → Lists) → Lists
 expression t line env (num n) more = more n
 expression t line env (var x) more = variable t line (value_in env x) x more
-expression t line env (cell x i) more = expression t line env i (λ v. indexed t line (cells_named t.program x) v (λ w. reading line w more))
+expression t line env (cell x i) more = expression t line env i (λ v. at_index t line (cells_named t.program x) v (λ w. reading line w more))
 expression t line env (neg a) more = expression t line env a (λ v. more (negated v))
 expression t line env (inverse a) more = expression t line env a (λ v. more (inverted v))
 expression t line env (bin o a b) more = expression t line env a (λ v. expression t line env b (λ w. operated t line o v w more))
 
-abbrev pub arguments : Thread → ℕ → Locals → List Expression → (List ℤ → Lists) → Lists
-arguments t line env [] more = more []
-arguments t line env (e ∷ es) more = expression t line env e (λ v. arguments t line env es (λ vs. more (v ∷ vs)))
+abbrev pub each_argument : Thread → ℕ → Locals → List Expression → (List ℤ → Lists) → Lists
+each_argument t line env [] more = more []
+each_argument t line env (e ∷ es) more = expression t line env e (λ v. each_argument t line env es (λ vs. more (v ∷ vs)))
 
 -- Statements
 
@@ -161,10 +161,10 @@ Calls = ℕ → ℕ → List ℤ → (ℤ → Lists) → Lists
 
 abbrev pub right : Thread → Calls → ℕ → Locals → Right Expression → (ℤ → Lists) → Lists
 right t calls line env (Right.value e) more = expression t line env e more
-right t calls line env (Right.call f es) more = arguments t line env es (λ vs. numbered (function_number t.program f) (λ n. calls line n vs more))
+right t calls line env (Right.call f es) more = each_argument t line env es (λ vs. numbered (function_number t.program f) (λ n. calls line n vs more))
 right t calls line env (Right.spawn f es) more =
-    arguments t line env es (λ vs. numbered (function_number t.program f) (λ n.
-    either (trapped t line threads) (any (λ c. emit (made line (spawn c n vs)) (more (pos c))))))
+    each_argument t line env es (λ vs. numbered (function_number t.program f) (λ n.
+    either (trap_lists t line threads) (any (λ c. emit (made line (spawn c n vs)) (more (pos c))))))
 
 abbrev pub updated : Locals → List ℕ → ℤ → Locals
 updated [] x v = []
@@ -180,24 +180,24 @@ stored t line env (Some old) x v more = more (updated env x v)
 stored t line env None x v more = writing_word line (cells_named t.program x) v (more env)
 
 -- `join` needs a thread's number
-abbrev pub joined : Thread → ℕ → ℤ → Lists → Lists
-joined t line (pos c) more = either (trapped t line (not_spawned (pos c))) (emit (made line (join c)) more)
-joined t line (negsuc c) more = trapped t line (not_spawned (negsuc c))
+abbrev pub join_of : Thread → ℕ → ℤ → Lists → Lists
+join_of t line (pos c) more = either (trap_lists t line (not_spawned (pos c))) (emit (made line (join c)) more)
+join_of t line (negsuc c) more = trap_lists t line (not_spawned (negsuc c))
 
 -- A statement that can trap by the store may give its entry or the trap.
 abbrev pub effect : Thread → Calls → ℕ → Locals → Simple Expression → (ℤ → Lists) → (Locals → Lists) → Lists
 effect t calls line env (let_ x r) ret more = right t calls line env r (λ v. stored t line env (value_in env x) x v more)
 effect t calls line env (set x r) ret more = right t calls line env r (λ v. stored t line env (value_in env x) x v more)
 effect t calls line env (set_cell x i e) ret more =
-    expression t line env i (λ a. expression t line env e (λ v. indexed t line (cells_named t.program x) a (λ w. emit (made line (write w v)) (more env))))
-effect t calls line env (Simple.call f es) ret more = arguments t line env es (λ vs. numbered (function_number t.program f) (λ n. calls line n vs (λ v. more env)))
+    expression t line env i (λ a. expression t line env e (λ v. at_index t line (cells_named t.program x) a (λ w. emit (made line (write w v)) (more env))))
+effect t calls line env (Simple.call f es) ret more = each_argument t line env es (λ vs. numbered (function_number t.program f) (λ n. calls line n vs (λ v. more env)))
 effect t calls line env (return None) ret more = emit (done line) (ret (pos 0))
 effect t calls line env (return (Some e)) ret more = expression t line env e (λ v. emit (done line) (ret v))
 effect t calls line env (tree.lock x) ret more = numbered (mutex_number t.program x) (λ m. emit (made line (lock m)) (more env))
-effect t calls line env (tree.unlock x) ret more = numbered (mutex_number t.program x) (λ m. either (trapped t line (not_held m)) (emit (made line (unlock m)) (more env)))
+effect t calls line env (tree.unlock x) ret more = numbered (mutex_number t.program x) (λ m. either (trap_lists t line (not_held m)) (emit (made line (unlock m)) (more env)))
 effect t calls line env (tree.down x) ret more = numbered (sema_number t.program x) (λ s. emit (made line (down s)) (more env))
-effect t calls line env (tree.up x) ret more = numbered (sema_number t.program x) (λ s. either (trapped t line (overflow s)) (emit (made line (up s)) (more env)))
-effect t calls line env (tree.join e) ret more = expression t line env e (λ v. joined t line v (more env))
+effect t calls line env (tree.up x) ret more = numbered (sema_number t.program x) (λ s. either (trap_lists t line (overflow s)) (emit (made line (up s)) (more env)))
+effect t calls line env (tree.join e) ret more = expression t line env e (λ v. join_of t line v (more env))
 effect t calls line env (tree.print e) ret more = expression t line env e (λ v. emit (made line (print v)) (more env))
 effect t calls line env tree.skip ret more = more env
 
@@ -245,19 +245,19 @@ framed t deeper n f vs more (Some g) =
 
 -- Calls, where so many frames more fit: the next one traps.
 abbrev pub calls_to : Thread → ℕ → ℕ → Calls
-calls_to t n zero line f vs more = trapped t line frames
+calls_to t n zero line f vs more = trap_lists t line frames
 calls_to t n (suc d) line f vs more = framed t (calls_to t n d) n f vs more (slice_get t.program.funcs f)
 
 abbrev pub frame_limit : ℕ
 frame_limit = 256
 
-abbrev pub ended : ℕ → Lists
-ended line = emit (made line end) finished
+abbrev pub thread_end : ℕ → Lists
+thread_end line = emit (made line end) finished
 
 abbrev pub thread : Source → Option Function → ℕ → List ℤ → ℕ → Lists
 thread p None f vs n = broken
 thread p (Some g) f vs n =
-    emit (made g.line begin) (calls_to (record { program = p; stopped = ended g.line }) n frame_limit g.line f vs (λ v. ended g.line))
+    emit (made g.line begin) (calls_to (record { program = p; stopped = thread_end g.line }) n frame_limit g.line f vs (λ v. thread_end g.line))
 
 -- These items are a trace of a thread of this function with these arguments, whole or broken off.
 pub record IsTrace (p : Source) (f : ℕ) (vs : List ℤ) (items : List Item) (r : Outcome) : Type 0 where

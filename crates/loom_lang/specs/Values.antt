@@ -13,21 +13,21 @@ truth true = pos 1
 truth false = pos 0
 
 -- the value of an operator; a divisor isn't 0
-abbrev pub applied : Op → ℤ → ℤ → ℤ
-applied o.Or a b = truth (not (is_zero a) || not (is_zero b))
-applied o.And a b = truth (not (is_zero a) && not (is_zero b))
-applied o.Eq a b = truth (int_eq a b)
-applied o.Ne a b = truth (not (int_eq a b))
-applied o.Lt a b = truth (int_lt a b)
-applied o.Le a b = truth (int_le a b)
-applied o.Gt a b = truth (int_lt b a)
-applied o.Ge a b = truth (int_le b a)
-applied o.Add a b = int_wrapping_add w64 a b
-applied o.Sub a b = int_wrapping_sub w64 a b
-applied o.Mul a b = int_wrapping_mul w64 a b
+abbrev pub op_value : Op → ℤ → ℤ → ℤ
+op_value o.Or a b = truth (not (is_zero a) || not (is_zero b))
+op_value o.And a b = truth (not (is_zero a) && not (is_zero b))
+op_value o.Eq a b = truth (int_eq a b)
+op_value o.Ne a b = truth (not (int_eq a b))
+op_value o.Lt a b = truth (int_lt a b)
+op_value o.Le a b = truth (int_le a b)
+op_value o.Gt a b = truth (int_lt b a)
+op_value o.Ge a b = truth (int_le b a)
+op_value o.Add a b = int_wrapping_add w64 a b
+op_value o.Sub a b = int_wrapping_sub w64 a b
+op_value o.Mul a b = int_wrapping_mul w64 a b
 -- cut towards 0; the least value by -1 is the least value, with the remainder 0
-applied o.Div a b = int_wrapping_div w64 a b
-applied o.Rem a b = int_rem a b
+op_value o.Div a b = int_wrapping_div w64 a b
+op_value o.Rem a b = int_rem a b
 
 abbrev pub negated : ℤ → ℤ
 negated v = int_wrapping_neg w64 v

@@ -6,7 +6,7 @@ ghost use Rattle.loom_lang.specs.declared.refusal.Reason.TheVariants as reason;
 ghost use Rattle.loom_lang.specs.Rules.{counts_call, counts_right};
 ghost use Rattle.loom_lang.specs.FileItems.{funcs_in, source_of_items};
 ghost use Rattle.loom_lang.specs.Refusal.{line_if, main_lines, miscounted_lines, lines_of_reason};
-ghost use Rattle.loom_lang.specs.Fault.{counts_head, noted};
+ghost use Rattle.loom_lang.specs.Fault.{counts_head, behind_faults};
 
 use crate::fault::note_if;
 use crate::names;
@@ -46,7 +46,7 @@ fn counts_head(items: &[FileItem], kind: &Kind) -> bool
 
 #[cycle(counts)]
 fn note_body(items: &[FileItem], body: &Stmts, first: &mut Option<LangRefusal>)
-    ensures { first.new ≡ noted first.old reason.WrongCount (miscounted_lines (source_of_items (items_of items.now)) (body_of body.now)) }
+    ensures { first.new ≡ behind_faults first.old reason.WrongCount (miscounted_lines (source_of_items (items_of items.now)) (body_of body.now)) }
 {
     let mut at = body;
     'walk: while let Stmts::More(stmt, rest) = at {
@@ -58,7 +58,7 @@ fn note_body(items: &[FileItem], body: &Stmts, first: &mut Option<LangRefusal>)
 #[cycle(counts)]
 #[tactic(auto, using(crate::proofs::Faults::noted_append))]
 fn note_statement(items: &[FileItem], line: u32, kind: &Kind, first: &mut Option<LangRefusal>)
-    ensures { first.new ≡ noted first.old reason.WrongCount (miscounted_lines (source_of_items (items_of items.now)) (behind line kind.now end)) }
+    ensures { first.new ≡ behind_faults first.old reason.WrongCount (miscounted_lines (source_of_items (items_of items.now)) (behind line kind.now end)) }
 {
     note_if(first, !counts_head(items, kind), line, Reason::WrongCount);
     match kind {
@@ -72,7 +72,7 @@ fn note_statement(items: &[FileItem], line: u32, kind: &Kind, first: &mut Option
 }
 
 fn note_calls_in(items: &[FileItem], item: &FileItem, first: &mut Option<LangRefusal>)
-    ensures { first.new ≡ noted first.old reason.WrongCount (flat_map (λ (f : Function). miscounted_lines (source_of_items (items_of items.now)) f.body) (funcs_in (item_of item.now))) }
+    ensures { first.new ≡ behind_faults first.old reason.WrongCount (flat_map (λ (f : Function). miscounted_lines (source_of_items (items_of items.now)) f.body) (funcs_in (item_of item.now))) }
 {
     if let FileItem::Func(f) = item {
         note_body(items, &f.body, first);
@@ -80,7 +80,7 @@ fn note_calls_in(items: &[FileItem], item: &FileItem, first: &mut Option<LangRef
 }
 
 fn note_calls(items: &[FileItem], first: &mut Option<LangRefusal>)
-    ensures { first.new ≡ noted first.old reason.WrongCount (flat_map (λ (f : Function). miscounted_lines (source_of_items (items_of items.now)) f.body) (source_of_items (items_of items.now)).funcs) }
+    ensures { first.new ≡ behind_faults first.old reason.WrongCount (flat_map (λ (f : Function). miscounted_lines (source_of_items (items_of items.now)) f.body) (source_of_items (items_of items.now)).funcs) }
 {
     'scan: for item in items {
         note_calls_in(items, item, first);
@@ -89,7 +89,7 @@ fn note_calls(items: &[FileItem], first: &mut Option<LangRefusal>)
 
 /// Notes a function `main` that has parameters.
 fn note_main_in(item: &FileItem, first: &mut Option<LangRefusal>)
-    ensures { first.new ≡ noted first.old reason.WrongCount (flat_map (λ (f : Function). line_if (pointwise ◌==◌ f.name (codes "main") && not (length f.params == 0)) f.line) (funcs_in (item_of item.now))) }
+    ensures { first.new ≡ behind_faults first.old reason.WrongCount (flat_map (λ (f : Function). line_if (pointwise ◌==◌ f.name (codes "main") && not (length f.params == 0)) f.line) (funcs_in (item_of item.now))) }
 {
     if let FileItem::Func(f) = item {
         note_if(
@@ -102,7 +102,7 @@ fn note_main_in(item: &FileItem, first: &mut Option<LangRefusal>)
 }
 
 fn note_main(items: &[FileItem], first: &mut Option<LangRefusal>)
-    ensures { first.new ≡ noted first.old reason.WrongCount (main_lines (source_of_items (items_of items.now))) }
+    ensures { first.new ≡ behind_faults first.old reason.WrongCount (main_lines (source_of_items (items_of items.now))) }
 {
     'scan: for item in items {
         note_main_in(item, first);
@@ -111,7 +111,7 @@ fn note_main(items: &[FileItem], first: &mut Option<LangRefusal>)
 
 /// Notes the wrong numbers of arguments, and each `main` with parameters.
 pub fn note_counts(items: &[FileItem], first: &mut Option<LangRefusal>)
-    ensures { first.new ≡ noted first.old reason.WrongCount (lines_of_reason (items_of items.now) 0 reason.WrongCount) }
+    ensures { first.new ≡ behind_faults first.old reason.WrongCount (lines_of_reason (items_of items.now) 0 reason.WrongCount) }
 {
     note_main(items, first);
     note_calls(items, first);

@@ -4,7 +4,7 @@ ghost use Rattle.loom_tree.specs.Tree.{items_of};
 ghost use Rattle.loom_lang.specs.declared.refusal.Reason.TheVariants as reason;
 ghost use Rattle.loom_lang.specs.declared.refusal.Which.TheVariants as which;
 ghost use Rattle.loom_lang.specs.Refusal.{second_lines, lines_of_reason, IsFaultless, IsFirstFault};
-ghost use Rattle.loom_lang.specs.Fault.{noted, noted_all, reasons};
+ghost use Rattle.loom_lang.specs.Fault.{behind_faults, noted_all, reasons};
 
 use crate::arity::note_counts;
 use crate::duplicates::note_twice;
@@ -20,7 +20,7 @@ use loom_tree::name::NoMemory;
 use std::alloc::Global;
 
 fn note_second(lines: &[u32], first: &mut Option<LangRefusal>)
-    ensures { first.new ≡ noted first.old reason.SecondOnLine (second_lines 0 lines.now) }
+    ensures { first.new ≡ behind_faults first.old reason.SecondOnLine (second_lines 0 lines.now) }
 {
     let mut before = 0;
     'scan: for line in lines {
@@ -49,7 +49,7 @@ fn note_statements(
 }
 
 fn note_no_main(items: &[FileItem], last_line: u32, first: &mut Option<LangRefusal>)
-    ensures { first.new ≡ noted first.old reason.NoMain (lines_of_reason (items_of items.now) last_line reason.NoMain) }
+    ensures { first.new ≡ behind_faults first.old reason.NoMain (lines_of_reason (items_of items.now) last_line reason.NoMain) }
 {
     note_if(
         first,

@@ -4,7 +4,7 @@ ghost use Rattle.loom_tree.specs.Tree.{item_of, items_of};
 ghost use Rattle.loom_lang.specs.declared.refusal.Reason.TheVariants as reason;
 ghost use Rattle.loom_lang.specs.Rules.{is_in};
 ghost use Rattle.loom_lang.specs.Refusal.{line_if, repeated, lines_of_reason};
-ghost use Rattle.loom_lang.specs.Fault.{names_of, name_of, line_of, locals_in, noted};
+ghost use Rattle.loom_lang.specs.Fault.{names_of, name_of, line_of, locals_in, behind_faults};
 
 use crate::fault::note_if;
 use crate::local::Local;
@@ -35,7 +35,7 @@ fn put_locals_in(alloc: Global, locals: &mut Vec<Local>, item: &FileItem) -> Res
 
 /// Notes the locals of an item that are names, or among the locals before them.
 fn note_repeated(names: &[Name], locals: &[Local], first: &mut Option<LangRefusal>)
-    ensures { first.new ≡ noted first.old reason.NameTwice (repeated names.now locals.now) }
+    ensures { first.new ≡ behind_faults first.old reason.NameTwice (repeated names.now locals.now) }
 {
     'scan: for (i, d) in locals.iter().enumerate() {
         note_if(
@@ -57,7 +57,7 @@ fn note_item(
 ) -> Result<(), NoMemory>
     ensures names { OnOk result (names.new ≡ names.old ++ name_of (item_of item.now) ∷ []) }
     ensures locals { OnOk result (locals.new.items ≡ locals.old.items ++ locals_in (item_of item.now)) }
-    ensures first { OnOk result (first.new ≡ noted first.old reason.NameTwice (line_if (is_in (name_of (item_of item.now)) (names.old ++ names_of locals.old.items)) (line_of (item_of item.now)) ++ repeated names.new (locals_in (item_of item.now)))) }
+    ensures first { OnOk result (first.new ≡ behind_faults first.old reason.NameTwice (line_if (is_in (name_of (item_of item.now)) (names.old ++ names_of locals.old.items)) (line_of (item_of item.now)) ++ repeated names.new (locals_in (item_of item.now)))) }
 {
     let name = name_of(item);
     note_if(
@@ -79,7 +79,7 @@ pub fn note_twice(
     items: &[FileItem],
     first: &mut Option<LangRefusal>,
 ) -> Result<(), NoMemory>
-    ensures { OnOk result (first.new ≡ noted first.old reason.NameTwice (lines_of_reason (items_of items.now) 0 reason.NameTwice)) }
+    ensures { OnOk result (first.new ≡ behind_faults first.old reason.NameTwice (lines_of_reason (items_of items.now) 0 reason.NameTwice)) }
 {
     let mut names = Names(Vec::new(alloc));
     let mut locals = Vec::new(alloc);

@@ -7,8 +7,8 @@ ghost use Rattle.loom_lang.specs.declared.refusal.Which.TheVariants as which;
 ghost use Rattle.loom_lang.specs.Limits.{param_limit, local_limit};
 ghost use Rattle.loom_lang.specs.Rules.{cell_count};
 ghost use Rattle.loom_lang.specs.FileItems.{funcs_in, words_in, source_of_items};
-ghost use Rattle.loom_lang.specs.Refusal.{line_if, locals_at, over, shared_lines, lines_of_reason};
-ghost use Rattle.loom_lang.specs.Fault.{noted, noted_all};
+ghost use Rattle.loom_lang.specs.Refusal.{line_if, locals_at, first_excess, shared_lines, lines_of_reason};
+ghost use Rattle.loom_lang.specs.Fault.{behind_faults, noted_all};
 
 use crate::fault::{note, note_if};
 use crate::limits::{CELL_LIMIT, FUNCTION_LIMIT, LOCAL_LIMIT, NAME_LIMIT, PARAM_LIMIT};
@@ -22,7 +22,7 @@ use std::alloc::Global;
 
 /// Notes the first line beyond the limit.
 pub fn note_over(first: &mut Option<LangRefusal>, most: usize, lines: &[u32], reason: Reason)
-    ensures { first.new ≡ noted first.old reason (over most lines.now) }
+    ensures { first.new ≡ behind_faults first.old reason (first_excess most lines.now) }
 {
     if most < lines.len() {
         note(first, lines[most], reason);
@@ -71,7 +71,7 @@ fn shared_lines(alloc: Global, items: &[FileItem]) -> Result<Vec<u32>, NoMemory>
 }
 
 fn note_params_in(item: &FileItem, first: &mut Option<LangRefusal>)
-    ensures { first.new ≡ noted first.old (reason.TooMany which.Params) (flat_map (λ (f : Function). line_if (nat_lt param_limit (length f.params)) f.line) (funcs_in (item_of item.now))) }
+    ensures { first.new ≡ behind_faults first.old (reason.TooMany which.Params) (flat_map (λ (f : Function). line_if (nat_lt param_limit (length f.params)) f.line) (funcs_in (item_of item.now))) }
 {
     if let FileItem::Func(f) = item {
         note_if(
@@ -84,7 +84,7 @@ fn note_params_in(item: &FileItem, first: &mut Option<LangRefusal>)
 }
 
 fn note_params(items: &[FileItem], first: &mut Option<LangRefusal>)
-    ensures { first.new ≡ noted first.old (reason.TooMany which.Params) (lines_of_reason (items_of items.now) 0 (reason.TooMany which.Params)) }
+    ensures { first.new ≡ behind_faults first.old (reason.TooMany which.Params) (lines_of_reason (items_of items.now) 0 (reason.TooMany which.Params)) }
 {
     'scan: for item in items {
         note_params_in(item, first);
@@ -92,7 +92,7 @@ fn note_params(items: &[FileItem], first: &mut Option<LangRefusal>)
 }
 
 fn note_locals_of(locals: &[Local], first: &mut Option<LangRefusal>)
-    ensures { first.new ≡ noted first.old (reason.TooMany which.Locals) (over local_limit (map (λ (d : local.Local). d.line) locals.now)) }
+    ensures { first.new ≡ behind_faults first.old (reason.TooMany which.Locals) (first_excess local_limit (map (λ (d : local.Local). d.line) locals.now)) }
 {
     if LOCAL_LIMIT < locals.len() {
         note(
@@ -108,7 +108,7 @@ fn note_locals_in(
     item: &FileItem,
     first: &mut Option<LangRefusal>,
 ) -> Result<(), NoMemory>
-    ensures { OnOk result (first.new ≡ noted first.old (reason.TooMany which.Locals) (flat_map (λ (f : Function). over local_limit (map (λ (d : local.Local). d.line) (locals_at f))) (funcs_in (item_of item.now)))) }
+    ensures { OnOk result (first.new ≡ behind_faults first.old (reason.TooMany which.Locals) (flat_map (λ (f : Function). first_excess local_limit (map (λ (d : local.Local). d.line) (locals_at f))) (funcs_in (item_of item.now)))) }
 {
     if let FileItem::Func(f) = item {
         let mut locals = Vec::new(alloc);
@@ -123,7 +123,7 @@ fn note_locals(
     items: &[FileItem],
     first: &mut Option<LangRefusal>,
 ) -> Result<(), NoMemory>
-    ensures { OnOk result (first.new ≡ noted first.old (reason.TooMany which.Locals) (lines_of_reason (items_of items.now) 0 (reason.TooMany which.Locals))) }
+    ensures { OnOk result (first.new ≡ behind_faults first.old (reason.TooMany which.Locals) (lines_of_reason (items_of items.now) 0 (reason.TooMany which.Locals))) }
 {
     'scan: for item in items {
         note_locals_in(alloc, item, first)?;
@@ -148,7 +148,7 @@ fn cells_in(item: &FileItem) -> u64
 }
 
 fn note_cells(items: &[FileItem], first: &mut Option<LangRefusal>)
-    ensures { first.new ≡ noted first.old (reason.TooMany which.Cells) (lines_of_reason (items_of items.now) 0 (reason.TooMany which.Cells)) }
+    ensures { first.new ≡ behind_faults first.old (reason.TooMany which.Cells) (lines_of_reason (items_of items.now) 0 (reason.TooMany which.Cells)) }
 {
     let mut left = CELL_LIMIT as u64;
     'scan: for item in items {

@@ -1,7 +1,7 @@
 //! The first of the faults, which are noted in any order.
 ghost use Rattle.std.specs.Prelude.{◌≡◌, ◌∷◌, []};
 ghost use Rattle.loom_lang.specs.Refusal.{rank, line_if};
-ghost use Rattle.loom_lang.specs.Fault.{is_before, sooner, noted};
+ghost use Rattle.loom_lang.specs.Fault.{is_before, sooner, behind_faults};
 
 use crate::refusal::{LangRefusal, Reason, Which};
 
@@ -48,14 +48,14 @@ fn sooner(first: Option<LangRefusal>, fault: LangRefusal) -> LangRefusal
 
 /// Notes a fault.
 pub fn note(first: &mut Option<LangRefusal>, line: u32, reason: Reason)
-    ensures { first.new ≡ noted first.old reason (line ∷ []) }
+    ensures { first.new ≡ behind_faults first.old reason (line ∷ []) }
 {
     *first = Some(sooner(*first, LangRefusal { line, reason }));
 }
 
 /// Notes a fault where a rule is broken.
 pub fn note_if(first: &mut Option<LangRefusal>, is_broken: bool, line: u32, reason: Reason)
-    ensures { first.new ≡ noted first.old reason (line_if is_broken line) }
+    ensures { first.new ≡ behind_faults first.old reason (line_if is_broken line) }
 {
     if is_broken {
         note(first, line, reason);

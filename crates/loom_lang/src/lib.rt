@@ -6,6 +6,7 @@ mod declarations;
 mod diagnostics;
 mod duplicates;
 mod excess;
+pub mod expression;
 mod fault;
 mod gather;
 pub mod laws;

@@ -4,7 +4,7 @@ ghost use Rattle.loom_tree.specs.declared.item.Word as word;
 ghost use Rattle.loom_tree.specs.Tree.{Function};
 ghost use Rattle.loom_lang.specs.Limits.{function_limit, local_limit, cell_limit};
 ghost use Rattle.loom_lang.specs.Numbers.{index_of, cells_from, mutex_number, sema_number, function_number};
-ghost use Rattle.loom_lang.specs.Rules.{cells_of, cell_count, is_in};
+ghost use Rattle.loom_lang.specs.Rules.{cells_in, cell_count, is_in};
 
 use crate::names::is_same;
 use crate::program::Program;
@@ -108,8 +108,8 @@ pub fn main_number(program: &Program) -> u8
 
 // How many cells a word or an array has, a plain word one.
 fn cell_count(w: &Word) -> u16
-    requires { cells_of w.now ≤ cell_limit }
-    ensures { result ≡ cells_of w.now }
+    requires { cells_in w.now ≤ cell_limit }
+    ensures { result ≡ cells_in w.now }
 {
     match w.cells {
         None => 1,
@@ -119,7 +119,7 @@ fn cell_count(w: &Word) -> u16
 
 // How many cells an array has; none where it is a plain word.
 fn array_length(w: &Word) -> Option<u16>
-    requires { cells_of w.now ≤ cell_limit }
+    requires { cells_in w.now ≤ cell_limit }
     ensures { result ≡ w.now.cells }
 {
     match w.cells {

@@ -1,12 +1,11 @@
 //! From the bytes of a file to its program.
-ghost use Rattle.std.specs.Prelude.{ℕ, ◌≡◌, ◌≤◌, List, length, slice_get, IfOk};
+ghost use Rattle.std.specs.Prelude.{ℕ, ◌≡◌, ◌≤◌, List, length, slice_get, IfOk, IfErr};
 ghost use Rattle.loom_tree.specs.Tree.{Source};
 ghost use Rattle.loom_syntax.specs.View.{line_tokens};
-ghost use Rattle.loom_lang.specs.declared.refusal.Reason.{Reason};
 ghost use Rattle.loom_lang.specs.Limits.{file_limit};
 ghost use Rattle.loom_lang.specs.Program.{IsProgram};
-ghost use Rattle.loom_lang.specs.Refusal.{IsRefusedProgram, line_at};
-ghost use Rattle.loom_lang.specs.ReadError.{IsReading};
+ghost use Rattle.loom_lang.specs.Refusal.{line_at};
+ghost use Rattle.loom_lang.specs.LangError.{TellsRefusal, IsReading};
 
 use crate::diagnostics::first_fault;
 use crate::gather::gather;
@@ -19,31 +18,11 @@ use loom_tree::name::NoMemory;
 use loom_tree::token::Token;
 use std::alloc::Global;
 
-/// Why the items of a file are not told.
-#[derive(Clone, Copy, Debug, Drop, PartialEq, Eq)]
-pub(crate) enum ReadError {
-    /// The bytes are no program.
-    Refused(LangRefusal),
-    /// Memory ran out.
-    NoMemory,
-}
-
-impl From<NoMemory> for ReadError {
-    ghost use Rattle.std.specs.Prelude.{◌≡◌};
-    ghost use Rattle.loom_lang.specs.declared.parse.ReadError.TheVariants.{NoMemory};
-
-    ghost from_gives = { λ _ e. e ≡ NoMemory };
-
-    fn from(_error: NoMemory) -> ReadError {
-        ReadError::NoMemory
-    }
-}
-
 /// Why bytes were not read as a program.
 #[derive(Clone, Copy, Debug, Drop, PartialEq, Eq)]
 pub enum LangError {
-    /// They are no program.
-    Refused,
+    /// They are no program, for this reason at this line.
+    Refused(LangRefusal),
     /// Memory ran out.
     NoMemory,
 }
@@ -70,7 +49,7 @@ fn line_at(tokens: &[Token], n: usize, last_line: u32) -> u32
 }
 
 /// The items of the program that the bytes of a file are, or their refusal.
-pub(crate) fn read(alloc: Global, bytes: &[u8]) -> Result<FileItems, ReadError>
+pub(crate) fn read(alloc: Global, bytes: &[u8]) -> Result<FileItems, LangError>
     requires { length bytes.now ≤ file_limit }
     ensures { IsReading bytes.now result }
 {
@@ -79,26 +58,25 @@ pub(crate) fn read(alloc: Global, bytes: &[u8]) -> Result<FileItems, ReadError>
     match read_items(alloc, bytes, &tokens.0) {
         Ok(items) => match first_fault(alloc, &items.0, last_line)? {
             None => Ok(items),
-            Some(refusal) => Err(ReadError::Refused(refusal)),
+            Some(refusal) => Err(LangError::Refused(refusal)),
         },
-        Err(SyntaxError::Syntax(n)) => Err(ReadError::Refused(LangRefusal {
+        Err(SyntaxError::Syntax(n)) => Err(LangError::Refused(LangRefusal {
             line: line_at(&tokens.0, n, last_line),
             reason: Reason::Syntax,
         })),
-        Err(SyntaxError::NoMemory) => Err(ReadError::NoMemory),
+        Err(SyntaxError::NoMemory) => Err(LangError::NoMemory),
     }
 }
 
-/// The program that the bytes of a file are. `Refused` comes exactly where they are none, and memory didn't run out.
+/// The program that the bytes of a file are. `Refused` comes exactly where they are none, and memory didn't run out; it tells the line, from 1,
+/// and the reason. Where they leave the grammar the reason is `Syntax`, at the line of the first token behind which no program can follow; the
+/// end of the bytes stands on the last line. Else it is the least line at which a rule is broken, and there the least reason.
 pub fn parse_program(alloc: Global, bytes: &[u8]) -> Result<Program, LangError>
     requires { length bytes.now ≤ file_limit }
     ensures program { IfOk result (λ p. IsProgram bytes.now p) }
-    ensures refused { result ≡ Err LangError.Refused → (p : Source) → IsProgram bytes.now p → ⊥ }
-    ensures told { result ≡ Err LangError.Refused → (line : ℕ) × (why : Reason) × IsRefusedProgram bytes.now line why }
+    ensures refused { IfErr result (λ e. TellsRefusal bytes.now e) }
+    ensures none { (r : LangRefusal) → result ≡ Err (LangError.Refused r) → (p : Source) → IsProgram bytes.now p → ⊥ }
 {
-    match read(alloc, bytes) {
-        Ok(items) => Ok(Program::new(gather(alloc, items)?)),
-        Err(ReadError::Refused(_)) => Err(LangError::Refused),
-        Err(ReadError::NoMemory) => Err(LangError::NoMemory),
-    }
+    let items = read(alloc, bytes)?;
+    Ok(Program::new(gather(alloc, items)?))
 }

@@ -5,7 +5,7 @@ ghost use Rattle.loom_lang.specs.declared.refusal.Reason.TheVariants as reason;
 ghost use Rattle.loom_lang.specs.Rules.{locals_of, knows, knows_all, knows_call, knows_right, knows_returned};
 ghost use Rattle.loom_lang.specs.FileItems.{funcs_in, source_of_items};
 ghost use Rattle.loom_lang.specs.Refusal.{unknown_lines, lines_of_reason};
-ghost use Rattle.loom_lang.specs.Fault.{knows_head, names_of, noted};
+ghost use Rattle.loom_lang.specs.Fault.{knows_head, names_of, behind_faults};
 
 use crate::fault::note_if;
 use crate::local::Local;
@@ -95,7 +95,7 @@ fn knows_head(items: &[FileItem], locals: &[Local], kind: &Kind) -> bool
 
 #[cycle(unknown)]
 fn note_body(items: &[FileItem], locals: &[Local], body: &Stmts, first: &mut Option<LangRefusal>)
-    ensures { first.new ≡ noted first.old reason.UnknownName (unknown_lines (source_of_items (items_of items.now)) (names_of locals.now) (body_of body.now)) }
+    ensures { first.new ≡ behind_faults first.old reason.UnknownName (unknown_lines (source_of_items (items_of items.now)) (names_of locals.now) (body_of body.now)) }
 {
     let mut at = body;
     'walk: while let Stmts::More(stmt, rest) = at {
@@ -113,7 +113,7 @@ fn note_statement(
     kind: &Kind,
     first: &mut Option<LangRefusal>,
 )
-    ensures { first.new ≡ noted first.old reason.UnknownName (unknown_lines (source_of_items (items_of items.now)) (names_of locals.now) (behind line kind.now end)) }
+    ensures { first.new ≡ behind_faults first.old reason.UnknownName (unknown_lines (source_of_items (items_of items.now)) (names_of locals.now) (behind line kind.now end)) }
 {
     note_if(
         first,
@@ -137,7 +137,7 @@ fn note_item(
     item: &FileItem,
     first: &mut Option<LangRefusal>,
 ) -> Result<(), NoMemory>
-    ensures { OnOk result (first.new ≡ noted first.old reason.UnknownName (flat_map (λ (f : Function). unknown_lines (source_of_items (items_of items.now)) (locals_of f) f.body) (funcs_in (item_of item.now)))) }
+    ensures { OnOk result (first.new ≡ behind_faults first.old reason.UnknownName (flat_map (λ (f : Function). unknown_lines (source_of_items (items_of items.now)) (locals_of f) f.body) (funcs_in (item_of item.now)))) }
 {
     if let FileItem::Func(f) = item {
         let mut locals = Vec::new(alloc);
@@ -153,7 +153,7 @@ pub fn note_unknown(
     items: &[FileItem],
     first: &mut Option<LangRefusal>,
 ) -> Result<(), NoMemory>
-    ensures { OnOk result (first.new ≡ noted first.old reason.UnknownName (lines_of_reason (items_of items.now) 0 reason.UnknownName)) }
+    ensures { OnOk result (first.new ≡ behind_faults first.old reason.UnknownName (lines_of_reason (items_of items.now) 0 reason.UnknownName)) }
 {
     'scan: for item in items {
         note_item(alloc, items, item, first)?;

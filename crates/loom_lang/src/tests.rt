@@ -3,32 +3,22 @@
 mod rows;
 
 use crate::limits::FILE_LIMIT;
-use crate::parse::{LangError, ReadError, parse_program, read};
+use crate::parse::{LangError, parse_program};
 use crate::refusal::{LangRefusal, Reason, Which};
+use loom_tree::name::NoMemory;
 use rows::{REFUSED, REFUSED_FOR_NAMES};
 use std::alloc::{AllocError, Global};
 use std::test::Fail;
 
 /// The refusal of a text, or `None` where it is a program. No text here is too long.
-fn refusal_of(alloc: Global, bytes: &[u8]) -> Result<Option<LangRefusal>, ReadError> {
+fn refusal_of(alloc: Global, bytes: &[u8]) -> Result<Option<LangRefusal>, NoMemory> {
     if bytes.len() > FILE_LIMIT {
-        return Err(ReadError::NoMemory);
-    }
-    match read(alloc, bytes) {
-        Ok(_) => Ok(None),
-        Err(ReadError::Refused(refusal)) => Ok(Some(refusal)),
-        Err(ReadError::NoMemory) => Err(ReadError::NoMemory),
-    }
-}
-
-/// The error of a text, or `None` where it is a program. No text here is too long.
-fn error_of(alloc: Global, bytes: &[u8]) -> Option<LangError> {
-    if bytes.len() > FILE_LIMIT {
-        return Some(LangError::NoMemory);
+        return Err(NoMemory);
     }
     match parse_program(alloc, bytes) {
-        Ok(_) => None,
-        Err(error) => Some(error),
+        Ok(_) => Ok(None),
+        Err(LangError::Refused(refusal)) => Ok(Some(refusal)),
+        Err(LangError::NoMemory) => Err(NoMemory),
     }
 }
 
@@ -50,7 +40,6 @@ fn accepts(rt: HostRuntime) {
         b"fn main() {} // \x80",
     ];
     for (row, text) in texts.iter().enumerate() {
-        assert_eq!(rt; error_of(rt.alloc(), text), None, "row {row}");
         assert_eq!(rt; refusal_of(rt.alloc(), text), Ok(None), "row {row}");
     }
 }
@@ -62,11 +51,6 @@ fn refuses(rt: HostRuntime) {
             line: row.line,
             reason: row.reason,
         };
-        assert_eq!(rt;
-            error_of(rt.alloc(), row.text),
-            Some(LangError::Refused),
-            "row {i}"
-        );
         assert_eq!(rt;
             refusal_of(rt.alloc(), row.text),
             Ok(Some(refusal)),

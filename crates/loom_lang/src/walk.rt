@@ -1,7 +1,7 @@
 //! Walks over the statements of functions: the lines on which they begin, and the locals that they declare.
 ghost use Rattle.std.specs.Prelude.{◌≡◌, ◌++◌, ◌∷◌, [], OnOk, IfOk, flat_map};
 ghost use Rattle.loom_tree.specs.Tree.{Function, body_of, behind, end, function_of, item_of, items_of};
-ghost use Rattle.loom_lang.specs.Rules.{lines, lines_of};
+ghost use Rattle.loom_lang.specs.Rules.{statement_lines, lines_of};
 ghost use Rattle.loom_lang.specs.FileItems.{funcs_in, source_of_items};
 ghost use Rattle.loom_lang.specs.Refusal.{at_line, lets_at, locals_at};
 
@@ -13,7 +13,7 @@ use std::alloc::Global;
 
 #[cycle(lines)]
 fn put_lines(found: &mut Vec<u32>, body: &Stmts) -> Result<(), NoMemory>
-    ensures { OnOk result (found.new.items ≡ found.old.items ++ lines (body_of body.now)) }
+    ensures { OnOk result (found.new.items ≡ found.old.items ++ statement_lines (body_of body.now)) }
 {
     let mut at = body;
     'walk: while let Stmts::More(first, rest) = at {
@@ -25,7 +25,7 @@ fn put_lines(found: &mut Vec<u32>, body: &Stmts) -> Result<(), NoMemory>
 
 #[cycle(lines)]
 fn put_lines_in(found: &mut Vec<u32>, line: u32, kind: &Kind) -> Result<(), NoMemory>
-    ensures { OnOk result (found.new.items ≡ found.old.items ++ lines (behind line kind.now end)) }
+    ensures { OnOk result (found.new.items ≡ found.old.items ++ statement_lines (behind line kind.now end)) }
 {
     found.push(line)?;
     match kind {
@@ -39,7 +39,7 @@ fn put_lines_in(found: &mut Vec<u32>, line: u32, kind: &Kind) -> Result<(), NoMe
 }
 
 fn put_item_lines(found: &mut Vec<u32>, item: &FileItem) -> Result<(), NoMemory>
-    ensures { OnOk result (found.new.items ≡ found.old.items ++ flat_map (λ (f : Function). lines f.body) (funcs_in (item_of item.now))) }
+    ensures { OnOk result (found.new.items ≡ found.old.items ++ flat_map (λ (f : Function). statement_lines f.body) (funcs_in (item_of item.now))) }
 {
     match item {
         FileItem::Func(f) => put_lines(found, &f.body),

@@ -3,8 +3,8 @@ use Rattle.loom_tree.specs.Tree.{items_of}
 use Rattle.loom_lang.specs.declared.refusal.Reason.TheVariants as reason
 use Rattle.loom_lang.specs.declared.refusal.Which.TheVariants as which
 use Rattle.loom_lang.specs.Refusal.{lines_of_reason}
-use Rattle.loom_lang.specs.Fault.{noted}
+use Rattle.loom_lang.specs.Fault.{behind_faults}
 use Rattle.loom_lang.proofs.excess.note_locals.Given as goal
 
 abbrev pub invariant-scan : goal.invariant-scan
-invariant-scan l = noted l.first (reason.TooMany which.Locals) (lines_of_reason (items_of (drop l.item-index l.items)) 0 (reason.TooMany which.Locals)) ≡ noted l.fn.first (reason.TooMany which.Locals) (lines_of_reason (items_of l.items) 0 (reason.TooMany which.Locals))
+invariant-scan l = behind_faults l.first (reason.TooMany which.Locals) (lines_of_reason (items_of (drop l.item-index l.items)) 0 (reason.TooMany which.Locals)) ≡ behind_faults l.fn.first (reason.TooMany which.Locals) (lines_of_reason (items_of l.items) 0 (reason.TooMany which.Locals))

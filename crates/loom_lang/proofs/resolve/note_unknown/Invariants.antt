@@ -5,8 +5,8 @@ use Rattle.loom_lang.specs.declared.refusal.Reason.TheVariants as reason
 use Rattle.loom_lang.specs.Rules.{locals_of}
 use Rattle.loom_lang.specs.FileItems.{source_of_items}
 use Rattle.loom_lang.specs.Refusal.{unknown_lines}
-use Rattle.loom_lang.specs.Fault.{noted}
+use Rattle.loom_lang.specs.Fault.{behind_faults}
 use Rattle.loom_lang.proofs.resolve.note_unknown.Given as goal
 
 abbrev pub invariant-scan : goal.invariant-scan
-invariant-scan l = noted l.first reason.UnknownName (flat_map (λ (f : Function). unknown_lines (source_of_items (items_of l.items)) (locals_of f) f.body) (source_of_items (items_of (drop l.item-index l.items))).funcs) ≡ noted l.fn.first reason.UnknownName (flat_map (λ (f : Function). unknown_lines (source_of_items (items_of l.items)) (locals_of f) f.body) (source_of_items (items_of l.items)).funcs)
+invariant-scan l = behind_faults l.first reason.UnknownName (flat_map (λ (f : Function). unknown_lines (source_of_items (items_of l.items)) (locals_of f) f.body) (source_of_items (items_of (drop l.item-index l.items))).funcs) ≡ behind_faults l.fn.first reason.UnknownName (flat_map (λ (f : Function). unknown_lines (source_of_items (items_of l.items)) (locals_of f) f.body) (source_of_items (items_of l.items)).funcs)

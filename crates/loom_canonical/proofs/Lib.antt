@@ -1,0 +1,15 @@
+pub mod ExpressionText
+pub mod StatementText
+pub mod BlockText
+pub mod ItemText
+pub mod ProgramText
+pub mod Digits
+pub mod LexemeMarks
+pub mod ExpressionTokens
+pub mod StatementTokens
+pub mod BlockTokens
+pub mod ItemTokens
+pub mod KnownNames
+pub mod CanonicalRules
+pub mod CanonicalText
+pub mod CanonicalExpression

@@ -1,0 +1,16 @@
+pub mod Words
+pub mod Closing
+pub mod Keys
+pub mod Twins
+pub mod TreeParts
+pub mod Natural
+pub mod StepReading
+pub mod Whole
+pub mod Faults
+pub mod FilterVerdict
+pub mod OneToken
+pub mod Spots
+pub mod Sound
+pub mod FormTokens
+pub mod Leaves
+pub mod ClauseReading

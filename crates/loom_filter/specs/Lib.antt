@@ -1,0 +1,9 @@
+pub mod View
+pub mod Words
+pub mod Token
+pub mod Machine
+pub mod Builders
+pub mod ReaderView
+pub mod Fault
+pub mod Key
+pub mod FilterError

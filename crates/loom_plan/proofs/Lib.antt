@@ -1,0 +1,17 @@
+pub mod Walks
+pub mod Least
+pub mod Lines
+pub mod EventFaults
+pub mod RegionFaults
+pub mod FirstFault
+pub mod Select
+pub mod ElementNumbers
+pub mod Orders
+pub mod Queues
+pub mod RegionRows
+pub mod Rows
+pub mod LocalNames
+pub mod Steps
+pub mod TableSteps
+pub mod FewParts
+pub mod PlaceNames

@@ -1,0 +1,15 @@
+pub mod Fault
+pub mod Statements
+pub mod Numbers
+pub mod Sets
+pub mod ElementNumbers
+pub mod Counts
+pub mod PlanView
+pub mod Tests
+pub mod PlaceEvents
+pub mod Table
+pub mod PlanParts
+pub mod Operations
+pub mod Compiled
+pub mod Resolution
+pub mod Laws

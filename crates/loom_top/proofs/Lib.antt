@@ -1,3 +1,4 @@
 pub mod Words
-pub mod Written
+pub mod JournalLines
 pub mod Top
+pub mod ShowLines

@@ -1,3 +1,6 @@
 pub mod Invocation
+pub mod Task
 pub mod Code
-pub mod Answers
+pub mod RefusalLine
+pub mod ShowText
+pub mod TopCall

@@ -1,7 +1,7 @@
 //! How runs ended, the statuses of that, and the numbers of statuses.
 ghost use Rattle.std.specs.Prelude.{◌≡◌};
 ghost use Rattle.loom_trace.specs.declared.entry.Ending.{Ending as Kind};
-ghost use Rattle.loom_top.specs.Answers.{CanEnd, EndsIn};
+ghost use Rattle.loom_top.specs.TopCall.{CanEnd, EndsIn};
 ghost use Rattle.loom_top.specs.Code.{code, ended_as};
 
 use crate::status::Status;

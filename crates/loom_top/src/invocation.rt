@@ -2,7 +2,8 @@
 ghost use Rattle.std.specs.Prelude.{◌≡◌, ◌↔◌, ◌≤◌, List, ℕ, codes, map, IfSome, IfNone, IsTrue};
 ghost use Rattle.loom_tree.specs.Decimal.{decimal};
 ghost use Rattle.loom_trace.specs.Limits.{entry_limit};
-ghost use Rattle.loom_top.specs.Invocation.{Invocation as Asked, IsInvocation, IsFileName};
+ghost use Rattle.loom_top.specs.Invocation.{Invocation as Asked, IsInvocation, IsFileName, HasBounds};
+ghost use Rattle.loom_top.specs.Task.{task_of};
 
 use loom_trace::limits::ENTRY_LIMIT;
 use loom_trace::line::Line;
@@ -11,13 +12,32 @@ use loom_trace::text::put_printed;
 /// How many entries threads make at most, where the words don't say it.
 const DEFAULT_LIMIT: u32 = 100_000;
 
-/// A run of the file of this name, in which threads make at most so many entries.
+/// How many bytes a filter's text has at most.
+const TEXT_LIMIT: usize = 65_536;
+
+/// What is done with a program's file.
+#[derive(Clone, Copy, Debug, Drop)]
+pub enum Task<'a> {
+    /// It is run.
+    Run {
+        /// How many entries threads make at most: 1 to 1,000,000.
+        limit: u32,
+    },
+    /// Its canonical text is written.
+    Show,
+    /// What a filter is for it is written.
+    ShowFilter {
+        /// The filter's text: 65,536 bytes at most.
+        text: &'a str,
+    },
+}
+
+/// A file, and what is done with it.
 #[derive(Clone, Copy, Debug, Drop)]
 pub struct Invocation<'a> {
     /// The file's name.
     pub name: &'a str,
-    /// How many entries threads make at most: 1 to 1,000,000.
-    pub limit: u32,
+    pub task: Task<'a>,
 }
 
 fn is_file_name(name: &[u8]) -> bool
@@ -59,20 +79,35 @@ fn limit_of(text: &str) -> Option<u32>
 
 /// What the words ask for.
 pub fn invocation_of<'a>(words: &[&'a str]) -> Option<Invocation<'a>>
-    ensures found { IfSome result (λ c. IsInvocation (map (λ w. w.now) words.now) (record { name = c.name.now; limit = c.limit })) }
-    ensures most { IfSome result (λ c. c.limit ≤ entry_limit) }
-    ensures least { IfSome result (λ c. 1 ≤ c.limit) }
+    ensures found { IfSome result (λ c. IsInvocation (map (λ w. w.now) words.now) (record { name = c.name.now; task = task_of c.task })) }
+    ensures bounds { IfSome result (λ c. HasBounds (task_of c.task)) }
     ensures none { IfNone result ((c : Asked) → IsInvocation (map (λ w. w.now) words.now) c → ⊥) }
 {
-    let (name, limit) = match words {
-        [first, name] if *first == "run" => (*name, DEFAULT_LIMIT),
-        [first, name, option, digits] if *first == "run" && *option == "--steps" => {
-            (*name, limit_of(digits)?)
-        }
+    let invocation = match words {
+        [first, name] if *first == "run" => Invocation {
+            name: *name,
+            task: Task::Run {
+                limit: DEFAULT_LIMIT,
+            },
+        },
+        [first, name] if *first == "show" => Invocation {
+            name: *name,
+            task: Task::Show,
+        },
+        [first, name, text] if *first == "show" && text.len() <= TEXT_LIMIT => Invocation {
+            name: *name,
+            task: Task::ShowFilter { text: *text },
+        },
+        [first, name, option, digits] if *first == "run" && *option == "--steps" => Invocation {
+            name: *name,
+            task: Task::Run {
+                limit: limit_of(digits)?,
+            },
+        },
         _ => return None,
     };
-    if is_file_name(name.as_bytes()) {
-        Some(Invocation { name, limit })
+    if is_file_name(invocation.name.as_bytes()) {
+        Some(invocation)
     } else {
         None
     }

@@ -3,7 +3,13 @@
 
 pub mod alone;
 mod code;
+mod file_name;
 mod invocation;
+mod put;
+mod refusal;
+mod run;
+mod show;
+mod show_filter;
 pub mod status;
 #[cfg(test)]
 mod tests;

@@ -3,7 +3,7 @@
 /// How a call ended.
 #[derive(Clone, Copy, Debug, Drop, PartialEq, Eq)]
 pub enum Status {
-    /// All threads have ended, and the text of the run's journal was written.
+    /// All threads have ended, and the text of the run's journal was written; or what `show` asks for was written.
     Done,
     /// The words are no invocation.
     Usage,
@@ -13,7 +13,7 @@ pub enum Status {
     ReadFault,
     /// The text could not be written.
     WriteFault,
-    /// Memory ran out before the run began.
+    /// Memory ran out before the run began, or before what is shown was made.
     NoMemory,
     /// Each thread that lives waits for what none will do, and the text of the run's journal was written.
     Stuck,

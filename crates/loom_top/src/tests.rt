@@ -1,7 +1,9 @@
 //! The top call on shelves and sinks in memory.
 
+mod filters;
 mod limits;
 mod rows;
+mod show;
 mod threads;
 mod watch;
 
@@ -56,19 +58,39 @@ fn runs_several_threads(rt: HostRuntime) -> Result<(), Fail> {
 #[test]
 fn refuses_what_is_no_program(rt: HostRuntime) -> Result<(), Fail> {
     let spaces = vec![in rt.alloc(); b' '; 65536]?;
-    let texts: [&[u8]; 7] = [
-        b"",
-        &spaces,
-        b"fn main() { print 1 }",
-        b"fn main() {\nx = 1;\n}\n",
-        b"shared x;\nshared x;\nfn main() {\n}\n",
-        b"shared m;\nfn main() {\nlock m;\n}\n",
-        b"fn f(a) {\n}\nfn main() {\nlet t = spawn f();\n}\n",
+    let texts: [(&[u8], &[u8]); 9] = [
+        (b"", b"program: line 1: 6 NoMain\n"),
+        (&spaces, b"program: line 1: 6 NoMain\n"),
+        (b"fn main() { print 1 }", b"program: line 1: 1 Syntax\n"),
+        (
+            b"fn main() {\nskip; print 1;\n}\n",
+            b"program: line 2: 2 SecondOnLine\n",
+        ),
+        (
+            b"fn main() {\nx = 1;\n}\n",
+            b"program: line 2: 3 UnknownName\n",
+        ),
+        (
+            b"shared x;\nshared x;\nfn main() {\n}\n",
+            b"program: line 2: 4 NameTwice\n",
+        ),
+        (
+            b"fn main() {\nlet v = 1;\nlet v = x;\n}\n",
+            b"program: line 3: 3 UnknownName\n",
+        ),
+        (
+            b"shared m;\nfn main() {\nlock m;\n}\n",
+            b"program: line 3: 3 UnknownName\n",
+        ),
+        (
+            b"fn f(a) {\n}\nfn main() {\nlet t = spawn f();\n}\n",
+            b"program: line 4: 5 WrongCount\n",
+        ),
     ];
-    for (i, bytes) in texts.iter().enumerate() {
+    for (i, (bytes, written)) in texts.iter().enumerate() {
         let (status, text) = answer_of(rt.alloc(), *bytes, &["run", "p.lm"])?;
         assert_eq!(rt; status, 2, "in row {i}");
-        assert_eq!(rt; text.bytes(), "program refused\n".as_bytes(), "in row {i}");
+        assert_eq!(rt; text.bytes(), *written, "in row {i}");
     }
     Ok(())
 }
@@ -193,8 +215,10 @@ fn tells_a_write_fault(rt: HostRuntime) -> Result<(), Fail> {
 // is, where they are no invocation.
 #[test]
 fn reads_the_file_alone(rt: HostRuntime) -> Result<(), Fail> {
-    let rows: [(&[&str], u32); 3] = [
+    let rows: [(&[&str], u32); 5] = [
         (&["run", "p.lm"], 1),
+        (&["show", "p.lm"], 1),
+        (&["show", "p.lm", "main()"], 1),
         (&["run", "p.lm", "--steps", "3"], 1),
         (&["walk", "p.lm"], 0),
     ];

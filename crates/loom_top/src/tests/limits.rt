@@ -23,6 +23,8 @@ struct Row {
     most: i64,
     /// What that program writes.
     text: &'static [u8],
+    /// What is written where there is one piece more.
+    refusal: &'static [u8],
 }
 
 const ROWS: [Row; 11] = [
@@ -35,6 +37,7 @@ const ROWS: [Row; 11] = [
         behind: b"",
         most: 63,
         text: b"62\n---\n1:190 begin\n1:192 print 62\n1:190 end\nfinish done\n",
+        refusal: b"program: line 193: 7 TooMany\n",
     },
     Row {
         what: "parameters",
@@ -45,6 +48,7 @@ const ROWS: [Row; 11] = [
         behind: b"7);\n}\n",
         most: 3,
         text: b"7\n---\n1:4 begin\n1:2 print 7\n1:4 end\nfinish done\n",
+        refusal: b"program: line 1: 7 TooMany\n",
     },
     Row {
         what: "locals",
@@ -55,6 +59,7 @@ const ROWS: [Row; 11] = [
         behind: b"",
         most: 31,
         text: b"37\n---\n1:1 begin\n1:34 print 37\n1:1 end\nfinish done\n",
+        refusal: b"program: line 34: 7 TooMany\n",
     },
     Row {
         what: "names",
@@ -65,6 +70,7 @@ const ROWS: [Row; 11] = [
         behind: b"",
         most: 63,
         text: b"7\n---\n1:65 begin\n1:66 read 63 7\n1:66 print 7\n1:65 end\nfinish done\n",
+        refusal: b"program: line 65: 7 TooMany\n",
     },
     Row {
         what: "mutexes",
@@ -75,6 +81,7 @@ const ROWS: [Row; 11] = [
         behind: b"",
         most: 63,
         text: b"7\n---\n1:65 begin\n1:66 lock 62\n1:67 read 0 7\n1:67 print 7\n1:65 end\nfinish done\n",
+        refusal: b"program: line 65: 7 TooMany\n",
     },
     Row {
         what: "semaphores",
@@ -85,6 +92,7 @@ const ROWS: [Row; 11] = [
         behind: b"",
         most: 64,
         text: b"---\n1:65 begin\n1:66 up 63\n1:67 down 63\n1:65 end\nfinish done\n",
+        refusal: b"program: line 65: 7 TooMany\n",
     },
     Row {
         what: "cells",
@@ -95,6 +103,7 @@ const ROWS: [Row; 11] = [
         behind: b"",
         most: 4,
         text: b"7\n---\n1:6 begin\n1:7 write 1023 7\n1:8 read 1023 7\n1:8 print 7\n1:6 end\nfinish done\n",
+        refusal: b"program: line 6: 7 TooMany\n",
     },
     Row {
         what: "statements",
@@ -105,6 +114,7 @@ const ROWS: [Row; 11] = [
         behind: b"",
         most: 4095,
         text: b"7\n---\n1:1 begin\n1:4097 print 7\n1:1 end\nfinish done\n",
+        refusal: b"program: line 4098: 7 TooMany\n",
     },
     Row {
         what: "nodes",
@@ -115,6 +125,7 @@ const ROWS: [Row; 11] = [
         behind: b"",
         most: 127,
         text: b"-7\n---\n1:1 begin\n1:2 print -7\n1:1 end\nfinish done\n",
+        refusal: b"program: line 2: 1 Syntax\n",
     },
     Row {
         what: "parentheses",
@@ -125,6 +136,7 @@ const ROWS: [Row; 11] = [
         behind: b";\n}\n",
         most: 128,
         text: b"7\n---\n1:1 begin\n1:2 print 7\n1:1 end\nfinish done\n",
+        refusal: b"program: line 2: 1 Syntax\n",
     },
     Row {
         what: "blocks",
@@ -135,6 +147,7 @@ const ROWS: [Row; 11] = [
         behind: b"}\n",
         most: 31,
         text: b"7\n---\n1:1 begin\n1:33 print 7\n1:1 end\nfinish done\n",
+        refusal: b"program: line 33: 1 Syntax\n",
     },
 ];
 
@@ -186,11 +199,7 @@ fn refuses_one_more(rt: HostRuntime) -> Result<(), Fail> {
         let program = program_of(rt.alloc(), row, row.most.saturating_add(1))?;
         let (status, text) = answer_of(rt.alloc(), &program, &["run", "p.lm"])?;
         assert_eq!(rt; status, 2, "with more {what}");
-        assert_eq!(rt;
-            text.bytes(),
-            b"program refused\n".as_slice(),
-            "with more {what}"
-        );
+        assert_eq!(rt; text.bytes(), row.refusal, "with more {what}");
     }
     Ok(())
 }

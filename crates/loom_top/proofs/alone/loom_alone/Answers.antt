@@ -1,10 +1,11 @@
 use Rattle.std.proofs.Common.{◌≡◌, ◌⊎◌, ℕ, map, sym, subst}
+use Rattle.loom_top.specs.TopCall.{EndsWith}
 use Rattle.loom_top.proofs.Top.{complete, only_fault}
 use Rattle.loom_top.proofs.alone.loom_alone.Goals as goal
 
 pub returns-clause-complete : goal.returns-clause-complete
 returns-clause-complete g c valid =
-    let P : ℕ → Type 0 = λ z. (z ≡ 0) ⊎ ((z ≡ 7) ⊎ ((z ≡ 8) ⊎ (z ≡ 6))) in
+    let P : ℕ → Type 0 = λ z. EndsWith valid.invocation.task z in
     subst P (sym c.code_of.ensures) (complete _ (map (λ w. w.now) c.args.words.now) c.answer.result c.answer.ensures.answers valid)
 
 pub returns-clause-missing : goal.returns-clause-missing

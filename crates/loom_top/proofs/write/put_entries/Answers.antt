@@ -1,5 +1,5 @@
 use Rattle.std.proofs.Common.{arith, refl, ◌∙◌}
-use Rattle.loom_top.proofs.Written.{at_err, entries_text, entries_parts, paged_more, front_more}
+use Rattle.loom_top.proofs.JournalLines.{at_err, entries_text, entries_parts, paged_more, front_more}
 use Rattle.loom_top.proofs.write.put_entries.Goals as goal
 
 pub returns-in_err-put_one-clause-part : goal.returns-in_err-put_one-clause-part

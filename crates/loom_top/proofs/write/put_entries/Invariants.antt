@@ -1,6 +1,6 @@
 use Rattle.std.proofs.Common.{◌≤◌, ◌≡◌, take}
 use Rattle.loom_io.specs.Page.{PageTook}
-use Rattle.loom_top.proofs.Written.{entries_text}
+use Rattle.loom_top.proofs.JournalLines.{entries_text}
 use Rattle.loom_top.proofs.write.put_entries.Given as goal
 
 abbrev pub invariant-entries : goal.invariant-entries

@@ -1,5 +1,5 @@
 use Rattle.loom_io.proofs.Pages.{paged_whole, front_put}
-use Rattle.loom_top.proofs.Written.{at_err, then_ok, then_err, front_values, front_dashes, front_entries, paged_journal}
+use Rattle.loom_top.proofs.JournalLines.{at_err, then_ok, then_err, front_values, front_dashes, front_entries, paged_journal}
 use Rattle.loom_top.proofs.write.put_journal.Goals as goal
 
 pub returns-in_err-put_values-clause-part : goal.returns-in_err-put_values-clause-part

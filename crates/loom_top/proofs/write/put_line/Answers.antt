@@ -1,6 +1,6 @@
 use Rattle.std.proofs.Common.{[], ◌∷◌}
 use Rattle.loom_io.proofs.Pages.{paged_then, front_behind}
-use Rattle.loom_top.proofs.Written.{then_ok, then_err}
+use Rattle.loom_top.proofs.JournalLines.{then_ok, then_err}
 use Rattle.loom_top.proofs.write.put_line.Goals as goal
 
 pub returns-clause-ok : goal.returns-clause-ok

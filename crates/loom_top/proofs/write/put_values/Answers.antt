@@ -1,5 +1,5 @@
 use Rattle.std.proofs.Common.{arith, ◌∙◌}
-use Rattle.loom_top.proofs.Written.{at_err, printed_text, printed_parts, one_printed, paged_more, front_more}
+use Rattle.loom_top.proofs.JournalLines.{at_err, printed_text, printed_parts, one_printed, paged_more, front_more}
 use Rattle.loom_top.proofs.write.put_values.Goals as goal
 
 pub returns-in_err-put_value-clause-part : goal.returns-in_err-put_value-clause-part

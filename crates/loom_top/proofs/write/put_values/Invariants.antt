@@ -1,6 +1,6 @@
 use Rattle.std.proofs.Common.{◌≤◌, ◌≡◌, take}
 use Rattle.loom_io.specs.Page.{PageTook}
-use Rattle.loom_top.proofs.Written.{printed_text}
+use Rattle.loom_top.proofs.JournalLines.{printed_text}
 use Rattle.loom_top.proofs.write.put_values.Given as goal
 
 abbrev pub invariant-values : goal.invariant-values

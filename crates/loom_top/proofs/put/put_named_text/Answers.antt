@@ -3,7 +3,7 @@ use Rattle.std.specs.Io.KnownBytes.{Appends}
 use Rattle.loom_io.specs.Sink.{TookFront}
 use Rattle.loom_io.proofs.Pages.{front_longer}
 use Rattle.loom_top.proofs.Top.{front_after, on_err, on_err_then}
-use Rattle.loom_top.proofs.alone.put_named_text.Goals as goal
+use Rattle.loom_top.proofs.put.put_named_text.Goals as goal
 
 pub returns-in_err-put_all-2-clause-part : goal.returns-in_err-put_all-2-clause-part
 returns-in_err-put_all-2-clause-part g c =

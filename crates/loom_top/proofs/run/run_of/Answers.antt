@@ -1,12 +1,11 @@
-use Rattle.std.proofs.Common.{◌≡◌}
 use Rattle.std.proofs.lemmas.Result.{err_from_is_err_and}
 use Rattle.loom_top.proofs.Top.{world_run}
-use Rattle.loom_top.proofs.alone.run_of.Goals as goal
+use Rattle.loom_top.proofs.run.run_of.Goals as goal
 
-pub returns-in_err-program-clause-refused : goal.returns-in_err-program-clause-refused
-returns-in_err-program-clause-refused c same =
+pub returns-in_err-program-clause-none : goal.returns-in_err-program-clause-none
+returns-in_err-program-clause-none c = λ r is p h.
     let told = err_from_is_err_and c.from_residual.result c.from_residual.ensures.1 in
-    c.in_err-program.ensures.refused (cc (same, told.1, told.2, c.in_err-program.is))
+    c.in_err-program.ensures.none r (cc (is, told.1, told.2, c.in_err-program.is)) p h
 
 pub returns-clause-ran : goal.returns-clause-ran
 returns-clause-ran c = (

@@ -32,7 +32,7 @@ pub record LeavesGrammar (bytes : List ℕ) (clause : ℕ) : Type 0 where
   pub most : (n : ℕ) → BeginsWith bytes n → n ≤ whole
   pub is : clause ≡ clause_behind whole
 
--- a count where none counts: on the last event of an order, or in a region
+-- A count stands where nothing is counted: on an order that ends with it, or in a region.
 
 abbrev pub is_counted : StepForm → Bool
 is_counted s = has_count s.count

@@ -11,7 +11,7 @@ use Rattle.loom_lang.specs.Acts.{Deed, IsAlike}
 use Rattle.loom_lang.proofs.Examples.{tested}
 use Rattle.loom_lang.proofs.NextAct.{one_next_act}
 use Rattle.loom_lang.proofs.Examples.{calls}
-use Rattle.loom_event.specs.Event.{Event}
+use Rattle.loom_event.specs.TargetEvent.{TargetEvent}
 use Rattle.loom_event.specs.Replay.{start, thread_at, replay, AreAllowed}
 use Rattle.loom_event.specs.Run.{IsTraced, IsThreadTraced, IsRun}
 use Rattle.loom_event.proofs.Runs.{next, given, threads_traced, begins, does, allowed_behind, event_of, events_told}
@@ -19,7 +19,7 @@ use Rattle.loom_event.proofs.Runs.{next, given, threads_traced, begins, does, al
 abbrev pub deed : ℕ → Act → Deed
 deed l a = record { line = l; act = a }
 
-abbrev pub event : ℕ → ℕ → Act → Event
+abbrev pub event : ℕ → ℕ → Act → TargetEvent
 event t l a = record { thread = t; line = l; act = a }
 
 -- Two threads add to a word
@@ -58,7 +58,7 @@ adds = record {
 pub adds_lawful : KeepsRules adds
 adds_lawful = tested adds (search rules) refl
 
-abbrev pub adds_events : List Event
+abbrev pub adds_events : List TargetEvent
 adds_events =
     event 1 5 begin ∷ event 1 6 (spawn 2 0 []) ∷ event 2 2 begin ∷ event 1 7 (read 0 (pos 0)) ∷ event 2 3 (read 0 (pos 0))
     ∷ event 1 7 (write 0 (pos 1)) ∷ event 2 3 (write 0 (pos 1)) ∷ event 2 2 end ∷ event 1 8 (join 2) ∷ event 1 9 (read 0 (pos 1))
@@ -115,7 +115,7 @@ adds_run = record {
 }
 
 -- The write of thread 2 is lost: behind its read it asks for a write, and not for its end.
-abbrev pub lost_events : List Event
+abbrev pub lost_events : List TargetEvent
 lost_events =
     event 1 5 begin ∷ event 1 6 (spawn 2 0 []) ∷ event 2 2 begin ∷ event 1 7 (read 0 (pos 0)) ∷ event 2 3 (read 0 (pos 0))
     ∷ event 1 7 (write 0 (pos 1)) ∷ event 2 2 end ∷ event 1 8 (join 2) ∷ event 1 9 (read 0 (pos 1)) ∷ event 1 9 (print (pos 1)) ∷ event 1 5 end ∷ []
@@ -128,7 +128,7 @@ lost_entries =
 pub lost_is_no_run : IsRun adds 8 lost_entries → ⊥
 lost_is_no_run h =
     let same : h.events ≡ lost_events = events_told h.events lost_events (ap (map event_of) h.told) in
-    let P : List Event → Type 0 = λ xs. IsThreadTraced adds xs 2 (thread_at (replay (start adds 8) xs) 2) in
+    let P : List TargetEvent → Type 0 = λ xs. IsThreadTraced adds xs 2 (thread_at (replay (start adds 8) xs) 2) in
     let lost : IsTraced adds 0 [] (deed 2 begin ∷ deed 3 (read 0 (pos 0)) ∷ deed 2 end ∷ []) = subst P same (h.run.traced 2) in
     let good = add_traced in
     let front : List Deed = deed 2 begin ∷ deed 3 (read 0 (pos 0)) ∷ [] in
@@ -138,12 +138,12 @@ lost_is_no_run h =
     cc
 
 -- The last read gives 7, where the word is 1.
-abbrev pub changed_front : List Event
+abbrev pub changed_front : List TargetEvent
 changed_front =
     event 1 5 begin ∷ event 1 6 (spawn 2 0 []) ∷ event 2 2 begin ∷ event 1 7 (read 0 (pos 0)) ∷ event 2 3 (read 0 (pos 0))
     ∷ event 1 7 (write 0 (pos 1)) ∷ event 2 3 (write 0 (pos 1)) ∷ event 2 2 end ∷ event 1 8 (join 2) ∷ []
 
-abbrev pub changed_rest : List Event
+abbrev pub changed_rest : List TargetEvent
 changed_rest = event 1 9 (read 0 (pos 7)) ∷ event 1 9 (print (pos 7)) ∷ event 1 5 end ∷ []
 
 abbrev pub changed_entries : List Entry
@@ -161,7 +161,7 @@ changed_is_no_run h =
 
 -- One thread calls, loops and counts
 
-abbrev pub calls_events : List Event
+abbrev pub calls_events : List TargetEvent
 calls_events =
     event 1 5 begin ∷ event 1 3 (read 0 (pos 0)) ∷ event 1 3 (write 0 (pos 1)) ∷ event 1 9 (read 0 (pos 1)) ∷ event 1 9 (write 0 (pos 2))
     ∷ event 1 3 (read 0 (pos 2)) ∷ event 1 3 (write 0 (pos 3)) ∷ event 1 9 (read 0 (pos 3)) ∷ event 1 9 (write 0 (pos 6)) ∷ event 1 3 (read 0 (pos 6))
@@ -246,7 +246,7 @@ spawns = record {
 pub spawns_lawful : KeepsRules spawns
 spawns_lawful = tested spawns (search rules) refl
 
-abbrev pub spawns_events : List Event
+abbrev pub spawns_events : List TargetEvent
 spawns_events =
     event 1 3 begin ∷ event 1 6 (spawn 2 0 []) ∷ event 2 1 begin ∷ event 1 6 (spawn 3 0 []) ∷ event 2 1 end ∷ event 3 1 begin
     ∷ event 1 6 (spawn 4 0 []) ∷ event 3 1 end ∷ event 4 1 begin ∷ event 1 6 (spawn 5 0 []) ∷ event 4 1 end ∷ event 5 1 begin
@@ -326,7 +326,7 @@ full = record {
 pub full_lawful : KeepsRules full
 full_lawful = tested full (search rules) refl
 
-abbrev pub full_events : List Event
+abbrev pub full_events : List TargetEvent
 full_events =
     event 1 2 begin ∷ event 1 3 (trap (overflow 0)) ∷ event 1 2 end ∷ []
 
@@ -376,7 +376,7 @@ locks = record {
 pub locks_lawful : KeepsRules locks
 locks_lawful = tested locks (search rules) refl
 
-abbrev pub locks_events : List Event
+abbrev pub locks_events : List TargetEvent
 locks_events =
     event 1 2 begin ∷ event 1 3 (lock 0) ∷ []
 

@@ -10,7 +10,7 @@ use Rattle.loom_trace.specs.declared.entry.What.{What}
 use Rattle.loom_trace.specs.declared.entry.What.TheVariants as what
 use Rattle.loom_trace.specs.declared.request.Request.{Request}
 use Rattle.loom_trace.specs.declared.request.Request.TheVariants as r
-use Rattle.loom_event.specs.Event.{entry_by}
+use Rattle.loom_event.specs.TargetEvent.{entry_by}
 
 abbrev pub asks_begin : Request → Bool
 asks_begin (r.Begin l) = true
@@ -19,7 +19,7 @@ asks_begin _ = false
 abbrev pub deed : ℕ → Act → Option Deed
 deed line a = Some (record { line = line; act = a })
 
--- What grants a request, and gives it this value: what was read, or the number of the new thread; it is of no account for the others.
+-- What grants a request, and gives it this value: what a read finds, or how a spawned thread is numbered; it is of no account for the others.
 abbrev pub grant_deed : Request → ℤ → Option Deed
 grant_deed (r.Begin l) v = deed l begin
 grant_deed (r.End l) v = deed l end

@@ -1,4 +1,4 @@
-pub mod Event
+pub mod TargetEvent
 pub mod Entries
 pub mod Replay
 pub mod Run

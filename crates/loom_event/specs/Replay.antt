@@ -8,7 +8,7 @@ use Rattle.loom_trace.specs.declared.entry.What.TheVariants as w
 use Rattle.loom_syntax.specs.File.{sema_limit}
 use Rattle.loom_lang.specs.Numbers.{function_number}
 use Rattle.loom_lang.specs.Trace.{Cause, division, index, not_held, not_spawned, threads, frames, overflow, Act, begin, end, trap, read, write, lock, unlock, down, up, spawn, join, print}
-use Rattle.loom_event.specs.Event.{Event}
+use Rattle.loom_event.specs.TargetEvent.{TargetEvent}
 
 -- a thread that was spawned
 pub record ThreadState : Type 0 where
@@ -105,7 +105,7 @@ abbrev pub IsAllowedAct : Store → ℕ → Act → Type 0
 IsAllowedAct s t begin = AwaitsBegin s t
 IsAllowedAct s t a = IsRunning s t × MayDo s t a
 
-abbrev pub IsAllowed : Store → Event → Type 0
+abbrev pub IsAllowed : Store → TargetEvent → Type 0
 IsAllowed s x = IsAllowedAct s x.thread x.act
 
 -- the store behind an event
@@ -142,15 +142,15 @@ after_act s t (spawn c f vs) = record s { spawned = s.spawned ++ new_thread f vs
 after_act s t (join c) = s
 after_act s t (print v) = s
 
-abbrev pub after_event : Store → Event → Store
+abbrev pub after_event : Store → TargetEvent → Store
 after_event s x = after_act s x.thread x.act
 
-abbrev pub replay : Store → List Event → Store
+abbrev pub replay : Store → List TargetEvent → Store
 replay s [] = s
 replay s (x ∷ xs) = replay (after_event s x) xs
 
 -- each event is allowed where the replay of those before it stands
-abbrev pub AreAllowed : Store → List Event → Type 0
+abbrev pub AreAllowed : Store → List TargetEvent → Type 0
 AreAllowed s [] = Unit {0}
 AreAllowed s (x ∷ xs) = IsAllowed s x × AreAllowed (after_event s x) xs
 

@@ -6,7 +6,7 @@ use mathlib.Core.Path.{fun_ext}
 use Rattle.loom_tree.specs.Tree.{Expression, Source}
 use Rattle.loom_lang.specs.Trace.{Lists, Thread, Locals, expression, each_argument}
 use Rattle.loom_flow.specs.declared.code.Target.TheVariants as target
-use Rattle.loom_flow.specs.declared.code.Step.{Step}
+use Rattle.loom_flow.specs.declared.code.CodeStep.{CodeStep}
 use Rattle.loom_flow.specs.Flow.{Flow}
 use Rattle.loom_flow.specs.State.{State, given, jumped, named}
 use Rattle.loom_flow.specs.FlatCode.{steps_to, argument_steps}
@@ -31,8 +31,8 @@ pub arguments_are : (c : Flow) (t : Thread) (l k : ℕ) (xs : List (List ℕ)) (
 arguments_are c t l k xs [] next z at h g = refl
 arguments_are c t l k xs (e ∷ es) next z at h g =
     let env : Locals = named xs z.locals in
-    let first : List Step = steps_to t.program xs target.Push e in
-    let rest : List Step = argument_steps t.program xs es in
+    let first : List CodeStep = steps_to t.program xs target.Push e in
+    let rest : List CodeStep = argument_steps t.program xs es in
     let one : ℕ = skip at first in
     ap {B = Lists} (λ (m : State → Lists). m (jumped z at)) (straight_append c t l k first rest next)
     ∙ steps_are c t l k xs target.Push e (straight c t l k rest next) z at h g.0

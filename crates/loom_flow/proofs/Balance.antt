@@ -12,8 +12,8 @@ use Rattle.loom_flow.specs.declared.code.Operand.{Operand}
 use Rattle.loom_flow.specs.declared.code.Operand.TheVariants as operand
 use Rattle.loom_flow.specs.declared.code.Target.{Target}
 use Rattle.loom_flow.specs.declared.code.Target.TheVariants as target
-use Rattle.loom_flow.specs.declared.code.Step.{Step}
-use Rattle.loom_flow.specs.declared.code.Step.TheVariants as s
+use Rattle.loom_flow.specs.declared.code.CodeStep.{CodeStep}
+use Rattle.loom_flow.specs.declared.code.CodeStep.TheVariants as s
 use Rattle.loom_flow.specs.declared.code.Compute.TheVariants.{Negate, Invert, Apply, Discard}
 use Rattle.loom_flow.specs.declared.code.Ask.TheVariants.{ReadCell, Write, WriteCell, Join, Print, Spawn}
 use Rattle.loom_flow.specs.declared.code.Control.TheVariants.{Begin, Done, Edge, Jump, JumpIfZero, Call, Return, Out}
@@ -21,7 +21,7 @@ use Rattle.loom_flow.specs.FlatCode.{or_zero, word_named, array_named, operand_o
 use Rattle.loom_flow.specs.Depth.{pops, pushes, takes_off, puts_on, AreSmall, IsSmallRight, IsSmallSimple}
 
 -- A step may stand where there are `d` values: what jumps, calls or returns takes off all.
-abbrev pub Fits : ℕ → Step → Type 0
+abbrev pub Fits : ℕ → CodeStep → Type 0
 Fits d (s.Control (Call f n)) = d ≡ n
 Fits d (s.Control (Return a)) = d ≡ pops a
 Fits d (s.Control Out) = d ≡ 0
@@ -30,7 +30,7 @@ Fits d (s.Control (Jump to)) = d ≡ 0
 Fits d (s.Control (JumpIfZero a to)) = d ≡ pops a
 Fits d x = takes_off x ≤ d
 
-pub fits_takes : (d : ℕ) (x : Step) → Fits d x → takes_off x ≤ d
+pub fits_takes : (d : ℕ) (x : CodeStep) → Fits d x → takes_off x ≤ d
 fits_takes d (s.Control (Call f n)) h = omega (arith, h)
 fits_takes d (s.Control (Return a)) h = omega (arith, h)
 fits_takes d (s.Control Out) h = omega arith
@@ -40,11 +40,11 @@ fits_takes d (s.Control (JumpIfZero a to)) h = omega (arith, h)
 fits_takes d _ h = h
 
 -- Steps lead from `d` values to `e`, and there are never more than `m` before one of them.
-abbrev pub Balanced : ℕ → ℕ → List Step → ℕ → Type 0
+abbrev pub Balanced : ℕ → ℕ → List CodeStep → ℕ → Type 0
 Balanced m d [] e = d ≡ e
 Balanced m d (x ∷ xs) e = Fits d x × (d ≤ m) × Balanced m (d - takes_off x + puts_on x) xs e
 
-pub balanced_append : (m d e f : ℕ) (xs ys : List Step) → Balanced m d xs e → Balanced m e ys f → Balanced m d (xs ++ ys) f
+pub balanced_append : (m d e f : ℕ) (xs ys : List CodeStep) → Balanced m d xs e → Balanced m e ys f → Balanced m d (xs ++ ys) f
 balanced_append m d e f [] ys h g = subst (λ q. Balanced m q ys f) (sym h) g
 balanced_append m d e f (x ∷ xs) ys h g = (h.0, h.1, balanced_append m (d - takes_off x + puts_on x) e f xs ys h.2 g)
 
@@ -67,7 +67,7 @@ variable_balanced : (p : Source) (m d : ℕ) (t : Target) (x : List ℕ) (a : Op
 variable_balanced p m d t x None h = (omega arith, h, omega arith)
 variable_balanced p m d t x (Some j) h = (omega arith, h, omega arith)
 
-unless_balanced : (m d : ℕ) (a : Operand) (steps : List Step) → Balanced m d steps (d + 1) → Balanced m d (unless_there a steps) (d + pops a)
+unless_balanced : (m d : ℕ) (a : Operand) (steps : List CodeStep) → Balanced m d steps (d + 1) → Balanced m d (unless_there a steps) (d + pops a)
 unless_balanced m d operand.Top steps h = h
 unless_balanced m d (operand.Local j) steps h = omega arith
 unless_balanced m d (operand.Number n) steps h = omega arith
@@ -101,7 +101,7 @@ pub operand_balanced : (p : Source) (xs : List (List ℕ)) (m d : ℕ) (e : Expr
 operand_balanced p xs m d e h = unless_balanced m d (operand_of xs e) _ (steps_balanced p xs m d target.Push e h)
 
 -- behind a step that takes what an expression left where there was nothing
-taking_balanced : (p : Source) (xs : List (List ℕ)) (m : ℕ) (e : Expression) (x : Step) → node_count e ≤ m → Fits (pops (operand_of xs e)) x → takes_off x ≡ pops (operand_of xs e) → puts_on x ≡ 0
+taking_balanced : (p : Source) (xs : List (List ℕ)) (m : ℕ) (e : Expression) (x : CodeStep) → node_count e ≤ m → Fits (pops (operand_of xs e)) x → takes_off x ≡ pops (operand_of xs e) → puts_on x ≡ 0
     → Balanced m 0 (operand_steps p xs e ++ x ∷ []) 0
 taking_balanced p xs m e x h fits same none =
     balanced_append m 0 (pops (operand_of xs e)) 0 (operand_steps p xs e) (x ∷ [])
@@ -156,13 +156,13 @@ set_balanced p xs m n x (Right.spawn f es) l room known small =
     (store_balanced p m x (index_of x xs) (omega (arith, room)))
 
 -- with a statement's beginning and its completion
-begun : (m : ℕ) (xs : List Step) → Balanced m 0 xs 0 → Balanced m 0 (s.Control Begin ∷ xs) 0
+begun : (m : ℕ) (xs : List CodeStep) → Balanced m 0 xs 0 → Balanced m 0 (s.Control Begin ∷ xs) 0
 begun m xs h = (omega arith, omega arith, h)
 
-completed : (m : ℕ) (xs : List Step) → Balanced m 0 xs 0 → Balanced m 0 (s.Control Begin ∷ (xs ++ s.Control Done ∷ [])) 0
+completed : (m : ℕ) (xs : List CodeStep) → Balanced m 0 xs 0 → Balanced m 0 (s.Control Begin ∷ (xs ++ s.Control Done ∷ [])) 0
 completed m xs h = begun m (xs ++ s.Control Done ∷ []) (balanced_append m 0 0 0 xs (s.Control Done ∷ []) h (omega arith, omega arith, refl))
 
-taken_completed : (p : Source) (xs : List (List ℕ)) (m : ℕ) (e : Expression) (x : Step) → node_count e ≤ m → Fits (pops (operand_of xs e)) x → takes_off x ≡ pops (operand_of xs e) → puts_on x ≡ 0
+taken_completed : (p : Source) (xs : List (List ℕ)) (m : ℕ) (e : Expression) (x : CodeStep) → node_count e ≤ m → Fits (pops (operand_of xs e)) x → takes_off x ≡ pops (operand_of xs e) → puts_on x ≡ 0
     → Balanced m 0 (s.Control Begin ∷ (operand_steps p xs e ++ x ∷ s.Control Done ∷ [])) 0
 taken_completed p xs m e x h fits same none =
     subst (λ ys. Balanced m 0 (s.Control Begin ∷ ys) 0) (append_assoc (operand_steps p xs e) (x ∷ []) (s.Control Done ∷ []))

@@ -10,7 +10,7 @@ use Rattle.loom_flow.specs.Arguments.{takes_body}
 use Rattle.loom_flow.proofs.Counts.{takes_behind, knows_behind}
 use Rattle.loom_flow.specs.declared.code.Instr.{Instr}
 use Rattle.loom_flow.specs.declared.code.Site.{Site}
-use Rattle.loom_flow.specs.declared.code.Step.TheVariants as s
+use Rattle.loom_flow.specs.declared.code.CodeStep.TheVariants as s
 use Rattle.loom_flow.specs.declared.code.Control.TheVariants.{Begin, Done, Edge, Jump, JumpIfZero}
 use Rattle.loom_flow.specs.FlatCode.{operand_of, operand_steps, simple_steps, instr, instrs, site, size, place_count, flat_body, body_sites}
 use Rattle.loom_flow.proofs.Truths.{both, first_of, second_of}

@@ -7,8 +7,8 @@ use Rattle.loom_lang.specs.Trace.{Open, Lists, Thread, Locals, Calls, begins, do
 use Rattle.loom_flow.specs.declared.code.Operand.{Operand}
 use Rattle.loom_flow.specs.declared.code.Operand.TheVariants as operand
 use Rattle.loom_flow.specs.declared.code.Target.TheVariants as target
-use Rattle.loom_flow.specs.declared.code.Step.{Step}
-use Rattle.loom_flow.specs.declared.code.Step.TheVariants as s
+use Rattle.loom_flow.specs.declared.code.CodeStep.{CodeStep}
+use Rattle.loom_flow.specs.declared.code.CodeStep.TheVariants as s
 use Rattle.loom_flow.specs.declared.code.Control.TheVariants.{Begin, Done, Edge, Jump, JumpIfZero}
 use Rattle.loom_flow.specs.declared.code.Instr.{Instr}
 use Rattle.loom_flow.specs.Flow.{Flow, resume}
@@ -68,11 +68,11 @@ ever_runner c t = record {
 -- Conditions
 
 -- with what begins it and jumps behind it
-pub condition_length : (l k : ℕ) (xs : List Step) (x y : Step) → length (instrs l k (x ∷ (xs ++ y ∷ []))) ≡ 2 + length xs
+pub condition_length : (l k : ℕ) (xs : List CodeStep) (x y : CodeStep) → length (instrs l k (x ∷ (xs ++ y ∷ []))) ≡ 2 + length xs
 condition_length l k xs x y = instrs_length l k (x ∷ (xs ++ y ∷ [])) ∙ (let e : length (xs ++ y ∷ []) ≡ length xs + 1 = length-append xs (y ∷ []) in omega arith)
 
 -- steps one behind another, and then any step
-meets_then : (b : Bool) (c : Flow) (t : Thread) (l k : ℕ) (m : State → Lists) (xs : List Step) (x : Step) (at : ℕ) (z : State)
+meets_then : (b : Bool) (c : Flow) (t : Thread) (l k : ℕ) (m : State → Lists) (xs : List CodeStep) (x : CodeStep) (at : ℕ) (z : State)
     → Fetches b c t m → AllStraight xs → Lies c.code at (instrs l k (xs ++ x ∷ [])) → z.at ≡ at
     → Meets b (m z) (straight c t l k xs (λ z'. performed c t m z' (instr l k x) x) z)
 meets_then b c t l k m [] x at z f a h e = meets_instr b c t m z (instr l k x) f (ap (slice_get c.code) e ∙ h.0)
@@ -81,7 +81,7 @@ meets_then b c t l k m (y ∷ ys) x at z f a h e =
     (meets_instr b c t m z (instr l k y) f (ap (slice_get c.code) e ∙ h.0))
     (meets_performed b c t m (straight c t l k ys (λ z'. performed c t m z' (instr l k x) x)) z (instr l k y) y a.0 (λ z' g. meets_then b c t l k m ys x (suc at) z' f a.1 h.1 (g ∙ ap suc e)))
 
-fetched_then : (b : Bool) (c : Flow) (t : Thread) (l k : ℕ) (m : State → Lists) (xs : List Step) (x : Step) (at : ℕ) (z : State)
+fetched_then : (b : Bool) (c : Flow) (t : Thread) (l k : ℕ) (m : State → Lists) (xs : List CodeStep) (x : CodeStep) (at : ℕ) (z : State)
     → Fetches b c t m → AllStraight xs → Lies c.code at (instrs l k (xs ++ x ∷ [])) → z.at ≡ at
     → Meets b (fetched c t m z (slice_get c.code z.at)) (straight c t l k xs (λ z'. performed c t m z' (instr l k x) x) z)
 fetched_then b c t l k m [] x at z f a h e = meets_same b _ _ (ap (fetched c t m z) (ap (slice_get c.code) e ∙ h.0))
@@ -139,13 +139,13 @@ begins_at b c t m l k at xs z q f e g h =
     (meets_emit b (begins l (locals_now c z)) (m (jumped z (suc at))) q h)
     (meets_same b _ _ (ap {B = Lists} (λ ys. emit (begins l (named ys z.locals)) q) e)))
 
-first_is : (at : ℕ) (steps : List Step) → at + (2 + length steps) ≡ suc (skip (suc at) steps)
+first_is : (at : ℕ) (steps : List CodeStep) → at + (2 + length steps) ≡ suc (skip (suc at) steps)
 first_is at steps = let e : skip (suc at) steps ≡ suc at + length steps = skip_length (suc at) steps in omega arith
 
 first_again : (at n : ℕ) → at + (2 + n) ≡ at + 1 + (1 + n)
 first_again at n = omega arith
 
-second_is : (head : ℕ) (steps : List Step) → head + (1 + length steps) ≡ suc (skip head steps)
+second_is : (head : ℕ) (steps : List CodeStep) → head + (1 + length steps) ≡ suc (skip head steps)
 second_is head steps = let e : skip head steps ≡ head + length steps = skip_length head steps in omega arith
 
 pub body_meets : (b : Bool) (c : Flow) (t : Thread) (m : ℕ → State → Lists) → Runner b c t m → (most n : ℕ) → n ≤ most → (calls : Calls) (xs : List (List ℕ)) (z : State) (a : Body) (k at : ℕ) (ret : ℤ → Lists) (more : Locals → Lists)
@@ -156,7 +156,7 @@ pub body_meets : (b : Bool) (c : Flow) (t : Thread) (m : ℕ → State → Lists
 body_meets b c t m runner most n le calls xs z end k at ret more meets names_are h known lies sites returns ends =
     subst (λ i. Meets b (m n (jumped z i)) (more (named xs z.locals))) (omega arith) (ends n (omega arith) z.locals refl)
 body_meets b c t m runner most n le calls xs z (simple l x rest) k at ret more meets names_are h known lies sites returns ends =
-    let steps : List Step = simple_steps t.program xs x in
+    let steps : List CodeStep = simple_steps t.program xs x in
     let next : ℕ = at + length steps in
     let first : Lies c.code at (instrs l k steps) = lies_first c.code at (instrs l k steps) (flat_body t.program xs next (suc k) rest) lies in
     let second : Lies c.code next (flat_body t.program xs next (suc k) rest) =
@@ -168,12 +168,12 @@ body_meets b c t m runner most n le calls xs z (simple l x rest) k at ret more m
     (λ i under ws e. subst (λ i'. Meets b (m i (jumped (record z { locals = ws }) i')) (more (named xs ws))) (omega arith) (ends i (omega (arith, under, below)) ws (e ∙ g)))))
 body_meets b c t m runner most n le calls xs z (if_ l e x y rest) k at ret more meets names_are h known lies sites returns ends =
     let p : Source = t.program in
-    let before : List Step = operand_steps p xs e in
+    let before : List CodeStep = operand_steps p xs e in
     let first : ℕ = at + (2 + length before) in
     let second : ℕ = first + (1 + size p xs x) in
     let last : ℕ = second + size p xs y in
-    let jump : Step = s.Control (JumpIfZero (operand_of xs e) second) in
-    let head : List Step = s.Control Begin ∷ (before ++ jump ∷ []) in
+    let jump : CodeStep = s.Control (JumpIfZero (operand_of xs e) second) in
+    let head : List CodeStep = s.Control Begin ∷ (before ++ jump ∷ []) in
     let code_x : List Instr = flat_body p xs first (suc k) x in
     let code_y : List Instr = flat_body p xs second (suc k + place_count x) y in
     let code_rest : List Instr = flat_body p xs (suc last) (suc k + place_count x + place_count y) rest in
@@ -217,12 +217,12 @@ body_meets b c t m runner most n le calls xs z (if_ l e x y rest) k at ret more 
     (subst (λ i. Meets b (m n (jumped z i)) (body t calls most (named xs z.locals) x ret (λ env. emit (done l) (body t calls most env rest ret more)))) (first_is at before) in_x))))
 body_meets b c t m runner most n le calls xs z (while_ l e x rest) k at ret more meets names_are h known lies sites returns ends =
     let p : Source = t.program in
-    let before : List Step = operand_steps p xs e in
+    let before : List CodeStep = operand_steps p xs e in
     let head : ℕ = at + 1 in
     let first : ℕ = head + (1 + length before) in
     let last : ℕ = first + (1 + size p xs x) in
-    let jump : Step = s.Control (JumpIfZero (operand_of xs e) last) in
-    let begin : List Step = s.Control Begin ∷ (before ++ jump ∷ []) in
+    let jump : CodeStep = s.Control (JumpIfZero (operand_of xs e) last) in
+    let begin : List CodeStep = s.Control Begin ∷ (before ++ jump ∷ []) in
     let code_x : List Instr = flat_body p xs first (suc (suc k)) x in
     let code_rest : List Instr = flat_body p xs (suc last) (suc (suc k) + place_count x) rest in
     let lies_begin : Lies c.code at (instrs l k begin) = lies_first c.code at (instrs l k begin) (code_x ++ instr l (suc k) (s.Control (Edge head)) ∷ instr l k (s.Control Done) ∷ code_rest) lies in

@@ -7,8 +7,8 @@ use Rattle.loom_lang.specs.Limits.{param_limit}
 use Rattle.loom_lang.specs.Rules.{locals_of, KeepsRules, FunctionsKeepRules}
 use Rattle.loom_flow.specs.Arguments.{takes_simple, takes_body}
 use Rattle.loom_flow.proofs.Counts.{body_takes}
-use Rattle.loom_flow.specs.declared.code.Step.{Step}
-use Rattle.loom_flow.specs.declared.code.Step.TheVariants as s
+use Rattle.loom_flow.specs.declared.code.CodeStep.{CodeStep}
+use Rattle.loom_flow.specs.declared.code.CodeStep.TheVariants as s
 use Rattle.loom_flow.specs.declared.code.Control.TheVariants.{Begin, Done, Edge, Jump, JumpIfZero, Call, Return, Out}
 use Rattle.loom_flow.specs.declared.code.Instr.{Instr}
 use Rattle.loom_flow.specs.declared.code.Entrance.{Entrance}
@@ -26,7 +26,7 @@ use Rattle.loom_flow.proofs.Truths.{both}
 
 -- From an instruction to the next
 
-depth_one : (d : ℕ) (x : Step) → takes_off x ≤ d → depth_after d (x ∷ []) ≡ Some (d - takes_off x + puts_on x)
+depth_one : (d : ℕ) (x : CodeStep) → takes_off x ≤ d → depth_after d (x ∷ []) ≡ Some (d - takes_off x + puts_on x)
 depth_one d x h = ap {B = Option ℕ} (λ b. if b then Some (d - takes_off x + puts_on x) else None) (le-leb (takes_off x) d h)
 
 depth_through : (first : ℕ) (is : List Instr) (at : ℕ) (i : Instr) (d : ℕ) → slice_get is at ≡ Some i → depth_after first (map (λ (j : Instr). j.step) (take at is)) ≡ Some d → takes_off i.step ≤ d
@@ -51,20 +51,20 @@ depth_at c at to d e h = subst (λ n. depth_before c n ≡ Some d) e h
 
 -- Steps
 
-depth_over : (c : Flow) (l k at m d e : ℕ) (xs : List Step) → depth_before c at ≡ Some d → Balanced m d xs e → Lies c.code at (instrs l k xs) → depth_before c (at + length xs) ≡ Some e
+depth_over : (c : Flow) (l k at m d e : ℕ) (xs : List CodeStep) → depth_before c at ≡ Some d → Balanced m d xs e → Lies c.code at (instrs l k xs) → depth_before c (at + length xs) ≡ Some e
 depth_over c l k at m d e [] h b lies = depth_at c at (at + 0) e (omega arith) (h ∙ ap {B = Option ℕ} Some b)
 depth_over c l k at m d e (x ∷ xs) h b lies =
     depth_at c (suc at + length xs) (at + suc (length xs)) e (omega arith)
     (depth_over c l k (suc at) m (d - takes_off x + puts_on x) e xs (depth_next c at (instr l k x) d lies.0 h (fits_takes d x b.0)) b.2 lies.1)
 
 -- where a jump or a back edge leads
-abbrev Elsewhere : Flow → Step → Type 0
+abbrev Elsewhere : Flow → CodeStep → Type 0
 Elsewhere c (s.Control (Edge to)) = depth_before c to ≡ Some 0
 Elsewhere c (s.Control (Jump to)) = depth_before c to ≡ Some 0
 Elsewhere c (s.Control (JumpIfZero a to)) = depth_before c to ≡ Some 0
 Elsewhere c _ = Unit {0}
 
-plain_elsewhere : (c : Flow) (x : Step) → is_plain x ≡ true → Elsewhere c x
+plain_elsewhere : (c : Flow) (x : CodeStep) → is_plain x ≡ true → Elsewhere c x
 plain_elsewhere c (s.Control (Edge to)) h = cc
 plain_elsewhere c (s.Control (Jump to)) h = cc
 plain_elsewhere c (s.Control (JumpIfZero a to)) h = cc
@@ -83,7 +83,7 @@ calls_elsewhere c _ = tt
 abbrev Keeps : Flow → ℕ → ℕ → Instr → Type 0
 Keeps c m at i = (d : ℕ) × (depth_before c at ≡ Some d) × (d ≤ m) × KeepsDepth c at d i.step
 
-step_keeps : (c : Flow) (l k at d : ℕ) (x : Step) → slice_get c.code at ≡ Some (instr l k x) → depth_before c at ≡ Some d → Fits d x → Elsewhere c x → KeepsDepth c at d x
+step_keeps : (c : Flow) (l k at d : ℕ) (x : CodeStep) → slice_get c.code at ≡ Some (instr l k x) → depth_before c at ≡ Some d → Fits d x → Elsewhere c x → KeepsDepth c at d x
 step_keeps c l k at d (s.Control (Jump to)) h e fits other = (fits, other)
 step_keeps c l k at d (s.Control (JumpIfZero a to)) h e fits other =
     (fits, depth_next c at (instr l k (s.Control (JumpIfZero a to))) d h e (omega (arith, fits)) ∙ ap {B = Option ℕ} Some (let f : d - pops a + 0 ≡ 0 = omega (arith, fits) in f), other)
@@ -94,7 +94,7 @@ step_keeps c l k at d (s.Control (Return a)) h e fits other = fits
 step_keeps c l k at d (s.Control Out) h e fits other = fits
 step_keeps c l k at d x h e fits other = (fits, depth_next c at (instr l k x) d h e fits)
 
-steps_keep : (c : Flow) (l k at m d e : ℕ) (xs : List Step) → depth_before c at ≡ Some d → Balanced m d xs e → Lies c.code at (instrs l k xs) → AllOf (Elsewhere c) xs → Each (Keeps c m) at (instrs l k xs)
+steps_keep : (c : Flow) (l k at m d e : ℕ) (xs : List CodeStep) → depth_before c at ≡ Some d → Balanced m d xs e → Lies c.code at (instrs l k xs) → AllOf (Elsewhere c) xs → Each (Keeps c m) at (instrs l k xs)
 steps_keep c l k at m d e [] h b lies other = tt
 steps_keep c l k at m d e (x ∷ xs) h b lies other = (
   (d, h, b.1, step_keeps c l k at d x lies.0 h b.0 other.0),
@@ -113,7 +113,7 @@ condition_depth : (c : Flow) (l k at m to : ℕ) (xs : List (List ℕ)) (e : Exp
     → Lies c.code at (instrs l k (s.Control Begin ∷ (operand_steps c.program xs e ++ s.Control (JumpIfZero (operand_of xs e) to) ∷ [])))
     → depth_before c (at + (2 + length (operand_steps c.program xs e))) ≡ Some 0
 condition_depth c l k at m to xs e small h lies =
-    let steps : List Step = s.Control Begin ∷ (operand_steps c.program xs e ++ s.Control (JumpIfZero (operand_of xs e) to) ∷ []) in
+    let steps : List CodeStep = s.Control Begin ∷ (operand_steps c.program xs e ++ s.Control (JumpIfZero (operand_of xs e) to) ∷ []) in
     depth_at c (at + length steps) (at + (2 + length (operand_steps c.program xs e))) 0
     (let n : length (operand_steps c.program xs e ++ s.Control (JumpIfZero (operand_of xs e) to) ∷ []) ≡ length (operand_steps c.program xs e) + 1 = length-append (operand_steps c.program xs e) (s.Control (JumpIfZero (operand_of xs e) to) ∷ []) in
     omega (arith, n))
@@ -127,7 +127,7 @@ body_keeps : (c : Flow) (m n : ℕ) (xs : List (List ℕ)) → KeepsRules c.prog
 body_keeps c m n xs law room at k end known small lies h = (tt, depth_at c at (at + 0) 0 (omega arith) h)
 body_keeps c m n xs law room at k (simple l x rest) known small lies h =
     let p : Source = c.program in
-    let steps : List Step = simple_steps p xs x in
+    let steps : List CodeStep = simple_steps p xs x in
     let next : ℕ = at + length steps in
     let both_known : (takes_simple p x ≡ true) × (takes_body p rest ≡ true) = both _ _ known in
     let lies_first_is : Lies c.code at (instrs l k steps) = lies_first c.code at (instrs l k steps) (flat_body p xs next (suc k) rest) lies in
@@ -144,12 +144,12 @@ body_keeps c m n xs law room at k (simple l x rest) known small lies h =
     )
 body_keeps c m n xs law room at k (if_ l e x y rest) known small lies h =
     let p : Source = c.program in
-    let before : List Step = operand_steps p xs e in
+    let before : List CodeStep = operand_steps p xs e in
     let first : ℕ = at + (2 + length before) in
     let second : ℕ = first + (1 + size p xs x) in
     let last : ℕ = second + size p xs y in
-    let jump : Step = s.Control (JumpIfZero (operand_of xs e) second) in
-    let head : List Step = s.Control Begin ∷ (before ++ jump ∷ []) in
+    let jump : CodeStep = s.Control (JumpIfZero (operand_of xs e) second) in
+    let head : List CodeStep = s.Control Begin ∷ (before ++ jump ∷ []) in
     let code_x : List Instr = flat_body p xs first (suc k) x in
     let code_y : List Instr = flat_body p xs second (suc k + place_count x) y in
     let code_rest : List Instr = flat_body p xs (suc last) (suc k + place_count x + place_count y) rest in
@@ -189,12 +189,12 @@ body_keeps c m n xs law room at k (if_ l e x y rest) known small lies h =
     )
 body_keeps c m n xs law room at k (while_ l e x rest) known small lies h =
     let p : Source = c.program in
-    let before : List Step = operand_steps p xs e in
+    let before : List CodeStep = operand_steps p xs e in
     let head : ℕ = at + 1 in
     let first : ℕ = head + (1 + length before) in
     let last : ℕ = first + (1 + size p xs x) in
-    let jump : Step = s.Control (JumpIfZero (operand_of xs e) last) in
-    let begin : List Step = s.Control Begin ∷ (before ++ jump ∷ []) in
+    let jump : CodeStep = s.Control (JumpIfZero (operand_of xs e) last) in
+    let begin : List CodeStep = s.Control Begin ∷ (before ++ jump ∷ []) in
     let place : ℕ = at + (2 + length before) in
     let same : place ≡ first = omega arith in
     let code_x : List Instr = flat_body p xs first (suc (suc k)) x in

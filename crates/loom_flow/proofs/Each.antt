@@ -1,6 +1,6 @@
 -- What holds of each element of a list, and of its number.
 use Rattle.std.proofs.Common.{ℕ, suc, zero, ◌+◌, ◌-◌, ◌≡◌, ◌≤◌, ◌<◌, List, [], ◌∷◌, ◌++◌, Option, Some, sym, ap, subst, ◌∙◌, slice_get, length, arith}
-use Rattle.loom_flow.specs.declared.code.Step.{Step}
+use Rattle.loom_flow.specs.declared.code.CodeStep.{CodeStep}
 use Rattle.loom_flow.specs.declared.code.Instr.{Instr}
 use Rattle.loom_flow.specs.FlatCode.{instr, instrs}
 use Rattle.loom_flow.proofs.Sublist.{Lies}
@@ -39,12 +39,12 @@ each_at P all at xs h f n x from before g =
     each_there P all at xs h f (n - at) n x (let d : n ≡ at + (n - at) = omega (arith, from) in d) (let d : n - at < length xs = omega (arith, from, before) in d) g
 
 -- the instructions of steps, between two numbers
-pub each_instrs : (P : ℕ → Instr → Type 0) (lo hi at l k : ℕ) (xs : List Step) → lo ≤ at → at + length xs ≤ hi → AllOf (λ x. (n : ℕ) → lo ≤ n → n < hi → P n (instr l k x)) xs → Each P at (instrs l k xs)
+pub each_instrs : (P : ℕ → Instr → Type 0) (lo hi at l k : ℕ) (xs : List CodeStep) → lo ≤ at → at + length xs ≤ hi → AllOf (λ x. (n : ℕ) → lo ≤ n → n < hi → P n (instr l k x)) xs → Each P at (instrs l k xs)
 each_instrs P lo hi at l k [] from to f = tt
 each_instrs P lo hi at l k (x ∷ xs) from to f =
     (f.0 at from (omega (arith, to)), each_instrs P lo hi (suc at) l k xs (omega (arith, from)) (let d : suc at + length xs ≤ hi = omega (arith, to) in d) f.1)
 
 -- and of steps behind others
-pub each_steps : (P : ℕ → Instr → Type 0) (at l k : ℕ) (xs ys : List Step) → Each P at (instrs l k xs) → Each P (at + length xs) (instrs l k ys) → Each P at (instrs l k (xs ++ ys))
+pub each_steps : (P : ℕ → Instr → Type 0) (at l k : ℕ) (xs ys : List CodeStep) → Each P at (instrs l k xs) → Each P (at + length xs) (instrs l k ys) → Each P at (instrs l k (xs ++ ys))
 each_steps P at l k [] ys f g = subst (λ n. Each P n (instrs l k ys)) (let e : at + 0 ≡ at = omega arith in e) g
 each_steps P at l k (x ∷ xs) ys f g = (f.0, each_steps P (suc at) l k xs ys f.1 (subst (λ n. Each P n (instrs l k ys)) (let e : at + suc (length xs) ≡ suc at + length xs = omega arith in e) g))

@@ -8,8 +8,8 @@ use Rattle.loom_lang.specs.Trace.{Item, Lists, Thread, Locals, Calls, made, begi
 use Rattle.loom_flow.specs.declared.code.Operand.{Operand}
 use Rattle.loom_flow.specs.declared.code.Operand.TheVariants as operand
 use Rattle.loom_flow.specs.declared.code.Target.TheVariants as target
-use Rattle.loom_flow.specs.declared.code.Step.{Step}
-use Rattle.loom_flow.specs.declared.code.Step.TheVariants as s
+use Rattle.loom_flow.specs.declared.code.CodeStep.{CodeStep}
+use Rattle.loom_flow.specs.declared.code.CodeStep.TheVariants as s
 use Rattle.loom_flow.specs.declared.code.Compute.TheVariants.{Discard}
 use Rattle.loom_flow.specs.declared.code.Ask.TheVariants.{WriteCell, Lock, Unlock, Down, Up, Join, Print, Spawn}
 use Rattle.loom_flow.specs.declared.code.Control.TheVariants.{Begin, Done, Call, Return}
@@ -67,10 +67,10 @@ Returns b c t m n z ret = (j : ℕ) → j ≤ n → (v : ℤ) → Meets b (emit 
 three_behind : {A : Type 0} (xs : List A) (x y z : A) → ((xs ++ x ∷ []) ++ y ∷ []) ++ z ∷ [] ≡ xs ++ x ∷ y ∷ z ∷ []
 three_behind xs x y z = append_assoc (xs ++ x ∷ []) (y ∷ []) (z ∷ []) ∙ append_assoc xs (x ∷ []) (y ∷ z ∷ [])
 
-three_steps : (at : ℕ) (xs : List Step) (x y z : Step) → skip at (((xs ++ x ∷ []) ++ y ∷ []) ++ z ∷ []) ≡ suc (suc (suc (skip at xs)))
+three_steps : (at : ℕ) (xs : List CodeStep) (x y z : CodeStep) → skip at (((xs ++ x ∷ []) ++ y ∷ []) ++ z ∷ []) ≡ suc (suc (suc (skip at xs)))
 three_steps at xs x y z = ap (skip at) (three_behind xs x y z) ∙ skip_append at xs (x ∷ y ∷ z ∷ [])
 
-call_resumes : (at : ℕ) (xs : List Step) (x : Step) → at + (1 + length (xs ++ x ∷ [])) ≡ suc (skip (suc at) xs)
+call_resumes : (at : ℕ) (xs : List CodeStep) (x : CodeStep) → at + (1 + length (xs ++ x ∷ [])) ≡ suc (skip (suc at) xs)
 call_resumes at xs x = let e : skip (suc at) xs ≡ suc at + length xs = skip_length (suc at) xs in let f : length (xs ++ x ∷ []) ≡ length xs + 1 = length-append xs (x ∷ []) in omega arith
 
 value_straight : (p : Source) (x : List ℕ) (xs : List (List ℕ)) (e : Expression) (a : Option ℕ) → AllStraight (value_steps p xs x e a ++ s.Control Done ∷ [])
@@ -92,9 +92,9 @@ set_meets b c t m n l k at xs z calls x (Right.value e) more fetches meets names
     meets_begin b c t (m n) l k at xs z (value_steps t.program xs x e (index_of x xs) ++ s.Control Done ∷ []) _ (fetches n) names_are (value_straight t.program x xs e (index_of x xs)) lies
     (meets_value b c t (m n) l k (suc at) x xs z e more h numbered_x known (ends n (omega arith)))
 set_meets b c t m n l k at xs z calls x (Right.call f es) more fetches meets names_are h numbered_x known lies site ends =
-    let before : List Step = argument_steps t.program xs es in
-    let call : Step = s.Control (Call (or_zero (function_number t.program f)) (length es)) in
-    let store : Step = store_step t.program x (index_of x xs) in
+    let before : List CodeStep = argument_steps t.program xs es in
+    let call : CodeStep = s.Control (Call (or_zero (function_number t.program f)) (length es)) in
+    let store : CodeStep = store_step t.program x (index_of x xs) in
     meets_call b c t m n l k at xs z calls f es (store ∷ s.Control Done ∷ []) (λ v. stored t l (named xs z.locals) (value_in (named xs z.locals) x) x v (λ env. emit (done l) (more env)))
     fetches meets names_are h known.0 known.1 (store_straight t.program x (index_of x xs))
     (subst (λ steps. Lies c.code at (instrs l k (s.Control Begin ∷ steps))) (three_behind before call store (s.Control Done)) lies)
@@ -102,10 +102,10 @@ set_meets b c t m n l k at xs z calls x (Right.call f es) more fetches meets nam
     (λ j le v. meets_store b c t (m j) l k (suc (skip (suc at) before)) x xs z v more h numbered_x (λ vs g.
     subst (λ i. Meets b (m j (jumped (record z { locals = vs }) i)) (more (named xs vs))) (three_steps (suc at) before call store (s.Control Done)) (ends j le vs g)))
 set_meets b c t m n l k at xs z calls x (Right.spawn f es) more fetches meets names_are h numbered_x known lies site ends =
-    let before : List Step = argument_steps t.program xs es in
-    let spawn : Step = s.Ask (Spawn (or_zero (function_number t.program f)) (length es) target.Push) in
-    let store : Step = store_step t.program x (index_of x xs) in
-    let rest : List Step = before ++ spawn ∷ store ∷ s.Control Done ∷ [] in
+    let before : List CodeStep = argument_steps t.program xs es in
+    let spawn : CodeStep = s.Ask (Spawn (or_zero (function_number t.program f)) (length es) target.Push) in
+    let store : CodeStep = store_step t.program x (index_of x xs) in
+    let rest : List CodeStep = before ++ spawn ∷ store ∷ s.Control Done ∷ [] in
     meets_begin b c t (m n) l k at xs z rest _ (fetches n) names_are
     (all_straight_append before (spawn ∷ store ∷ s.Control Done ∷ []) (arguments_straight t.program xs es) (refl, store_straight t.program x (index_of x xs)))
     (subst (λ steps. Lies c.code at (instrs l k (s.Control Begin ∷ steps))) (three_behind before spawn store (s.Control Done)) lies)
@@ -117,7 +117,7 @@ set_meets b c t m n l k at xs z calls x (Right.spawn f es) more fetches meets na
 -- A step with a number, without an operand
 
 numbered_step : (b : Bool) (c : Flow) (t : Thread) (m : State → Lists) (l k at : ℕ) (xs : List (List ℕ)) (z : State) (number : Option ℕ) (n : ℕ)
-    (x : ℕ → Step) (y : ℕ → Lists → Lists) (q : Lists)
+    (x : ℕ → CodeStep) (y : ℕ → Lists → Lists) (q : Lists)
     → ((i : ℕ) (next : State → Lists) (z' : State) → straight c t l k (x i ∷ []) next z' ≡ y i (next (jumped z' (suc z'.at))))
     → ((i : ℕ) (p r : Lists) → Meets b p r → Meets b (y i p) (y i r))
     → number ≡ Some n → Meets b (m (jumped z (suc (suc at)))) q
@@ -155,15 +155,15 @@ simple_meets b c t m n l k at xs z calls (set x r) ret more fetches meets names_
     set_meets b c t m n l k at xs z calls x r more fetches meets names_are h known.0 known.1 lies
     (λ f es e. site ∙ ap (λ r'. resume_of t.program xs at (set x r')) e) ends
 simple_meets b c t m n l k at xs z calls (set_cell x i e) ret more fetches meets names_are h known lies site returns ends =
-    let first : List Step = operand_steps t.program xs i in
-    let second : List Step = operand_steps t.program xs e in
-    let last : List Step = s.Ask (WriteCell (array_named t.program x) (operand_of xs i) (operand_of xs e)) ∷ s.Control Done ∷ [] in
+    let first : List CodeStep = operand_steps t.program xs i in
+    let second : List CodeStep = operand_steps t.program xs e in
+    let last : List CodeStep = s.Ask (WriteCell (array_named t.program x) (operand_of xs i) (operand_of xs e)) ∷ s.Control Done ∷ [] in
     meets_begin b c t (m n) l k at xs z (first ++ (second ++ last)) _ (fetches n) names_are
     (all_straight_append first (second ++ last) (operand_straight t.program xs i) (all_straight_append second last (operand_straight t.program xs e) (refl, (refl, tt)))) lies
     (meets_cell b c t (m n) l k (suc at) x xs z i e (more (named xs z.locals)) h known.0 known.1 known.2 (ends n (omega arith) z.locals refl))
 simple_meets b c t m n l k at xs z calls (Simple.call f es) ret more fetches meets names_are h known lies site returns ends =
-    let before : List Step = argument_steps t.program xs es in
-    let call : Step = s.Control (Call (or_zero (function_number t.program f)) (length es)) in
+    let before : List CodeStep = argument_steps t.program xs es in
+    let call : CodeStep = s.Control (Call (or_zero (function_number t.program f)) (length es)) in
     let same : (before ++ call ∷ []) ++ s.Compute Discard ∷ s.Control Done ∷ [] ≡ before ++ call ∷ s.Compute Discard ∷ s.Control Done ∷ [] = append_assoc before (call ∷ []) (s.Compute Discard ∷ s.Control Done ∷ []) in
     meets_call b c t m n l k at xs z calls f es (s.Compute Discard ∷ s.Control Done ∷ []) (λ v. emit (done l) (more (named xs z.locals)))
     fetches meets names_are h known.0 known.1 (refl, (refl, tt))

@@ -10,8 +10,8 @@ use Rattle.loom_flow.specs.declared.code.Operand.{Operand}
 use Rattle.loom_flow.specs.declared.code.Operand.TheVariants as operand
 use Rattle.loom_flow.specs.declared.code.Target.{Target}
 use Rattle.loom_flow.specs.declared.code.Target.TheVariants as target
-use Rattle.loom_flow.specs.declared.code.Step.{Step}
-use Rattle.loom_flow.specs.declared.code.Step.TheVariants as s
+use Rattle.loom_flow.specs.declared.code.CodeStep.{CodeStep}
+use Rattle.loom_flow.specs.declared.code.CodeStep.TheVariants as s
 use Rattle.loom_flow.specs.declared.code.Ask.TheVariants.{Read, ReadCell, Write, WriteCell, Lock, Unlock, Down, Up, Spawn}
 use Rattle.loom_flow.specs.declared.code.Control.TheVariants.{Begin, Done, Edge, Jump, JumpIfZero, Call}
 use Rattle.loom_flow.specs.declared.code.Instr.{Instr}
@@ -25,7 +25,7 @@ use Rattle.loom_flow.proofs.Roles.{not_in}
 use Rattle.loom_flow.proofs.Truths.{both, or_else}
 
 -- It has no number of anything that the program declares.
-abbrev pub is_unnumbered : Step → Bool
+abbrev pub is_unnumbered : CodeStep → Bool
 is_unnumbered (s.Ask (Read w d)) = false
 is_unnumbered (s.Ask (ReadCell a n d)) = false
 is_unnumbered (s.Ask (Write w a)) = false
@@ -39,8 +39,8 @@ is_unnumbered (s.Control (Call f n)) = false
 is_unnumbered _ = true
 
 -- It holds of the steps that a program that keeps the rules may have.
-pub record HoldsOf (p : Source) (P : Step → Type 0) : Type 0 where
-  pub other : (x : Step) → is_unnumbered x ≡ true → HasLocals x → P x
+pub record HoldsOf (p : Source) (P : CodeStep → Type 0) : Type 0 where
+  pub other : (x : CodeStep) → is_unnumbered x ≡ true → HasLocals x → P x
   pub read : (x : List ℕ) (d : Target) → HasLocalFor d → is_word p.words x ≡ true → P (s.Ask (Read (word_named p x) d))
   pub write : (x : List ℕ) (a : Operand) → HasLocal a → is_word p.words x ≡ true → P (s.Ask (Write (word_named p x) a))
   pub read_cell : (x : List ℕ) (n : Operand) (d : Target) → HasLocal n → HasLocalFor d → is_array p.words x ≡ true → P (s.Ask (ReadCell (array_named p x) n d))
@@ -89,17 +89,17 @@ operand_local xs (neg a) few = tt
 operand_local xs (inverse a) few = tt
 operand_local xs (bin o a b) few = tt
 
-variable_each : (p : Source) (P : Step → Type 0) (d : Target) (xs : List (List ℕ)) (x : List ℕ) (a : Option ℕ) → HoldsOf p P → Fits xs → HasLocalFor d → index_of x xs ≡ a
+variable_each : (p : Source) (P : CodeStep → Type 0) (d : Target) (xs : List (List ℕ)) (x : List ℕ) (a : Option ℕ) → HoldsOf p P → Fits xs → HasLocalFor d → index_of x xs ≡ a
     → (is_in x xs || is_word p.words x) ≡ true → P (variable_step p d x a)
 variable_each p P d xs x None h few to e k = h.read x d to (word_behind p xs x e k)
 variable_each p P d xs x (Some j) h few to e k = h.other _ refl (local_within x xs j few e, to)
 
-unless_each : (P : Step → Type 0) (a : Operand) (steps : List Step) → AllOf P steps → AllOf P (unless_there a steps)
+unless_each : (P : CodeStep → Type 0) (a : Operand) (steps : List CodeStep) → AllOf P steps → AllOf P (unless_there a steps)
 unless_each P operand.Top steps h = h
 unless_each P (operand.Local j) steps h = tt
 unless_each P (operand.Number n) steps h = tt
 
-steps_each : (p : Source) (P : Step → Type 0) (xs : List (List ℕ)) (d : Target) (e : Expression) → HoldsOf p P → Fits xs → HasLocalFor d → knows p xs e ≡ true → AllOf P (steps_to p xs d e)
+steps_each : (p : Source) (P : CodeStep → Type 0) (xs : List (List ℕ)) (d : Target) (e : Expression) → HoldsOf p P → Fits xs → HasLocalFor d → knows p xs e ≡ true → AllOf P (steps_to p xs d e)
 steps_each p P xs d (num n) h few to k = (h.other _ refl (tt, to), tt)
 steps_each p P xs d (var x) h few to k = (variable_each p P d xs x (index_of x xs) h few to refl k, tt)
 steps_each p P xs d (cell x i) h few to k =
@@ -115,10 +115,10 @@ steps_each p P xs d (bin o a b) h few to k =
     (all_append P (operand_steps p xs b) _ (unless_each P (operand_of xs b) _ (steps_each p P xs target.Push b h few tt g.1))
     (h.other _ refl (operand_local xs a few, operand_local xs b few, to), tt))
 
-operand_each : (p : Source) (P : Step → Type 0) (xs : List (List ℕ)) (e : Expression) → HoldsOf p P → Fits xs → knows p xs e ≡ true → AllOf P (operand_steps p xs e)
+operand_each : (p : Source) (P : CodeStep → Type 0) (xs : List (List ℕ)) (e : Expression) → HoldsOf p P → Fits xs → knows p xs e ≡ true → AllOf P (operand_steps p xs e)
 operand_each p P xs e h few k = unless_each P (operand_of xs e) _ (steps_each p P xs target.Push e h few tt k)
 
-arguments_each : (p : Source) (P : Step → Type 0) (xs : List (List ℕ)) (es : List Expression) → HoldsOf p P → Fits xs → knows_all p xs es ≡ true → AllOf P (argument_steps p xs es)
+arguments_each : (p : Source) (P : CodeStep → Type 0) (xs : List (List ℕ)) (es : List Expression) → HoldsOf p P → Fits xs → knows_all p xs es ≡ true → AllOf P (argument_steps p xs es)
 arguments_each p P xs [] h few k = tt
 arguments_each p P xs (e ∷ es) h few k =
     let g : (knows p xs e ≡ true) × (knows_all p xs es ≡ true) = both _ _ k in
@@ -126,25 +126,25 @@ arguments_each p P xs (e ∷ es) h few k =
 
 -- Statements
 
-call_each : (p : Source) (P : Step → Type 0) (xs : List (List ℕ)) (f : List ℕ) (es : List Expression) → HoldsOf p P → Fits xs → knows_call p xs f es ≡ true → takes p.funcs f (length es) ≡ true
+call_each : (p : Source) (P : CodeStep → Type 0) (xs : List (List ℕ)) (f : List ℕ) (es : List Expression) → HoldsOf p P → Fits xs → knows_call p xs f es ≡ true → takes p.funcs f (length es) ≡ true
     → AllOf P (call_steps p xs f es)
 call_each p P xs f es h few k t = all_append P (argument_steps p xs es) _ (arguments_each p P xs es h few (both _ _ k).1) (h.call f (length es) t, tt)
 
-spawn_each : (p : Source) (P : Step → Type 0) (xs : List (List ℕ)) (f : List ℕ) (es : List Expression) → HoldsOf p P → Fits xs → knows_call p xs f es ≡ true → takes p.funcs f (length es) ≡ true
+spawn_each : (p : Source) (P : CodeStep → Type 0) (xs : List (List ℕ)) (f : List ℕ) (es : List Expression) → HoldsOf p P → Fits xs → knows_call p xs f es ≡ true → takes p.funcs f (length es) ≡ true
     → AllOf P (spawn_steps p xs f es)
 spawn_each p P xs f es h few k t = all_append P (argument_steps p xs es) _ (arguments_each p P xs es h few (both _ _ k).1) (h.spawn f (length es) target.Push tt t, tt)
 
 -- what comes of a call is put into a local
-store_each : (p : Source) (P : Step → Type 0) (xs : List (List ℕ)) (x : List ℕ) (a : Option ℕ) → HoldsOf p P → Fits xs → index_of x xs ≡ a → is_in x xs ≡ true → P (store_step p x a)
+store_each : (p : Source) (P : CodeStep → Type 0) (xs : List (List ℕ)) (x : List ℕ) (a : Option ℕ) → HoldsOf p P → Fits xs → index_of x xs ≡ a → is_in x xs ≡ true → P (store_step p x a)
 store_each p P xs x None h few e k = absurd (not_in x xs e k)
 store_each p P xs x (Some j) h few e k = h.other _ refl (tt, local_within x xs j few e)
 
-value_each : (p : Source) (P : Step → Type 0) (xs : List (List ℕ)) (x : List ℕ) (e : Expression) (a : Option ℕ) → HoldsOf p P → Fits xs → index_of x xs ≡ a
+value_each : (p : Source) (P : CodeStep → Type 0) (xs : List (List ℕ)) (x : List ℕ) (e : Expression) (a : Option ℕ) → HoldsOf p P → Fits xs → index_of x xs ≡ a
     → (is_in x xs || is_word p.words x) ≡ true → knows p xs e ≡ true → AllOf P (value_steps p xs x e a)
 value_each p P xs x e None h few is k g = all_append P (operand_steps p xs e) _ (operand_each p P xs e h few g) (h.write x (operand_of xs e) (operand_local xs e few) (word_behind p xs x is k), tt)
 value_each p P xs x e (Some j) h few is k g = steps_each p P xs (target.Local j) e h few (local_within x xs j few is) g
 
-set_each : (p : Source) (P : Step → Type 0) (xs : List (List ℕ)) (x : List ℕ) (r : Right Expression) → HoldsOf p P → Fits xs → knows_right p xs x r ≡ true → takes_right p r ≡ true → AllOf P (set_steps p xs x r)
+set_each : (p : Source) (P : CodeStep → Type 0) (xs : List (List ℕ)) (x : List ℕ) (r : Right Expression) → HoldsOf p P → Fits xs → knows_right p xs x r ≡ true → takes_right p r ≡ true → AllOf P (set_steps p xs x r)
 set_each p P xs x (Right.value e) h few k t =
     let g : ((is_in x xs || is_word p.words x) ≡ true) × (knows p xs e ≡ true) = both _ _ k in
     value_each p P xs x e (index_of x xs) h few refl g.0 g.1
@@ -155,7 +155,7 @@ set_each p P xs x (Right.spawn f es) h few k t =
     let g : (is_in x xs ≡ true) × (knows_call p xs f es ≡ true) = both _ _ k in
     all_append P (spawn_steps p xs f es) _ (spawn_each p P xs f es h few g.1 t) (store_each p P xs x (index_of x xs) h few refl g.0, tt)
 
-simple_each : (p : Source) (P : Step → Type 0) (xs : List (List ℕ)) (x : Simple Expression) → HoldsOf p P → Fits xs → knows_simple p xs x ≡ true → takes_simple p x ≡ true → AllOf P (simple_steps p xs x)
+simple_each : (p : Source) (P : CodeStep → Type 0) (xs : List (List ℕ)) (x : Simple Expression) → HoldsOf p P → Fits xs → knows_simple p xs x ≡ true → takes_simple p x ≡ true → AllOf P (simple_steps p xs x)
 simple_each p P xs (let_ x r) h few k t = (h.other _ refl tt, all_append P (set_steps p xs x r) _ (set_each p P xs x r h few k t) (h.other _ refl tt, tt))
 simple_each p P xs (set x r) h few k t = (h.other _ refl tt, all_append P (set_steps p xs x r) _ (set_each p P xs x r h few k t) (h.other _ refl tt, tt))
 simple_each p P xs (set_cell x i e) h few k t =
@@ -178,21 +178,21 @@ simple_each p P xs tree.skip h few k t = (h.other _ refl tt, (h.other _ refl tt,
 
 -- Instructions
 
-abbrev AllSteps : (Step → Type 0) → List Instr → Type 0
+abbrev AllSteps : (CodeStep → Type 0) → List Instr → Type 0
 AllSteps P is = AllOf (λ (i : Instr). P i.step) is
 
-instrs_each : (P : Step → Type 0) (l n : ℕ) (steps : List Step) → AllOf P steps → AllSteps P (instrs l n steps)
+instrs_each : (P : CodeStep → Type 0) (l n : ℕ) (steps : List CodeStep) → AllOf P steps → AllSteps P (instrs l n steps)
 instrs_each P l n [] h = tt
 instrs_each P l n (x ∷ steps) h = (h.0, instrs_each P l n steps h.1)
 
-both_each : (P : Step → Type 0) (is js : List Instr) → AllSteps P is → AllSteps P js → AllSteps P (is ++ js)
+both_each : (P : CodeStep → Type 0) (is js : List Instr) → AllSteps P is → AllSteps P js → AllSteps P (is ++ js)
 both_each P is js h g = all_append (λ (i : Instr). P i.step) is js h g
 
-condition_each : (p : Source) (P : Step → Type 0) (xs : List (List ℕ)) (l n to : ℕ) (e : Expression) → HoldsOf p P → Fits xs → knows p xs e ≡ true
+condition_each : (p : Source) (P : CodeStep → Type 0) (xs : List (List ℕ)) (l n to : ℕ) (e : Expression) → HoldsOf p P → Fits xs → knows p xs e ≡ true
     → AllSteps P (instrs l n (s.Control Begin ∷ (operand_steps p xs e ++ s.Control (JumpIfZero (operand_of xs e) to) ∷ [])))
 condition_each p P xs l n to e h few k = (h.other _ refl tt, instrs_each P l n _ (all_append P (operand_steps p xs e) _ (operand_each p P xs e h few k) (h.other _ refl (operand_local xs e few), tt)))
 
-body_each : (p : Source) (P : Step → Type 0) (xs : List (List ℕ)) (at n : ℕ) (a : Body) → HoldsOf p P → Fits xs → knows_body p xs a ≡ true → takes_body p a ≡ true → AllSteps P (flat_body p xs at n a)
+body_each : (p : Source) (P : CodeStep → Type 0) (xs : List (List ℕ)) (at n : ℕ) (a : Body) → HoldsOf p P → Fits xs → knows_body p xs a ≡ true → takes_body p a ≡ true → AllSteps P (flat_body p xs at n a)
 body_each p P xs at n end h few k t = tt
 body_each p P xs at n (simple l x rest) h few k t =
     let g : (knows_simple p xs x ≡ true) × (knows_body p xs rest ≡ true) = both _ _ k in
@@ -229,7 +229,7 @@ body_each p P xs at n (while_ l e a rest) h few k t =
 
 -- Functions
 
-functions_each : (p : Source) (P : Step → Type 0) (at n : ℕ) (fs : List Function) → HoldsOf p P → FunctionsKeepRules p fs → AllSteps P (functions_code p at n fs)
+functions_each : (p : Source) (P : CodeStep → Type 0) (at n : ℕ) (fs : List Function) → HoldsOf p P → FunctionsKeepRules p fs → AllSteps P (functions_code p at n fs)
 functions_each p P at n [] h l = tt
 functions_each p P at n (f ∷ fs) h l =
     both_each P (flat_body p (locals_of f) at (suc n) f.body) _ (body_each p P (locals_of f) at (suc n) f.body h l.0.locals l.0.known (function_takes p f l.0))
@@ -240,5 +240,5 @@ all_at P [] at x h e = cc
 all_at P (y ∷ ys) zero x h e = subst P (same_element y x e) h.0
 all_at P (y ∷ ys) (suc at) x h e = all_at P ys at x h.1 e
 
-pub each_step : (p : Source) (P : Step → Type 0) (at : ℕ) (i : Instr) → KeepsRules p → HoldsOf p P → slice_get (lowered p).code at ≡ Some i → P i.step
+pub each_step : (p : Source) (P : CodeStep → Type 0) (at : ℕ) (i : Instr) → KeepsRules p → HoldsOf p P → slice_get (lowered p).code at ≡ Some i → P i.step
 each_step p P at i l h e = all_at (λ (j : Instr). P j.step) (lowered p).code at i (functions_each p P 0 1 p.funcs h l.functions) e

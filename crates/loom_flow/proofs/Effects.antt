@@ -8,8 +8,8 @@ use Rattle.loom_lang.specs.Trace.{Item, Lists, Thread, Locals, Calls, made, begi
 use Rattle.loom_flow.specs.declared.code.Operand.{Operand}
 use Rattle.loom_flow.specs.declared.code.Operand.TheVariants as operand
 use Rattle.loom_flow.specs.declared.code.Target.TheVariants as target
-use Rattle.loom_flow.specs.declared.code.Step.{Step}
-use Rattle.loom_flow.specs.declared.code.Step.TheVariants as s
+use Rattle.loom_flow.specs.declared.code.CodeStep.{CodeStep}
+use Rattle.loom_flow.specs.declared.code.CodeStep.TheVariants as s
 use Rattle.loom_flow.specs.declared.code.Ask.TheVariants.{WriteCell, Spawn}
 use Rattle.loom_flow.specs.declared.code.Control.TheVariants.{Begin, Done, Return}
 use Rattle.loom_flow.specs.Flow.{Flow}
@@ -27,16 +27,16 @@ use Rattle.loom_flow.proofs.Simple.{IsFunction}
 
 -- Spawns
 
-pub spawn_is : (b : Bool) (c : Flow) (t : Thread) (m : State → Lists) (l k at : ℕ) (xs : List (List ℕ)) (z : State) (f : List ℕ) (es : List Expression) (rest : List Step) (more : ℤ → Lists)
+pub spawn_is : (b : Bool) (c : Flow) (t : Thread) (m : State → Lists) (l k at : ℕ) (xs : List (List ℕ)) (z : State) (f : List ℕ) (es : List Expression) (rest : List CodeStep) (more : ℤ → Lists)
     → length xs ≤ length z.locals → IsFunction t.program f → AllKnown t.program xs es
     → ((v : ℤ) → Meets b (straight c t l k rest m (jumped (record z { values = v ∷ z.values }) (suc (skip at (argument_steps t.program xs es))))) (more v))
     → Meets b (straight c t l k (argument_steps t.program xs es ++ s.Ask (Spawn (or_zero (function_number t.program f)) (length es) target.Push) ∷ rest) m (jumped z at))
     (each_argument t l (named xs z.locals) es (λ vs. numbered (function_number t.program f) (λ g. either (trap_lists t l trace.threads) (any (λ n. emit (made l (trace.spawn n g vs)) (more (pos n)))))))
 spawn_is b c t m l k at xs z f es rest more h function known goes_on =
     let env : Locals = named xs z.locals in
-    let before : List Step = argument_steps t.program xs es in
+    let before : List CodeStep = argument_steps t.program xs es in
     let g : ℕ = or_zero (function_number t.program f) in
-    let x : Step = s.Ask (Spawn g (length es) target.Push) in
+    let x : CodeStep = s.Ask (Spawn g (length es) target.Push) in
     let a : ℕ = skip at before in
     let found : g ≡ function.0 = ap or_zero function.1 in
     let behind : ℤ → Lists = λ v. straight c t l k rest m (jumped (record z { values = v ∷ z.values }) (suc a)) in
@@ -92,9 +92,9 @@ meets_cell way c t m l k at x xs z e f q h array known_e known_f ends =
     let env : Locals = named xs z.locals in
     let a : Operand = operand_of xs e in
     let b : Operand = operand_of xs f in
-    let first : List Step = operand_steps t.program xs e in
-    let second : List Step = operand_steps t.program xs f in
-    let last : List Step = s.Ask (WriteCell (array_named t.program x) a b) ∷ s.Control Done ∷ [] in
+    let first : List CodeStep = operand_steps t.program xs e in
+    let second : List CodeStep = operand_steps t.program xs f in
+    let last : List CodeStep = s.Ask (WriteCell (array_named t.program x) a b) ∷ s.Control Done ∷ [] in
     let behind : State → Lists = straight c t l k (s.Control Done ∷ []) m in
     let one : ℕ = skip at first in
     let two : ℕ = skip one second in
@@ -133,7 +133,7 @@ pub meets_return : (b : Bool) (c : Flow) (t : Thread) (m : State → Lists) (l k
 meets_return b c t m l k at xs z e ret fetches names_are h known lies returns =
     let env : Locals = named xs z.locals in
     let a : Operand = operand_of xs e in
-    let before : List Step = operand_steps t.program xs e in
+    let before : List CodeStep = operand_steps t.program xs e in
     let n : ℕ = skip (suc at) before in
     let behind : Lies c.code n (instrs l k (s.Control (Return a) ∷ [])) = lies_rest c l k at (s.Control Begin ∷ before) (s.Control (Return a) ∷ []) lies in
     meets_begin b c t m l k at xs z before (expression t l env e (λ v. emit (done l) (ret v))) fetches names_are (operand_straight t.program xs e) (lies_front c l k at (s.Control Begin ∷ before) (s.Control (Return a) ∷ []) lies)

@@ -10,8 +10,8 @@ use Rattle.loom_flow.specs.declared.code.Operand.{Operand}
 use Rattle.loom_flow.specs.declared.code.Operand.TheVariants as operand
 use Rattle.loom_flow.specs.declared.code.Target.{Target}
 use Rattle.loom_flow.specs.declared.code.Target.TheVariants as target
-use Rattle.loom_flow.specs.declared.code.Step.{Step}
-use Rattle.loom_flow.specs.declared.code.Step.TheVariants as s
+use Rattle.loom_flow.specs.declared.code.CodeStep.{CodeStep}
+use Rattle.loom_flow.specs.declared.code.CodeStep.TheVariants as s
 use Rattle.loom_flow.specs.declared.code.Compute.TheVariants.{Negate, Invert, Apply}
 use Rattle.loom_flow.specs.declared.code.Ask.TheVariants.{ReadCell}
 use Rattle.loom_flow.specs.Flow.{Flow}
@@ -76,7 +76,7 @@ settled_is t l xs vs (bin o a b) more h = refl
 
 -- The steps that leave a value on top serve for an operand, too.
 
-variable_operand : (c : Flow) (t : Thread) (l k : ℕ) (x : List ℕ) (steps : List Step) (next : State → Lists) (z : State) (at : ℕ) (a : Option ℕ)
+variable_operand : (c : Flow) (t : Thread) (l k : ℕ) (x : List ℕ) (steps : List CodeStep) (next : State → Lists) (z : State) (at : ℕ) (a : Option ℕ)
     → straight c t l k steps next (jumped z at) ≡ variable t l (local_value z.locals a) x (λ v. next (jumped (given z target.Push v) (skip at steps)))
     → straight c t l k (unless_there (local_operand a) steps) next (jumped z at)
     ≡ variable t l (local_value z.locals a) x (λ v. next (jumped (left (local_operand a) v z) (skip at (unless_there (local_operand a) steps))))
@@ -91,7 +91,7 @@ pub operand_are : (c : Flow) (t : Thread) (l k : ℕ) (xs : List (List ℕ)) (e 
 operand_are c t l k xs (num n) next z at h g = refl
 operand_are c t l k xs (var x) next z at h g =
     let found : value_in (named xs z.locals) x ≡ local_value z.locals (index_of x xs) = value_named xs z.locals x h in
-    let steps : List Step = steps_to t.program xs target.Push (var x) in
+    let steps : List CodeStep = steps_to t.program xs target.Push (var x) in
     let a : Operand = local_operand (index_of x xs) in
     variable_operand c t l k x steps next z at (index_of x xs) (g ∙ ap {B = Lists} (λ w. variable t l w x (λ v. next (jumped (given z target.Push v) (skip at steps)))) found)
     ∙ ap {B = Lists} (λ w. variable t l w x (λ v. next (jumped (left a v z) (skip at (unless_there a steps))))) (sym found)
@@ -166,8 +166,8 @@ steps_are c t l k xs d (var x) next z at h g =
 steps_are c t l k xs d (cell x i) next z at h g =
     let env : Locals = named xs z.locals in
     let a : Operand = operand_of xs i in
-    let before : List Step = operand_steps t.program xs i in
-    let last : List Step = s.Ask (ReadCell (array_named t.program x) a d) ∷ [] in
+    let before : List CodeStep = operand_steps t.program xs i in
+    let last : List CodeStep = s.Ask (ReadCell (array_named t.program x) a d) ∷ [] in
     ap {B = Lists} (λ (m : State → Lists). m (jumped z at)) (straight_append c t l k before last next)
     ∙ operand_are c t l k xs i (straight c t l k last next) z at h (steps_are c t l k xs target.Push i (straight c t l k last next) z at h g.1)
     ∙ ap {B = Lists} (λ (m : ℤ → Lists). expression t l env i m) (fun_ext (λ v. read_cell_is c t l k d x a next z (skip at before) v g.0))
@@ -176,8 +176,8 @@ steps_are c t l k xs d (cell x i) next z at h g =
 steps_are c t l k xs d (neg e) next z at h g =
     let env : Locals = named xs z.locals in
     let a : Operand = operand_of xs e in
-    let before : List Step = operand_steps t.program xs e in
-    let last : List Step = s.Compute (Negate a d) ∷ [] in
+    let before : List CodeStep = operand_steps t.program xs e in
+    let last : List CodeStep = s.Compute (Negate a d) ∷ [] in
     ap {B = Lists} (λ (m : State → Lists). m (jumped z at)) (straight_append c t l k before last next)
     ∙ operand_are c t l k xs e (straight c t l k last next) z at h (steps_are c t l k xs target.Push e (straight c t l k last next) z at h g)
     ∙ ap {B = Lists} (λ (m : ℤ → Lists). expression t l env e m) (fun_ext (λ v. negate_is c t l k d a next z (skip at before) v))
@@ -186,8 +186,8 @@ steps_are c t l k xs d (neg e) next z at h g =
 steps_are c t l k xs d (inverse e) next z at h g =
     let env : Locals = named xs z.locals in
     let a : Operand = operand_of xs e in
-    let before : List Step = operand_steps t.program xs e in
-    let last : List Step = s.Compute (Invert a d) ∷ [] in
+    let before : List CodeStep = operand_steps t.program xs e in
+    let last : List CodeStep = s.Compute (Invert a d) ∷ [] in
     ap {B = Lists} (λ (m : State → Lists). m (jumped z at)) (straight_append c t l k before last next)
     ∙ operand_are c t l k xs e (straight c t l k last next) z at h (steps_are c t l k xs target.Push e (straight c t l k last next) z at h g)
     ∙ ap {B = Lists} (λ (m : ℤ → Lists). expression t l env e m) (fun_ext (λ v. invert_is c t l k d a next z (skip at before) v))
@@ -197,9 +197,9 @@ steps_are c t l k xs d (bin o e f) next z at h g =
     let env : Locals = named xs z.locals in
     let a : Operand = operand_of xs e in
     let b : Operand = operand_of xs f in
-    let first : List Step = operand_steps t.program xs e in
-    let second : List Step = operand_steps t.program xs f in
-    let last : List Step = s.Compute (Apply o a b d) ∷ [] in
+    let first : List CodeStep = operand_steps t.program xs e in
+    let second : List CodeStep = operand_steps t.program xs f in
+    let last : List CodeStep = s.Compute (Apply o a b d) ∷ [] in
     let one : ℕ = skip at first in
     let two : ℕ = skip one second in
     ap {B = Lists} (λ (m : State → Lists). m (jumped z at)) (straight_append c t l k first (second ++ last) next)

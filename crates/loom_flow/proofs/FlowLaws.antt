@@ -12,7 +12,7 @@ use Rattle.loom_lang.specs.Places.{places, place_at, line_of_place}
 use Rattle.loom_flow.specs.declared.code.Control.TheVariants.{Out}
 use Rattle.loom_flow.specs.declared.code.Instr.{Instr}
 use Rattle.loom_flow.specs.declared.code.Site.{Site}
-use Rattle.loom_flow.specs.declared.code.Step.TheVariants as s
+use Rattle.loom_flow.specs.declared.code.CodeStep.TheVariants as s
 use Rattle.loom_flow.specs.Flow.{Flow}
 use Rattle.loom_flow.specs.Depth.{depth_before, most_values}
 use Rattle.loom_flow.specs.Laws.{HasTraces, HasPlaces, HasInstructionPlaces, HasCalls, HasOperands, KeepsDepth}

@@ -5,8 +5,8 @@ use Rattle.std.proofs.lemmas.Option.{slice_get_within}
 use Rattle.loom_tree.specs.Tree.{Expression, Right, Simple, let_, set, Body, end, simple, if_, while_, Function, Source}
 use Rattle.loom_lang.specs.Rules.{locals_of, KeepsRules, FunctionKeepsRules, FunctionsKeepRules}
 use Rattle.loom_lang.specs.Numbers.{index_of, function_number}
-use Rattle.loom_flow.specs.declared.code.Step.{Step}
-use Rattle.loom_flow.specs.declared.code.Step.TheVariants as s
+use Rattle.loom_flow.specs.declared.code.CodeStep.{CodeStep}
+use Rattle.loom_flow.specs.declared.code.CodeStep.TheVariants as s
 use Rattle.loom_flow.specs.declared.code.Compute.TheVariants.{Discard}
 use Rattle.loom_flow.specs.declared.code.Ask.TheVariants.{Spawn}
 use Rattle.loom_flow.specs.declared.code.Control.TheVariants.{Begin, Done, Edge, Jump, JumpIfZero, Call, Return, Out}
@@ -38,12 +38,12 @@ abbrev LeadsAt : (ℕ → Type 0) → Flow → ℕ → Instr → Type 0
 LeadsAt Q c m i = LeadsInto Q c m i i.step
 
 -- a step of a statement on line `l`, at place `k`, whatever its number
-abbrev LeadsWithin : (ℕ → Type 0) → Flow → ℕ → ℕ → ℕ → ℕ → Step → Type 0
+abbrev LeadsWithin : (ℕ → Type 0) → Flow → ℕ → ℕ → ℕ → ℕ → CodeStep → Type 0
 LeadsWithin Q c lo hi l k x = (m : ℕ) → lo ≤ m → m < hi → LeadsInto Q c m (instr l k x) x
 
 -- Statements
 
-plain_leads : (Q : ℕ → Type 0) (c : Flow) (lo hi l k : ℕ) → Inside Q lo hi → (x : Step) → is_plain x ≡ true → LeadsWithin Q c lo hi l k x
+plain_leads : (Q : ℕ → Type 0) (c : Flow) (lo hi l k : ℕ) → Inside Q lo hi → (x : CodeStep) → is_plain x ≡ true → LeadsWithin Q c lo hi l k x
 plain_leads Q c lo hi l k q (s.Control (Call f n)) e m from to = cc
 plain_leads Q c lo hi l k q (s.Ask (Spawn f n d)) e m from to = cc
 plain_leads Q c lo hi l k q (s.Control (Edge at)) e m from to = cc
@@ -54,12 +54,12 @@ plain_leads Q c lo hi l k q (s.Control (Return a)) e m from to = tt
 plain_leads Q c lo hi l k q _ e m from to = q (suc m) (omega (arith, from)) to
 
 -- a call, with what stands before and behind it
-call_leads : (Q : ℕ → Type 0) (c : Flow) (lo hi l k at : ℕ) (xs : List (List ℕ)) (f : List ℕ) (es : List Expression) (x : Step) (ys : List Step) → Inside Q lo hi → Starts c → IsFunction c.program f → is_plain x ≡ true
+call_leads : (Q : ℕ → Type 0) (c : Flow) (lo hi l k at : ℕ) (xs : List (List ℕ)) (f : List ℕ) (es : List Expression) (x : CodeStep) (ys : List CodeStep) → Inside Q lo hi → Starts c → IsFunction c.program f → is_plain x ≡ true
     → ys ≡ argument_steps c.program xs es ++ s.Control (Call (or_zero (function_number c.program f)) (length es)) ∷ x ∷ s.Control Done ∷ []
     → resume (slice_get c.sites k) ≡ Some (at + (1 + length (call_steps c.program xs f es))) → lo ≤ at → at + suc (length ys) ≤ hi → Each (LeadsAt Q c) at (instrs l k (s.Control Begin ∷ ys))
 call_leads Q c lo hi l k at xs f es x ys q starts known plain same site from to =
-    let before : List Step = argument_steps c.program xs es in
-    let call : Step = s.Control (Call (or_zero (function_number c.program f)) (length es)) in
+    let before : List CodeStep = argument_steps c.program xs es in
+    let call : CodeStep = s.Control (Call (or_zero (function_number c.program f)) (length es)) in
     let m : ℕ = at + suc (length before) in
     let n : length ys ≡ length before + 3 = ap length same ∙ length-append before (call ∷ x ∷ s.Control Done ∷ []) in
     let d : length (call_steps c.program xs f es) ≡ length before + 1 = length-append before (call ∷ []) in
@@ -84,9 +84,9 @@ set_call_leads : (Q : ℕ → Type 0) (c : Flow) (lo hi l k at : ℕ) (xs : List
     → resume (slice_get c.sites k) ≡ Some (at + (1 + length (call_steps c.program xs f es))) → lo ≤ at → at + length (simple_steps c.program xs (set x (Right.call f es))) ≤ hi
     → Each (LeadsAt Q c) at (instrs l k (simple_steps c.program xs (set x (Right.call f es))))
 set_call_leads Q c lo hi l k at xs x f es q starts known site from to =
-    let before : List Step = argument_steps c.program xs es in
-    let call : Step = s.Control (Call (or_zero (function_number c.program f)) (length es)) in
-    let store : Step = store_step c.program x (index_of x xs) in
+    let before : List CodeStep = argument_steps c.program xs es in
+    let call : CodeStep = s.Control (Call (or_zero (function_number c.program f)) (length es)) in
+    let store : CodeStep = store_step c.program x (index_of x xs) in
     call_leads Q c lo hi l k at xs f es store (set_steps c.program xs x (Right.call f es) ++ s.Control Done ∷ []) q starts known (store_plain c.program x (index_of x xs))
     (append_assoc (before ++ call ∷ []) (store ∷ []) (s.Control Done ∷ []) ∙ append_assoc before (call ∷ []) (store ∷ s.Control Done ∷ [])) site from to
 
@@ -115,8 +115,8 @@ simple_leads Q c lo hi l k at xs q starts x known site from to = other_leads Q c
 condition_leads : (Q : ℕ → Type 0) (c : Flow) (lo hi at l k to : ℕ) (xs : List (List ℕ)) (e : Expression) → Inside Q lo hi → lo ≤ at → at + (2 + length (operand_steps c.program xs e)) ≤ to → to ≤ hi
     → Each (LeadsAt Q c) at (instrs l k (s.Control Begin ∷ (operand_steps c.program xs e ++ s.Control (JumpIfZero (operand_of xs e) to) ∷ [])))
 condition_leads Q c lo hi at l k to xs e q from ahead below =
-    let before : List Step = operand_steps c.program xs e in
-    let jump : Step = s.Control (JumpIfZero (operand_of xs e) to) in
+    let before : List CodeStep = operand_steps c.program xs e in
+    let jump : CodeStep = s.Control (JumpIfZero (operand_of xs e) to) in
     let within : Inside Q lo to = λ m above under. q m above (omega (arith, under, below)) in
     let n : length (s.Control Begin ∷ (before ++ jump ∷ [])) ≡ 2 + length before = let d : length (before ++ jump ∷ []) ≡ length before + 1 = length-append before (jump ∷ []) in omega arith in
     each_instrs (LeadsAt Q c) lo to at l k (s.Control Begin ∷ (before ++ jump ∷ [])) from (omega (arith, n, ahead)) (
@@ -129,7 +129,7 @@ body_leads : (Q : ℕ → Type 0) (c : Flow) (lo hi : ℕ) (xs : List (List ℕ)
     → Lies c.sites k (body_sites c.program xs at a) → IsKnownBody c.program xs a → Each (LeadsAt Q c) at (flat_body c.program xs at k a)
 body_leads Q c lo hi xs q starts at k end from to sites known = tt
 body_leads Q c lo hi xs q starts at k (simple l x rest) from to sites known =
-    let steps : List Step = simple_steps c.program xs x in
+    let steps : List CodeStep = simple_steps c.program xs x in
     let next : ℕ = at + length steps in
     let within : at + length steps ≤ hi = omega (arith, to) in
     each_append (LeadsAt Q c) at next (instrs l k steps) _ (ap (λ m. at + m) (instrs_length l k steps))
@@ -137,11 +137,11 @@ body_leads Q c lo hi xs q starts at k (simple l x rest) from to sites known =
     (body_leads Q c lo hi xs q starts next (suc k) rest (omega (arith, from)) (omega (arith, to)) sites.1 known.1)
 body_leads Q c lo hi xs q starts at k (if_ l e a b rest) from to sites known =
     let p : Source = c.program in
-    let before : List Step = operand_steps p xs e in
+    let before : List CodeStep = operand_steps p xs e in
     let first : ℕ = at + (2 + length before) in
     let second : ℕ = first + (1 + size p xs a) in
     let last : ℕ = second + size p xs b in
-    let jump : Step = s.Control (JumpIfZero (operand_of xs e) second) in
+    let jump : CodeStep = s.Control (JumpIfZero (operand_of xs e) second) in
     let sites_a : Lies c.sites (suc k) (body_sites p xs first a) = lies_first c.sites (suc k) (body_sites p xs first a) (body_sites p xs second b ++ body_sites p xs (suc last) rest) sites.1 in
     let sites_from_b : Lies c.sites (suc k + place_count a) (body_sites p xs second b ++ body_sites p xs (suc last) rest) =
     subst (λ i. Lies c.sites i (body_sites p xs second b ++ body_sites p xs (suc last) rest)) (ap (λ i. suc k + i) (sites_length p xs a first))
@@ -164,13 +164,13 @@ body_leads Q c lo hi xs q starts at k (if_ l e a b rest) from to sites known =
     ))
 body_leads Q c lo hi xs q starts at k (while_ l e a rest) from to sites known =
     let p : Source = c.program in
-    let before : List Step = operand_steps p xs e in
+    let before : List CodeStep = operand_steps p xs e in
     let head : ℕ = at + 1 in
     let first : ℕ = head + (1 + length before) in
     let last : ℕ = first + (1 + size p xs a) in
     let place : ℕ = at + (2 + length before) in
     let same : place ≡ first = omega arith in
-    let jump : Step = s.Control (JumpIfZero (operand_of xs e) last) in
+    let jump : CodeStep = s.Control (JumpIfZero (operand_of xs e) last) in
     let sites_a : Lies c.sites (suc (suc k)) (body_sites p xs first a) =
     subst (λ i. Lies c.sites (suc (suc k)) (body_sites p xs i a)) same
     (lies_first c.sites (suc (suc k)) (body_sites p xs place a) (body_sites p xs (suc (place + (1 + size p xs a))) rest) sites.1.1) in
@@ -254,7 +254,7 @@ lowered_keeps p l = record {
 }
 
 -- into more
-leads_into : (Q R : ℕ → Type 0) (c : Flow) (at : ℕ) (i : Instr) → ((m : ℕ) → Q m → R m) → (x : Step) → LeadsInto Q c at i x → LeadsInto R c at i x
+leads_into : (Q R : ℕ → Type 0) (c : Flow) (at : ℕ) (i : Instr) → ((m : ℕ) → Q m → R m) → (x : CodeStep) → LeadsInto Q c at i x → LeadsInto R c at i x
 leads_into Q R c at i f (s.Control (Jump to)) h = (f (suc at) h.0, h.1, f to h.2)
 leads_into Q R c at i f (s.Control (JumpIfZero a to)) h = (f (suc at) h.0, h.1, f to h.2)
 leads_into Q R c at i f (s.Control (Edge to)) h = (f (suc at) h.0, f to h.1)

@@ -5,7 +5,7 @@ use Rattle.loom_tree.specs.Tree.{Function, Source}
 use Rattle.loom_lang.specs.Rules.{lets, locals_of}
 use Rattle.loom_lang.specs.Trace as trace
 use Rattle.loom_lang.specs.Trace.{Item, Outcome, Lists, Thread, Locals, Calls, made, enter, out, broken, emit, any, choice, trap_lists, body, bound, framed, calls_to, frame_limit, thread_end, IsTrace}
-use Rattle.loom_flow.specs.declared.code.Step.TheVariants as s
+use Rattle.loom_flow.specs.declared.code.CodeStep.TheVariants as s
 use Rattle.loom_flow.specs.declared.code.Control.TheVariants.{Out}
 use Rattle.loom_flow.specs.declared.code.Entrance.{Entrance}
 use Rattle.loom_flow.specs.Flow.{Flow}

@@ -6,7 +6,7 @@ use Rattle.loom_lang.specs.Rules.{KeepsRules, locals_of}
 use Rattle.loom_flow.specs.declared.code.Instr.{Instr}
 use Rattle.loom_flow.specs.declared.code.Site.{Site}
 use Rattle.loom_flow.specs.declared.code.Entrance.{Entrance}
-use Rattle.loom_flow.specs.declared.code.Step.TheVariants as s
+use Rattle.loom_flow.specs.declared.code.CodeStep.TheVariants as s
 use Rattle.loom_flow.specs.declared.code.Control.TheVariants.{Out}
 use Rattle.loom_flow.specs.FlatCode.{instr, site, size, place_count, flat_body, body_sites, functions_code, functions_sites, entrances, calls_body, set_of, lowered, site_limit}
 use Rattle.loom_flow.proofs.Sizes.{code_length, sites_length}

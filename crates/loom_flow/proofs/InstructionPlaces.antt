@@ -3,8 +3,8 @@ use Rattle.std.proofs.Common.{ℕ, suc, ◌+◌, ◌≡◌, List, [], ◌∷◌,
 use Rattle.loom_tree.specs.Tree.{Expression, Right, Simple, let_, set, Body, end, simple, if_, while_, Function, Source}
 use Rattle.loom_lang.specs.Rules.{locals_of}
 use Rattle.loom_lang.specs.Places.{inside, out, body_places, places, place_at, line_of_function, line_of_place}
-use Rattle.loom_flow.specs.declared.code.Step.{Step}
-use Rattle.loom_flow.specs.declared.code.Step.TheVariants as s
+use Rattle.loom_flow.specs.declared.code.CodeStep.{CodeStep}
+use Rattle.loom_flow.specs.declared.code.CodeStep.TheVariants as s
 use Rattle.loom_flow.specs.declared.code.Control.TheVariants.{Begin, Done, Edge, JumpIfZero, Out}
 use Rattle.loom_flow.specs.declared.code.Instr.{Instr}
 use Rattle.loom_flow.specs.declared.code.Entrance.{Entrance}
@@ -18,13 +18,13 @@ use Rattle.loom_flow.proofs.BodyTraces.{condition_length}
 use Rattle.loom_flow.proofs.FunctionBounds.{function_code, function_length, Stands, stands, covered}
 
 -- a step of function `n` on line `l`, at place `k`
-abbrev IsAt : Source → ℕ → ℕ → ℕ → Step → Type 0
+abbrev IsAt : Source → ℕ → ℕ → ℕ → CodeStep → Type 0
 IsAt p n l k x = (place_at p k ≡ Some (place_of n l x)) × (line_of_place p (place_of n l x) ≡ l)
 
 abbrev Located : Source → ℕ → ℕ → Instr → Type 0
 Located p n at i = IsAt p n i.line i.place i.step
 
-plain_located : (p : Source) (n l k : ℕ) → place_at p k ≡ Some (inside l) → (x : Step) → is_plain x ≡ true → IsAt p n l k x
+plain_located : (p : Source) (n l k : ℕ) → place_at p k ≡ Some (inside l) → (x : CodeStep) → is_plain x ≡ true → IsAt p n l k x
 plain_located p n l k h (s.Control (Edge to)) e = cc
 plain_located p n l k h (s.Control Out) e = cc
 plain_located p n l k h _ e = (h, refl)
@@ -40,7 +40,7 @@ calls_located p n l k h (set x r) = right_located p n l k h r
 calls_located p n l k h (Simple.call f es) = (h, refl)
 calls_located p n l k h _ = tt
 
-steps_located : (p : Source) (n at l k : ℕ) (xs : List Step) → AllOf (IsAt p n l k) xs → Each (Located p n) at (instrs l k xs)
+steps_located : (p : Source) (n at l k : ℕ) (xs : List CodeStep) → AllOf (IsAt p n l k) xs → Each (Located p n) at (instrs l k xs)
 steps_located p n at l k [] h = tt
 steps_located p n at l k (x ∷ xs) h = (h.0, steps_located p n (suc at) l k xs h.1)
 
@@ -58,7 +58,7 @@ body_located p n xs at k (simple l x rest) h =
     (steps_located p n at l k (simple_steps p xs x) (simple_all (IsAt p n l k) (plain_located p n l k h.0) p xs x (calls_located p n l k h.0 x)))
     (body_located p n xs (at + length (simple_steps p xs x)) (suc k) rest h.1)
 body_located p n xs at k (if_ l e a b rest) h =
-    let before : List Step = operand_steps p xs e in
+    let before : List CodeStep = operand_steps p xs e in
     let first : ℕ = at + (2 + length before) in
     let second : ℕ = first + (1 + size p xs a) in
     let last : ℕ = second + size p xs b in
@@ -78,7 +78,7 @@ body_located p n xs at k (if_ l e a b rest) h =
           ((h.0, refl), body_located p n xs (suc last) (suc k + place_count a + place_count b) rest places_rest)),
     ))
 body_located p n xs at k (while_ l e a rest) h =
-    let before : List Step = operand_steps p xs e in
+    let before : List CodeStep = operand_steps p xs e in
     let first : ℕ = at + 1 + (1 + length before) in
     let last : ℕ = first + (1 + size p xs a) in
     let head : List Instr = instrs l k (s.Control Begin ∷ (before ++ s.Control (JumpIfZero (operand_of xs e) last) ∷ [])) in

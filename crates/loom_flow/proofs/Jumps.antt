@@ -4,8 +4,8 @@ use Rattle.std.proofs.Math.Seq.{set-append_seam}
 use Rattle.loom_tree.specs.Tree.{Expression, Body, end, if_, while_, Source}
 use Rattle.loom_flow.specs.declared.code.Operand.{Operand}
 use Rattle.loom_flow.specs.declared.code.Instr.{Instr}
-use Rattle.loom_flow.specs.declared.code.Step.{Step}
-use Rattle.loom_flow.specs.declared.code.Step.TheVariants as s
+use Rattle.loom_flow.specs.declared.code.CodeStep.{CodeStep}
+use Rattle.loom_flow.specs.declared.code.CodeStep.TheVariants as s
 use Rattle.loom_flow.specs.declared.code.Control.TheVariants.{Begin, Done, Edge, Jump, JumpIfZero}
 use Rattle.loom_flow.specs.FlatCode.{operand_of, operand_steps, instr, instrs, size, place_count, flat_body}
 use Rattle.loom_flow.proofs.Sizes.{instrs_append, instrs_length, code_length}
@@ -40,14 +40,14 @@ aimed_twice front bs y0 y z over aimed otherwise over_it new h1 h2 h3 h4 h5 =
     h5 ∙ ap (λ w. w ++ z ∷ []) (h4 ∙ ap (λ w. slice_set w over y) one ∙ patched front bs y0 y over h3) ∙ append_assoc front (y ∷ bs) (z ∷ [])
 
 -- the test of a statement, which begins it
-test_front : (l place : ℕ) (steps : List Step) (x : Step) (old rest : List Instr) → ((old ++ instr l place (s.Control Begin) ∷ []) ++ instrs l place steps) ++ instr l place x ∷ rest ≡ old ++ (instrs l place (s.Control Begin ∷ (steps ++ x ∷ [])) ++ rest)
+test_front : (l place : ℕ) (steps : List CodeStep) (x : CodeStep) (old rest : List Instr) → ((old ++ instr l place (s.Control Begin) ∷ []) ++ instrs l place steps) ++ instr l place x ∷ rest ≡ old ++ (instrs l place (s.Control Begin ∷ (steps ++ x ∷ [])) ++ rest)
 test_front l place steps x old rest =
     let is = instrs_append l place steps (x ∷ []) in
     let one : ((old ++ instr l place (s.Control Begin) ∷ []) ++ instrs l place steps) ++ instr l place x ∷ rest ≡ old ++ instr l place (s.Control Begin) ∷ ((instrs l place steps ++ instr l place x ∷ []) ++ rest) = simp append_assoc in
     one ∙ ap (λ z. old ++ instr l place (s.Control Begin) ∷ (z ++ rest)) (sym is)
 
 -- how far the front is
-front_length : (l place : ℕ) (steps : List Step) (old begun : List Instr) → begun ≡ old ++ instr l place (s.Control Begin) ∷ [] → length (begun ++ instrs l place steps) ≡ length old + (1 + length steps)
+front_length : (l place : ℕ) (steps : List CodeStep) (old begun : List Instr) → begun ≡ old ++ instr l place (s.Control Begin) ∷ [] → length (begun ++ instrs l place steps) ≡ length old + (1 + length steps)
 front_length l place steps old begun h =
     let one = ap length h in
     let two = length-append old (instr l place (s.Control Begin) ∷ []) in
@@ -56,10 +56,10 @@ front_length l place steps old begun h =
     omega arith
 
 -- a test stands behind its operand
-tested_front : (l place : ℕ) (steps : List Step) (x : Step) (begun tested : List Instr) → tested ≡ begun ++ instrs l place (steps ++ x ∷ []) → tested ≡ (begun ++ instrs l place steps) ++ instr l place x ∷ []
+tested_front : (l place : ℕ) (steps : List CodeStep) (x : CodeStep) (begun tested : List Instr) → tested ≡ begun ++ instrs l place (steps ++ x ∷ []) → tested ≡ (begun ++ instrs l place steps) ++ instr l place x ∷ []
 tested_front l place steps x begun tested h = h ∙ ap (λ z. begun ++ z) (instrs_append l place steps (x ∷ [])) ∙ sym (append_assoc begun (instrs l place steps) (instr l place x ∷ []))
 
-at_front : (l place at : ℕ) (steps : List Step) (begun : List Instr) → at ≡ length begun + length steps → at ≡ length (begun ++ instrs l place steps)
+at_front : (l place at : ℕ) (steps : List CodeStep) (begun : List Instr) → at ≡ length begun + length steps → at ≡ length (begun ++ instrs l place steps)
 at_front l place at steps begun h =
     let one = length-append begun (instrs l place steps) in
     let two = instrs_length l place steps in
@@ -72,7 +72,7 @@ behind_code : (p : Source) (names : List (List ℕ)) (b : Body) (n place : ℕ) 
 behind_code p names b n place xs ys h = ap length h ∙ length-append xs (flat_body p names n place b) ∙ ap (λ m. length xs + m) (code_length p names b n place)
 
 -- how long the code is behind the test, and behind a target that was put in
-pub tested_long : (l place : ℕ) (steps : List Step) (x : Step) (old begun tested : List Instr) → begun ≡ old ++ instr l place (s.Control Begin) ∷ [] → tested ≡ begun ++ instrs l place (steps ++ x ∷ []) → length tested ≡ length old + (2 + length steps)
+pub tested_long : (l place : ℕ) (steps : List CodeStep) (x : CodeStep) (old begun tested : List Instr) → begun ≡ old ++ instr l place (s.Control Begin) ∷ [] → tested ≡ begun ++ instrs l place (steps ++ x ∷ []) → length tested ≡ length old + (2 + length steps)
 tested_long l place steps x old begun tested h1 h2 =
     let front : length tested ≡ length (begun ++ instrs l place steps) + 1 = pushed (begun ++ instrs l place steps) tested (instr l place x) (tested_front l place steps x begun tested h2) in
     let is = front_length l place steps old begun h1 in
@@ -85,7 +85,7 @@ aimed_long p names a n place at x y tested ran jumps aimed h1 h2 h3 =
     let three = ap length h3 ∙ length-set jumps at x in
     omega arith
 
-pub at_within : (l place at : ℕ) (steps : List Step) (x : Step) (y : Instr) (begun tested bs ran jumps : List Instr) → tested ≡ begun ++ instrs l place (steps ++ x ∷ []) → ran ≡ tested ++ bs → jumps ≡ ran ++ y ∷ [] → at ≡ length begun + length steps → at < length jumps
+pub at_within : (l place at : ℕ) (steps : List CodeStep) (x : CodeStep) (y : Instr) (begun tested bs ran jumps : List Instr) → tested ≡ begun ++ instrs l place (steps ++ x ∷ []) → ran ≡ tested ++ bs → jumps ≡ ran ++ y ∷ [] → at ≡ length begun + length steps → at < length jumps
 at_within l place at steps x y begun tested bs ran jumps h1 h2 h3 h4 =
     let front : length tested ≡ length (begun ++ instrs l place steps) + 1 = pushed (begun ++ instrs l place steps) tested (instr l place x) (tested_front l place steps x begun tested h1) in
     let at_is : at ≡ length (begun ++ instrs l place steps) = at_front l place at steps begun h4 in
@@ -112,7 +112,7 @@ pub if_code : (p : Source) (names : List (List ℕ)) (l place : ℕ) (e : Expres
     second_place ≡ suc place + place_count a →
     new ≡ old ++ flat_body p names (length old) place (if_ l e a b end)
 if_code p names l place e a b o at over second done first_place second_place old begun tested ran jumps aimed otherwise over_it new h1 h2 h3 h4 h5 h6 h7 h8 h9 h10 h11 h12 h13 h14 h15 =
-    let steps : List Step = operand_steps p names e in
+    let steps : List CodeStep = operand_steps p names e in
     let jump : ℕ → Instr = λ (n : ℕ). instr l place (s.Control (JumpIfZero (operand_of names e) n)) in
     let over_to : ℕ → Instr = λ (n : ℕ). instr l place (s.Control (Jump n)) in
     let front : List Instr = begun ++ instrs l place steps in
@@ -161,7 +161,7 @@ pub while_code : (p : Source) (names : List (List ℕ)) (l place : ℕ) (e : Exp
     first_place ≡ suc (suc place) →
     new ≡ old ++ flat_body p names (length old) place (while_ l e a end)
 while_code p names l place e a o head at done first_place old begun tested ran jumps aimed new h1 h2 h3 h4 h5 h6 h7 h8 h9 h10 h11 =
-    let steps : List Step = operand_steps p names e in
+    let steps : List CodeStep = operand_steps p names e in
     let jump : ℕ → Instr = λ (n : ℕ). instr l place (s.Control (JumpIfZero (operand_of names e) n)) in
     let back : ℕ → Instr = λ (n : ℕ). instr l (suc place) (s.Control (Edge n)) in
     let front : List Instr = begun ++ instrs l place steps in

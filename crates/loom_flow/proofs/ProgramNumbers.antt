@@ -8,8 +8,8 @@ use Rattle.loom_tree.specs.declared.item.Sema.{Sema}
 use Rattle.loom_tree.specs.Tree.{Function, Source}
 use Rattle.loom_lang.specs.Numbers.{index_of, Cells, cells_from, cells_named, sema_number}
 use Rattle.loom_lang.specs.Rules.{cells_in, cell_count, is_in, is_distinct, is_word, is_sema, takes, shared_names, KeepsRules}
-use Rattle.loom_flow.specs.declared.code.Step.{Step}
-use Rattle.loom_flow.specs.declared.code.Step.TheVariants as s
+use Rattle.loom_flow.specs.declared.code.CodeStep.{CodeStep}
+use Rattle.loom_flow.specs.declared.code.CodeStep.TheVariants as s
 use Rattle.loom_flow.specs.declared.code.Ask.TheVariants.{Read, ReadCell, Write, WriteCell, Lock, Unlock, Down, Up, Spawn}
 use Rattle.loom_flow.specs.declared.code.Control.TheVariants.{Call}
 use Rattle.loom_flow.specs.declared.code.Instr.{Instr}
@@ -131,7 +131,7 @@ params_there p f n l h =
 
 -- Instructions
 
-other_numbers : (p : Source) (x : Step) → is_unnumbered x ≡ true → HasProgramNumbers p x
+other_numbers : (p : Source) (x : CodeStep) → is_unnumbered x ≡ true → HasProgramNumbers p x
 other_numbers p (s.Ask (Read w d)) h = cc
 other_numbers p (s.Ask (ReadCell a n d)) h = cc
 other_numbers p (s.Ask (Write w a)) h = cc

@@ -7,8 +7,8 @@ use Rattle.loom_lang.specs.Trace.{Item, Lists, Thread, Locals, Calls, made, begi
 use Rattle.loom_flow.specs.declared.code.Operand.{Operand}
 use Rattle.loom_flow.specs.declared.code.Operand.TheVariants as operand
 use Rattle.loom_flow.specs.declared.code.Target.TheVariants as target
-use Rattle.loom_flow.specs.declared.code.Step.{Step}
-use Rattle.loom_flow.specs.declared.code.Step.TheVariants as s
+use Rattle.loom_flow.specs.declared.code.CodeStep.{CodeStep}
+use Rattle.loom_flow.specs.declared.code.CodeStep.TheVariants as s
 use Rattle.loom_flow.specs.declared.code.Ask.TheVariants.{Write}
 use Rattle.loom_flow.specs.declared.code.Control.TheVariants.{Begin, Done, Call}
 use Rattle.loom_flow.specs.declared.code.Instr.{Instr}
@@ -41,7 +41,7 @@ abbrev pub IsFunction : Source → List ℕ → Type 0
 IsFunction p f = (n : ℕ) × (function_number p f ≡ Some n)
 
 -- a call's steps, and others behind it
-pub meets_call : (b : Bool) (c : Flow) (t : Thread) (m : ℕ → State → Lists) (n l k at : ℕ) (xs : List (List ℕ)) (z : State) (calls : Calls) (f : List ℕ) (es : List Expression) (rest : List Step) (more : ℤ → Lists)
+pub meets_call : (b : Bool) (c : Flow) (t : Thread) (m : ℕ → State → Lists) (n l k at : ℕ) (xs : List (List ℕ)) (z : State) (calls : Calls) (f : List ℕ) (es : List Expression) (rest : List CodeStep) (more : ℤ → Lists)
     → ((j : ℕ) → Fetches b c t (m j)) → CallsMeet b c t m n (length z.below) calls → names (slice_get c.program.funcs z.func) ≡ xs
     → length xs ≤ length z.locals → IsFunction t.program f → AllKnown t.program xs es → AllStraight rest
     → Lies c.code at (instrs l k (s.Control Begin ∷ (argument_steps t.program xs es ++ s.Control (Call (or_zero (function_number t.program f)) (length es)) ∷ rest)))
@@ -51,9 +51,9 @@ pub meets_call : (b : Bool) (c : Flow) (t : Thread) (m : ℕ → State → Lists
     (emit (begins l (named xs z.locals)) (each_argument t l (named xs z.locals) es (λ vs. numbered (function_number t.program f) (λ g. calls l g vs more))))
 meets_call b c t m n l k at xs z calls f es rest more fetches meets names_are h function known all lies site goes_on =
     let env : Locals = named xs z.locals in
-    let before : List Step = argument_steps t.program xs es in
+    let before : List CodeStep = argument_steps t.program xs es in
     let g : ℕ = or_zero (function_number t.program f) in
-    let x : Step = s.Control (Call g (length es)) in
+    let x : CodeStep = s.Control (Call g (length es)) in
     let a : ℕ = skip (suc at) before in
     let behind : Lies c.code a (instrs l k (x ∷ rest)) = lies_rest c l k at (s.Control Begin ∷ before) (x ∷ rest) lies in
     let is_called : ℤ → Lists = more in
@@ -134,9 +134,9 @@ value_is : (b : Bool) (c : Flow) (t : Thread) (m : State → Lists) (l k at : �
     → Meets b (straight c t l k (value_steps t.program xs x e a ++ s.Control Done ∷ []) m (jumped z at))
     (expression t l (named xs z.locals) e (λ v. stored t l (named xs z.locals) (local_value z.locals a) x v (λ env. emit (done l) (more env))))
 value_is b c t m l k at x xs z e more None f h known g ends =
-    let before : List Step = operand_steps t.program xs e in
-    let x' : Operand → Step = λ a. s.Ask (Write (word_named t.program x) a) in
-    let last : List Step = x' (operand_of xs e) ∷ [] in
+    let before : List CodeStep = operand_steps t.program xs e in
+    let x' : Operand → CodeStep = λ a. s.Ask (Write (word_named t.program x) a) in
+    let last : List CodeStep = x' (operand_of xs e) ∷ [] in
     let env : Locals = named xs z.locals in
     let same : (before ++ last) ++ s.Control Done ∷ [] ≡ before ++ (last ++ s.Control Done ∷ []) = append_assoc before last (s.Control Done ∷ []) in
     let end : Meets b (m (jumped z (skip at (before ++ (last ++ s.Control Done ∷ []))))) (more env) = subst (λ steps. Meets b (m (jumped z (skip at steps))) (more env)) same (ends z.locals refl) in
@@ -145,7 +145,7 @@ value_is b c t m l k at x xs z e more None f h known g ends =
     (λ a next n v. write_is c t l k x known.0 a next z n v known.1) (λ v p r q. meets_writing b l (cells_named t.program x) v p r q) h g end in
     subst (λ steps. Meets b (straight c t l k steps m (jumped z at)) (expression t l env e (λ v. writing_word l (cells_named t.program x) v (emit (done l) (more env))))) (sym same) all
 value_is b c t m l k at x xs z e more (Some j) f h known g ends =
-    let before : List Step = steps_to t.program xs (target.Local j) e in
+    let before : List CodeStep = steps_to t.program xs (target.Local j) e in
     let env : Locals = named xs z.locals in
     let n : ℕ = skip at before in
     meets_on b _ (expression t l env e (λ v. emit (done l) (m (jumped (given z (target.Local j) v) (suc n))))) _

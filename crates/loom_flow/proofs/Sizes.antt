@@ -3,20 +3,20 @@ use Rattle.std.proofs.Common.{ℕ, suc, ◌+◌, ◌≡◌, List, [], ◌∷◌,
 use Rattle.loom_tree.specs.declared.expression.Expr.{Expr}
 use Rattle.loom_tree.specs.Tree.{expression_of, expressions_of, Body, end, simple, if_, while_, Source}
 use Rattle.loom_lang.specs.Places.{body_places}
-use Rattle.loom_flow.specs.declared.code.Step.{Step}
+use Rattle.loom_flow.specs.declared.code.CodeStep.{CodeStep}
 use Rattle.loom_flow.specs.declared.code.Target.TheVariants as t
 use Rattle.loom_flow.specs.declared.code.Instr.{Instr}
 use Rattle.loom_flow.specs.declared.code.Site.{Site}
-use Rattle.loom_flow.specs.declared.code.Step.TheVariants as s
+use Rattle.loom_flow.specs.declared.code.CodeStep.TheVariants as s
 use Rattle.loom_flow.specs.declared.code.Control.TheVariants.{Begin, Done, Edge, Jump, JumpIfZero}
 use Rattle.loom_flow.specs.FlatCode.{steps_to, argument_steps, operand_of, operand_steps, simple_steps, instrs, instr, size, place_count, flat_body, body_sites, site}
 
-pub instrs_length : (l place : ℕ) (xs : List Step) → length (instrs l place xs) ≡ length xs
+pub instrs_length : (l place : ℕ) (xs : List CodeStep) → length (instrs l place xs) ≡ length xs
 instrs_length l place [] = refl
 instrs_length l place (x ∷ xs) = ap suc (instrs_length l place xs)
 
 -- the steps of a test have one more before and one behind
-test_length : (l place : ℕ) (xs : List Step) (x y : Step) → length (instrs l place (x ∷ (xs ++ y ∷ []))) ≡ length xs + 2
+test_length : (l place : ℕ) (xs : List CodeStep) (x y : CodeStep) → length (instrs l place (x ∷ (xs ++ y ∷ []))) ≡ length xs + 2
 test_length l place xs x y =
     let is = instrs_length l place (x ∷ (xs ++ y ∷ [])) in
     let two = length-append xs (y ∷ []) in
@@ -90,23 +90,23 @@ sites_length p names (while_ l e a rest) at =
     let places = length-append (body_places a) (body_places rest) in
     omega arith
 
-pub instrs_append : (l place : ℕ) (xs ys : List Step) → instrs l place (xs ++ ys) ≡ instrs l place xs ++ instrs l place ys
+pub instrs_append : (l place : ℕ) (xs ys : List CodeStep) → instrs l place (xs ++ ys) ≡ instrs l place xs ++ instrs l place ys
 instrs_append l place [] ys = refl
 instrs_append l place (x ∷ xs) ys = ap (λ z. instr l place x ∷ z) (instrs_append l place xs ys)
 
 -- one step more
-pub step_is : (l place : ℕ) (xs : List Step) (x : Step) (old now new : List Instr) → now ≡ old ++ instrs l place xs → new ≡ now ++ instr l place x ∷ [] → new ≡ old ++ instrs l place (xs ++ x ∷ [])
+pub step_is : (l place : ℕ) (xs : List CodeStep) (x : CodeStep) (old now new : List Instr) → now ≡ old ++ instrs l place xs → new ≡ now ++ instr l place x ∷ [] → new ≡ old ++ instrs l place (xs ++ x ∷ [])
 step_is l place xs x old now new h g = g ∙ ap (λ z. z ++ instr l place x ∷ []) h ∙ append_assoc old (instrs l place xs) (instr l place x ∷ []) ∙ ap (λ z. old ++ z) (sym (instrs_append l place xs (x ∷ [])))
 
 -- where memory suffices
-pub step_more : {A E : Type 0} (r : Result A E) (l place : ℕ) (xs : List Step) (x : Step) (old now new : List Instr) → now ≡ old ++ instrs l place xs → OnOk r (new ≡ now ++ instr l place x ∷ []) → OnOk r (new ≡ old ++ instrs l place (xs ++ x ∷ []))
+pub step_more : {A E : Type 0} (r : Result A E) (l place : ℕ) (xs : List CodeStep) (x : CodeStep) (old now new : List Instr) → now ≡ old ++ instrs l place xs → OnOk r (new ≡ now ++ instr l place x ∷ []) → OnOk r (new ≡ old ++ instrs l place (xs ++ x ∷ []))
 step_more (Ok v) l place xs x old now new h g = step_is l place xs x old now new h g
 step_more (Err e) l place xs x old now new h g = g
 
-pub step_behind : {A E : Type 0} (r : Result A E) (l place : ℕ) (xs ys : List Step) (x : Step) (old mid now new : List Instr) → mid ≡ old ++ instrs l place xs → now ≡ mid ++ instrs l place ys → OnOk r (new ≡ now ++ instr l place x ∷ []) → OnOk r (new ≡ old ++ instrs l place (xs ++ (ys ++ x ∷ [])))
+pub step_behind : {A E : Type 0} (r : Result A E) (l place : ℕ) (xs ys : List CodeStep) (x : CodeStep) (old mid now new : List Instr) → mid ≡ old ++ instrs l place xs → now ≡ mid ++ instrs l place ys → OnOk r (new ≡ now ++ instr l place x ∷ []) → OnOk r (new ≡ old ++ instrs l place (xs ++ (ys ++ x ∷ [])))
 step_behind r l place xs ys x old mid now new h g k =
     let is : now ≡ old ++ instrs l place (xs ++ ys) = g ∙ ap (λ z. z ++ instrs l place ys) h ∙ append_assoc old (instrs l place xs) (instrs l place ys) ∙ ap (λ z. old ++ z) (sym (instrs_append l place xs ys)) in
-    let P : List Step → Type 0 = λ z. OnOk r (new ≡ old ++ instrs l place z) in
+    let P : List CodeStep → Type 0 = λ z. OnOk r (new ≡ old ++ instrs l place z) in
     subst P (append_assoc xs ys (x ∷ [])) (step_more r l place (xs ++ ys) x old now new is k)
 
 -- one argument more
@@ -119,26 +119,26 @@ arguments_step p names l place e es rest code more h g =
 
 -- statements from their beginning to their end
 
-statement : (l place : ℕ) (ys zs : List Step) (old a b new : List Instr) → a ≡ old ++ instr l place (s.Control Begin) ∷ [] → b ≡ a ++ instrs l place ys → new ≡ b ++ instrs l place zs → new ≡ old ++ instr l place (s.Control Begin) ∷ instrs l place (ys ++ zs)
+statement : (l place : ℕ) (ys zs : List CodeStep) (old a b new : List Instr) → a ≡ old ++ instr l place (s.Control Begin) ∷ [] → b ≡ a ++ instrs l place ys → new ≡ b ++ instrs l place zs → new ≡ old ++ instr l place (s.Control Begin) ∷ instrs l place (ys ++ zs)
 statement l place ys zs old a b new h g k =
     k ∙ ap (λ w. w ++ instrs l place zs) (g ∙ ap (λ w. w ++ instrs l place ys) h)
     ∙ append_assoc (old ++ instr l place (s.Control Begin) ∷ []) (instrs l place ys) (instrs l place zs)
     ∙ append_assoc old (instr l place (s.Control Begin) ∷ []) (instrs l place ys ++ instrs l place zs)
     ∙ ap (λ w. old ++ instr l place (s.Control Begin) ∷ w) (sym (instrs_append l place ys zs))
 
-pub statement_is : (l place : ℕ) (ys : List Step) (z : Step) (old a b new : List Instr) → a ≡ old ++ instr l place (s.Control Begin) ∷ [] → b ≡ a ++ instrs l place ys → new ≡ b ++ instr l place z ∷ [] → new ≡ old ++ instr l place (s.Control Begin) ∷ instrs l place (ys ++ z ∷ [])
+pub statement_is : (l place : ℕ) (ys : List CodeStep) (z : CodeStep) (old a b new : List Instr) → a ≡ old ++ instr l place (s.Control Begin) ∷ [] → b ≡ a ++ instrs l place ys → new ≡ b ++ instr l place z ∷ [] → new ≡ old ++ instr l place (s.Control Begin) ∷ instrs l place (ys ++ z ∷ [])
 statement_is l place ys z old a b new h g k = statement l place ys (z ∷ []) old a b new h g k
 
-pub statement_ends : (l place : ℕ) (ys : List Step) (y z : Step) (old a b new : List Instr) → a ≡ old ++ instr l place (s.Control Begin) ∷ [] → b ≡ a ++ instrs l place ys → new ≡ b ++ instr l place y ∷ instr l place z ∷ [] → new ≡ old ++ instr l place (s.Control Begin) ∷ instrs l place (ys ++ y ∷ z ∷ [])
+pub statement_ends : (l place : ℕ) (ys : List CodeStep) (y z : CodeStep) (old a b new : List Instr) → a ≡ old ++ instr l place (s.Control Begin) ∷ [] → b ≡ a ++ instrs l place ys → new ≡ b ++ instr l place y ∷ instr l place z ∷ [] → new ≡ old ++ instr l place (s.Control Begin) ∷ instrs l place (ys ++ y ∷ z ∷ [])
 statement_ends l place ys y z old a b new h g k = statement l place ys (y ∷ z ∷ []) old a b new h g k
 
-pub cell_is : (l place : ℕ) (xs ys : List Step) (y z : Step) (old a b d new : List Instr) → a ≡ old ++ instr l place (s.Control Begin) ∷ [] → b ≡ a ++ instrs l place xs → d ≡ b ++ instrs l place ys → new ≡ d ++ instr l place y ∷ instr l place z ∷ [] → new ≡ old ++ instr l place (s.Control Begin) ∷ instrs l place (xs ++ (ys ++ y ∷ z ∷ []))
+pub cell_is : (l place : ℕ) (xs ys : List CodeStep) (y z : CodeStep) (old a b d new : List Instr) → a ≡ old ++ instr l place (s.Control Begin) ∷ [] → b ≡ a ++ instrs l place xs → d ≡ b ++ instrs l place ys → new ≡ d ++ instr l place y ∷ instr l place z ∷ [] → new ≡ old ++ instr l place (s.Control Begin) ∷ instrs l place (xs ++ (ys ++ y ∷ z ∷ []))
 cell_is l place xs ys y z old a b d new h f g k =
     let both : d ≡ a ++ instrs l place (xs ++ ys) = g ∙ ap (λ w. w ++ instrs l place ys) f ∙ append_assoc a (instrs l place xs) (instrs l place ys) ∙ ap (λ w. a ++ w) (sym (instrs_append l place xs ys)) in
     statement l place (xs ++ ys) (y ∷ z ∷ []) old a d new h both k ∙ ap (λ w. old ++ instrs l place (s.Control Begin ∷ w)) (append_assoc xs ys (y ∷ z ∷ []))
 
 -- the number behind these steps, which stand behind the first instruction of a statement
-pub number_behind : (l place : ℕ) (xs : List Step) (old new : List Instr) (n at : ℕ) → n ≡ length new → new ≡ old ++ instrs l place xs → length old ≡ at + 1 → n ≡ at + (1 + length xs)
+pub number_behind : (l place : ℕ) (xs : List CodeStep) (old new : List Instr) (n at : ℕ) → n ≡ length new → new ≡ old ++ instrs l place xs → length old ≡ at + 1 → n ≡ at + (1 + length xs)
 number_behind l place xs old new n at h g k =
     let many = ap length g in
     let both = length-append old (instrs l place xs) in
@@ -146,12 +146,12 @@ number_behind l place xs old new n at h g k =
     omega arith
 
 -- the place of a statement that calls
-pub call_site : (line l place n : ℕ) (x : Step) (xs : List Step) (old now new : List Instr) (before after : List Site) → after ≡ before ++ site line (Some n) ∷ [] → n ≡ length new → new ≡ now ++ instrs l place xs → now ≡ old ++ instr l place x ∷ [] → after ≡ before ++ site line (Some (length old + (1 + length xs))) ∷ []
+pub call_site : (line l place n : ℕ) (x : CodeStep) (xs : List CodeStep) (old now new : List Instr) (before after : List Site) → after ≡ before ++ site line (Some n) ∷ [] → n ≡ length new → new ≡ now ++ instrs l place xs → now ≡ old ++ instr l place x ∷ [] → after ≡ before ++ site line (Some (length old + (1 + length xs))) ∷ []
 call_site line l place n x xs old now new before after e h g k =
     let one : length now ≡ length old + 1 = ap length k ∙ length-append old (instr l place x ∷ []) in
     e ∙ ap (λ z. before ++ site line (Some z) ∷ []) (number_behind l place xs now new n (length old) h g one)
 
-pub length_behind : (l place : ℕ) (xs : List Step) (old new : List Instr) (n : ℕ) → new ≡ old ++ instrs l place xs → n ≡ length new → n ≡ length old + length xs
+pub length_behind : (l place : ℕ) (xs : List CodeStep) (old new : List Instr) (n : ℕ) → new ≡ old ++ instrs l place xs → n ≡ length new → n ≡ length old + length xs
 length_behind l place xs old new n h g =
     let many = ap length h in
     let both = length-append old (instrs l place xs) in

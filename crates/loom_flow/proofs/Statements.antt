@@ -8,8 +8,8 @@ use Rattle.loom_flow.specs.declared.code.Operand.{Operand}
 use Rattle.loom_flow.specs.declared.code.Operand.TheVariants as operand
 use Rattle.loom_flow.specs.declared.code.Target.{Target}
 use Rattle.loom_flow.specs.declared.code.Target.TheVariants as target
-use Rattle.loom_flow.specs.declared.code.Step.{Step}
-use Rattle.loom_flow.specs.declared.code.Step.TheVariants as s
+use Rattle.loom_flow.specs.declared.code.CodeStep.{CodeStep}
+use Rattle.loom_flow.specs.declared.code.CodeStep.TheVariants as s
 use Rattle.loom_flow.specs.declared.code.Control.TheVariants.{Begin, Done}
 use Rattle.loom_flow.specs.Flow.{Flow}
 use Rattle.loom_flow.specs.State.{State, jumped, named, names, locals_now}
@@ -27,7 +27,7 @@ variable_straight : (p : Source) (d : Target) (x : List ℕ) (a : Option ℕ) �
 variable_straight p d x None = refl
 variable_straight p d x (Some j) = refl
 
-unless_straight : (a : Operand) (steps : List Step) → AllStraight steps → AllStraight (unless_there a steps)
+unless_straight : (a : Operand) (steps : List CodeStep) → AllStraight steps → AllStraight (unless_there a steps)
 unless_straight operand.Top steps h = h
 unless_straight (operand.Local j) steps h = tt
 unless_straight (operand.Number n) steps h = tt
@@ -51,7 +51,7 @@ arguments_straight p xs (e ∷ es) = all_straight_append (steps_to p xs target.P
 
 -- From the beginning of a statement on
 
-pub meets_begin : (b : Bool) (c : Flow) (t : Thread) (m : State → Lists) (l k at : ℕ) (xs : List (List ℕ)) (z : State) (rest : List Step) (q : Lists)
+pub meets_begin : (b : Bool) (c : Flow) (t : Thread) (m : State → Lists) (l k at : ℕ) (xs : List (List ℕ)) (z : State) (rest : List CodeStep) (q : Lists)
     → Fetches b c t m → names (slice_get c.program.funcs z.func) ≡ xs → AllStraight rest → Lies c.code at (instrs l k (s.Control Begin ∷ rest))
     → Meets b (straight c t l k rest m (jumped z (suc at))) q → Meets b (m (jumped z at)) (emit (begins l (named xs z.locals)) q)
 meets_begin b c t m l k at xs z rest q f e a h g =
@@ -64,7 +64,7 @@ meets_begin b c t m l k at xs z rest q f e a h g =
 -- One operand, a step that takes it, and the completion
 
 pub one_operand : (b : Bool) (c : Flow) (t : Thread) (m : State → Lists) (l k at : ℕ) (xs : List (List ℕ)) (z : State) (e : Expression)
-    (x : Operand → Step) (y : ℤ → Lists → Lists) (q : Lists)
+    (x : Operand → CodeStep) (y : ℤ → Lists → Lists) (q : Lists)
     → ((a : Operand) (next : State → Lists) (n : ℕ) (v : ℤ) → straight c t l k (x a ∷ []) next (jumped (left a v z) n) ≡ y (settled a z.locals v) (next (jumped z (suc n))))
     → ((v : ℤ) (p r : Lists) → Meets b p r → Meets b (y v p) (y v r))
     → length xs ≤ length z.locals → IsKnown t.program xs e
@@ -73,8 +73,8 @@ pub one_operand : (b : Bool) (c : Flow) (t : Thread) (m : State → Lists) (l k 
     (expression t l (named xs z.locals) e (λ v. y v (emit (done l) q)))
 one_operand b c t m l k at xs z e x y q taken grows h g ends =
     let a : Operand = operand_of xs e in
-    let before : List Step = operand_steps t.program xs e in
-    let last : List Step = x a ∷ s.Control Done ∷ [] in
+    let before : List CodeStep = operand_steps t.program xs e in
+    let last : List CodeStep = x a ∷ s.Control Done ∷ [] in
     let behind : State → Lists = straight c t l k (s.Control Done ∷ []) m in
     let n : ℕ = skip at before in
     let env : Locals = named xs z.locals in

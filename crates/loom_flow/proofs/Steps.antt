@@ -6,8 +6,8 @@ use Rattle.loom_lang.specs.Values.{is_zero, divides, op_value}
 use Rattle.loom_flow.specs.declared.code.Operand.{Operand}
 use Rattle.loom_flow.specs.declared.code.Target.{Target}
 use Rattle.loom_flow.specs.declared.code.Array.{Array}
-use Rattle.loom_flow.specs.declared.code.Step.{Step}
-use Rattle.loom_flow.specs.declared.code.Step.TheVariants as s
+use Rattle.loom_flow.specs.declared.code.CodeStep.{CodeStep}
+use Rattle.loom_flow.specs.declared.code.CodeStep.TheVariants as s
 use Rattle.loom_flow.specs.declared.code.Compute.TheVariants.{Move, Negate, Invert, Apply, Discard}
 use Rattle.loom_flow.specs.declared.code.Ask.TheVariants.{Read, ReadCell, Write, WriteCell, Lock, Unlock, Down, Up, Join, Print, Spawn}
 use Rattle.loom_flow.specs.declared.code.Control.TheVariants.{Begin, Done, Edge, Jump, JumpIfZero, Call, Return, Out}
@@ -128,7 +128,7 @@ by_states c t m (before z) = m z
 by_states c t m (leaves z v) = emit (out z.func) (returned c t m z.values v z.below)
 by_states c t m over = t.stopped
 
-abbrev pub performed : Flow → Thread → (State → Lists) → State → Instr → Step → Lists
+abbrev pub performed : Flow → Thread → (State → Lists) → State → Instr → CodeStep → Lists
 performed c t m z i x = progress_lists t (by_states c t m) (of_step c z i x)
 
 abbrev pub fetched : Flow → Thread → (State → Lists) → State → Option Instr → Lists
@@ -180,7 +180,7 @@ false_true : false ≡ true → ⊥
 false_true e = cc
 
 -- the instruction behind it is the next one
-abbrev pub is_straight : Step → Bool
+abbrev pub is_straight : CodeStep → Bool
 is_straight (s.Control (Call f n)) = false
 is_straight (s.Control (Return a)) = false
 is_straight (s.Control (Edge at)) = false
@@ -195,7 +195,7 @@ IsAhead z (before y) = y.at ≡ suc z.at
 IsAhead z (leaves y v) = ⊥
 IsAhead z over = ⊥
 
-leads_ahead : (c : Flow) (z : State) (i : Instr) (x : Step) → is_straight x ≡ true → Leads (IsAhead z) (of_step c z i x)
+leads_ahead : (c : Flow) (z : State) (i : Instr) (x : CodeStep) → is_straight x ≡ true → Leads (IsAhead z) (of_step c z i x)
 leads_ahead c z i (s.Compute (Move a d)) e = refl
 leads_ahead c z i (s.Compute (Negate a d)) e = refl
 leads_ahead c z i (s.Compute (Invert a d)) e = refl
@@ -231,7 +231,7 @@ leads_on P Q f (traps line c) h = tt
 leads_on P Q f ends h = tt
 leads_on P Q f nothing h = tt
 
-pub meets_performed : (b : Bool) (c : Flow) (t : Thread) (m n : State → Lists) (z : State) (i : Instr) (x : Step) → is_straight x ≡ true
+pub meets_performed : (b : Bool) (c : Flow) (t : Thread) (m n : State → Lists) (z : State) (i : Instr) (x : CodeStep) → is_straight x ≡ true
     → ((y : State) → y.at ≡ suc z.at → Meets b (m y) (n y)) → Meets b (performed c t m z i x) (performed c t n z i x)
 meets_performed b c t m n z i x e f =
     meets_progress b t (by_states c t m) (by_states c t n) (of_step c z i x) (leads_on (IsAhead z) (λ p. Meets b (by_states c t m p) (by_states c t n p)) ahead (of_step c z i x) (leads_ahead c z i x e))

@@ -7,8 +7,8 @@ use Rattle.loom_flow.specs.declared.code.Operand.{Operand}
 use Rattle.loom_flow.specs.declared.code.Operand.TheVariants as o
 use Rattle.loom_flow.specs.declared.code.Target.{Target}
 use Rattle.loom_flow.specs.declared.code.Target.TheVariants as t
-use Rattle.loom_flow.specs.declared.code.Step.{Step}
-use Rattle.loom_flow.specs.declared.code.Step.TheVariants as s
+use Rattle.loom_flow.specs.declared.code.CodeStep.{CodeStep}
+use Rattle.loom_flow.specs.declared.code.CodeStep.TheVariants as s
 use Rattle.loom_flow.specs.declared.code.Compute.TheVariants.{Move, Negate, Invert, Apply, Discard}
 use Rattle.loom_flow.specs.declared.code.Ask.TheVariants.{Read, ReadCell, Write, WriteCell, Join, Print, Spawn}
 use Rattle.loom_flow.specs.declared.code.Control.TheVariants.{JumpIfZero, Call, Return}
@@ -24,7 +24,7 @@ abbrev pub pushes : Target → ℕ
 pushes t.Push = 1
 pushes (t.Local x) = 0
 
-abbrev pub takes_off : Step → ℕ
+abbrev pub takes_off : CodeStep → ℕ
 takes_off (s.Compute (Move a d)) = pops a
 takes_off (s.Ask (ReadCell a n d)) = pops n
 takes_off (s.Compute (Negate a d)) = pops a
@@ -42,7 +42,7 @@ takes_off (s.Control (JumpIfZero a to)) = pops a
 takes_off _ = 0
 
 -- a call puts on its result
-abbrev pub puts_on : Step → ℕ
+abbrev pub puts_on : CodeStep → ℕ
 puts_on (s.Compute (Move a d)) = pushes d
 puts_on (s.Ask (Read w d)) = pushes d
 puts_on (s.Ask (ReadCell a n d)) = pushes d
@@ -54,7 +54,7 @@ puts_on (s.Control (Call f n)) = 1
 puts_on _ = 0
 
 -- how many values there are behind these steps, where none takes off more than there are
-abbrev pub depth_after : ℕ → List Step → Option ℕ
+abbrev pub depth_after : ℕ → List CodeStep → Option ℕ
 depth_after d [] = Some d
 depth_after d (x ∷ xs) = if nat_le (takes_off x) d then depth_after (d - takes_off x + puts_on x) xs else None
 

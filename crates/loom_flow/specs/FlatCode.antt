@@ -10,8 +10,8 @@ use Rattle.loom_flow.specs.declared.code.Operand.TheVariants as o
 use Rattle.loom_flow.specs.declared.code.Target.{Target}
 use Rattle.loom_flow.specs.declared.code.Target.TheVariants as t
 use Rattle.loom_flow.specs.declared.code.Array.{Array}
-use Rattle.loom_flow.specs.declared.code.Step.{Step}
-use Rattle.loom_flow.specs.declared.code.Step.TheVariants as s
+use Rattle.loom_flow.specs.declared.code.CodeStep.{CodeStep}
+use Rattle.loom_flow.specs.declared.code.CodeStep.TheVariants as s
 use Rattle.loom_flow.specs.declared.code.Compute.TheVariants.{Move, Negate, Invert, Apply, Discard}
 use Rattle.loom_flow.specs.declared.code.Ask.{Ask}
 use Rattle.loom_flow.specs.declared.statement.Taker.{Taker}
@@ -56,16 +56,16 @@ operand_of xs (var x) = local_operand (index_of x xs)
 operand_of xs _ = o.Top
 
 -- and nothing is done for them before
-abbrev pub unless_there : Operand → List Step → List Step
+abbrev pub unless_there : Operand → List CodeStep → List CodeStep
 unless_there o.Top steps = steps
 unless_there _ steps = []
 
-abbrev pub variable_step : Source → Target → List ℕ → Option ℕ → Step
+abbrev pub variable_step : Source → Target → List ℕ → Option ℕ → CodeStep
 variable_step p d x None = s.Ask (Read (word_named p x) d)
 variable_step p d x (Some k) = s.Compute (Move (o.Local k) d)
 
 -- the steps that leave an expression's value
-abbrev pub steps_to : Source → List (List ℕ) → Target → Expression → List Step
+abbrev pub steps_to : Source → List (List ℕ) → Target → Expression → List CodeStep
 steps_to p xs d (num n) = s.Compute (Move (o.Number n) d) ∷ []
 steps_to p xs d (var x) = variable_step p d x (index_of x xs) ∷ []
 steps_to p xs d (cell x i) = unless_there (operand_of xs i) (steps_to p xs t.Push i) ++ s.Ask (ReadCell (array_named p x) (operand_of xs i) d) ∷ []
@@ -76,32 +76,32 @@ steps_to p xs d (bin o a b) =
     ++ (unless_there (operand_of xs b) (steps_to p xs t.Push b) ++ s.Compute (Apply o (operand_of xs a) (operand_of xs b) d) ∷ [])
 
 -- the steps before an instruction that takes the expression as an operand
-abbrev pub operand_steps : Source → List (List ℕ) → Expression → List Step
+abbrev pub operand_steps : Source → List (List ℕ) → Expression → List CodeStep
 operand_steps p xs e = unless_there (operand_of xs e) (steps_to p xs t.Push e)
 
-abbrev pub argument_steps : Source → List (List ℕ) → List Expression → List Step
+abbrev pub argument_steps : Source → List (List ℕ) → List Expression → List CodeStep
 argument_steps p xs [] = []
 argument_steps p xs (e ∷ es) = steps_to p xs t.Push e ++ argument_steps p xs es
 
-abbrev pub call_steps : Source → List (List ℕ) → List ℕ → List Expression → List Step
+abbrev pub call_steps : Source → List (List ℕ) → List ℕ → List Expression → List CodeStep
 call_steps p xs f es = argument_steps p xs es ++ s.Control (Call (or_zero (function_number p f)) (length es)) ∷ []
 
-abbrev pub spawn_steps : Source → List (List ℕ) → List ℕ → List Expression → List Step
+abbrev pub spawn_steps : Source → List (List ℕ) → List ℕ → List Expression → List CodeStep
 spawn_steps p xs f es = argument_steps p xs es ++ s.Ask (Spawn (or_zero (function_number p f)) (length es) t.Push) ∷ []
 
 -- Statements
 
 -- the step that writes what is on top
-abbrev pub store_step : Source → List ℕ → Option ℕ → Step
+abbrev pub store_step : Source → List ℕ → Option ℕ → CodeStep
 store_step p x None = s.Ask (Write (word_named p x) o.Top)
 store_step p x (Some k) = s.Compute (Move o.Top (t.Local k))
 
 -- an expression's value is left in a local at once
-abbrev pub value_steps : Source → List (List ℕ) → List ℕ → Expression → Option ℕ → List Step
+abbrev pub value_steps : Source → List (List ℕ) → List ℕ → Expression → Option ℕ → List CodeStep
 value_steps p xs x e None = operand_steps p xs e ++ s.Ask (Write (word_named p x) (operand_of xs e)) ∷ []
 value_steps p xs x e (Some k) = steps_to p xs (t.Local k) e
 
-abbrev pub set_steps : Source → List (List ℕ) → List ℕ → Right Expression → List Step
+abbrev pub set_steps : Source → List (List ℕ) → List ℕ → Right Expression → List CodeStep
 set_steps p xs x (Right.value e) = value_steps p xs x e (index_of x xs)
 set_steps p xs x (Right.call f es) = call_steps p xs f es ++ store_step p x (index_of x xs) ∷ []
 set_steps p xs x (Right.spawn f es) = spawn_steps p xs f es ++ store_step p x (index_of x xs) ∷ []
@@ -112,7 +112,7 @@ ask_of taker.Join a = Join a
 ask_of taker.Print a = Print a
 
 -- from the statement's beginning to its completion
-abbrev pub simple_steps : Source → List (List ℕ) → Simple Expression → List Step
+abbrev pub simple_steps : Source → List (List ℕ) → Simple Expression → List CodeStep
 simple_steps p xs (let_ x r) = s.Control Begin ∷ (set_steps p xs x r ++ s.Control Done ∷ [])
 simple_steps p xs (set x r) = s.Control Begin ∷ (set_steps p xs x r ++ s.Control Done ∷ [])
 simple_steps p xs (set_cell x i e) =
@@ -135,10 +135,10 @@ resume_of p xs at (set x (Right.call f es)) = Some (at + (1 + length (call_steps
 resume_of p xs at (Simple.call f es) = Some (at + (1 + length (call_steps p xs f es)))
 resume_of p xs at _ = None
 
-abbrev pub instr : ℕ → ℕ → Step → Instr
+abbrev pub instr : ℕ → ℕ → CodeStep → Instr
 instr line place step = record { line = line; place = place; step = step }
 
-abbrev pub instrs : ℕ → ℕ → List Step → List Instr
+abbrev pub instrs : ℕ → ℕ → List CodeStep → List Instr
 instrs line place [] = []
 instrs line place (x ∷ xs) = instr line place x ∷ instrs line place xs
 

@@ -10,8 +10,8 @@ use Rattle.loom_flow.specs.declared.code.Operand.TheVariants as o
 use Rattle.loom_flow.specs.declared.code.Target.{Target}
 use Rattle.loom_flow.specs.declared.code.Target.TheVariants as t
 use Rattle.loom_flow.specs.declared.code.Compute.TheVariants.{Move, Negate, Invert, Apply}
-use Rattle.loom_flow.specs.declared.code.Step.{Step}
-use Rattle.loom_flow.specs.declared.code.Step.TheVariants as s
+use Rattle.loom_flow.specs.declared.code.CodeStep.{CodeStep}
+use Rattle.loom_flow.specs.declared.code.CodeStep.TheVariants as s
 use Rattle.loom_flow.specs.declared.code.Ask.TheVariants.{Read, ReadCell, Write, WriteCell, Lock, Unlock, Down, Up, Join, Print, Spawn}
 use Rattle.loom_flow.specs.declared.code.Control.TheVariants.{Edge, Jump, JumpIfZero, Call, Return, Out}
 use Rattle.loom_flow.specs.declared.code.Instr.{Instr}
@@ -52,7 +52,7 @@ pub record IsInFunction (c : Flow) (n at : ℕ) : Type 0 where
 -- Places
 
 -- The place of an instruction of function `n`: the loop's back edge, the end of the function, or the statement's own place.
-abbrev pub place_of : ℕ → ℕ → Step → Place
+abbrev pub place_of : ℕ → ℕ → CodeStep → Place
 place_of n line (s.Control (Edge to)) = back_edge line
 place_of n line (s.Control Out) = out n
 place_of n line _ = inside line
@@ -73,7 +73,7 @@ HasStart c f = (e : Entrance) × (slice_get c.entrances f ≡ Some e) × (e.star
 
 -- Instruction `at` leads into `Q` alone: to the next instruction, and by a jump to one behind it, by a back edge to any. A call or a spawn
 -- begins at the start of a function, and behind a call the frame goes on at the next instruction.
-abbrev pub LeadsInto : (ℕ → Type 0) → Flow → ℕ → Instr → Step → Type 0
+abbrev pub LeadsInto : (ℕ → Type 0) → Flow → ℕ → Instr → CodeStep → Type 0
 LeadsInto Q c at i (s.Control (Jump to)) = Q (suc at) × (at < to) × Q to
 LeadsInto Q c at i (s.Control (JumpIfZero a to)) = Q (suc at) × (at < to) × Q to
 LeadsInto Q c at i (s.Control (Edge to)) = Q (suc at) × Q to
@@ -97,7 +97,7 @@ pub record KeepsFunctions (c : Flow) : Type 0 where
 
 -- With `d` values before it, an instruction takes off no more than these, and wherever it leads as many wait as are foreseen there. What
 -- jumps, calls or returns takes off all of them: a frame begins with no values, and goes on behind a call with the result alone.
-abbrev pub KeepsDepth : Flow → ℕ → ℕ → Step → Type 0
+abbrev pub KeepsDepth : Flow → ℕ → ℕ → CodeStep → Type 0
 KeepsDepth c at d (s.Control (Jump to)) = (d ≡ 0) × (depth_before c to ≡ Some 0)
 KeepsDepth c at d (s.Control (JumpIfZero a to)) = (d ≡ pops a) × (depth_before c (suc at) ≡ Some 0) × (depth_before c to ≡ Some 0)
 KeepsDepth c at d (s.Control (Edge to)) = (d ≡ 0) × (depth_before c to ≡ Some 0)
@@ -135,7 +135,7 @@ abbrev pub HasLocalFor : Target → Type 0
 HasLocalFor (t.Local x) = x < frame_room
 HasLocalFor t.Push = Unit {0}
 
-abbrev pub HasLocals : Step → Type 0
+abbrev pub HasLocals : CodeStep → Type 0
 HasLocals (s.Compute (Move a d)) = HasLocal a × HasLocalFor d
 HasLocals (s.Compute (Negate a d)) = HasLocal a × HasLocalFor d
 HasLocals (s.Compute (Invert a d)) = HasLocal a × HasLocalFor d
@@ -161,7 +161,7 @@ abbrev pub HasParams : Source → ℕ → ℕ → Type 0
 HasParams p f n = (g : Function) × (slice_get p.funcs f ≡ Some g) × (n ≡ length g.params)
 
 -- The numbers in an instruction are those of the program.
-abbrev pub HasProgramNumbers : Source → Step → Type 0
+abbrev pub HasProgramNumbers : Source → CodeStep → Type 0
 HasProgramNumbers p (s.Ask (Read w d)) = w < cell_count p.words
 HasProgramNumbers p (s.Ask (ReadCell a n d)) = a.first + a.count ≤ cell_count p.words
 HasProgramNumbers p (s.Ask (Write w a)) = w < cell_count p.words

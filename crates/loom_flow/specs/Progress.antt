@@ -10,8 +10,8 @@ use Rattle.loom_flow.specs.declared.code.Ask.{Ask}
 use Rattle.loom_flow.specs.declared.code.Ask.TheVariants.{Read, ReadCell, Write, WriteCell, Lock, Unlock, Down, Up, Join, Print, Spawn}
 use Rattle.loom_flow.specs.declared.code.Control.{Control}
 use Rattle.loom_flow.specs.declared.code.Control.TheVariants.{Begin, Done, Edge, Jump, JumpIfZero, Call, Return, Out}
-use Rattle.loom_flow.specs.declared.code.Step.{Step}
-use Rattle.loom_flow.specs.declared.code.Step.TheVariants as s
+use Rattle.loom_flow.specs.declared.code.CodeStep.{CodeStep}
+use Rattle.loom_flow.specs.declared.code.CodeStep.TheVariants as s
 use Rattle.loom_flow.specs.declared.code.Instr.{Instr}
 use Rattle.loom_flow.specs.declared.code.Entrance.{Entrance}
 use Rattle.loom_flow.specs.Flow.{Flow, resume, return_point}
@@ -106,7 +106,7 @@ of_control c z line place Out = goes None (leaves z (pos 0))
 
 -- Threads
 
-abbrev pub of_step : Flow → State → Instr → Step → Progress
+abbrev pub of_step : Flow → State → Instr → CodeStep → Progress
 of_step c z i (s.Compute x) = of_compute z i.line x
 of_step c z i (s.Ask x) = of_ask z i.line x
 of_step c z i (s.Control x) = of_control c z i.line i.place x

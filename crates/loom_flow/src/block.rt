@@ -3,12 +3,12 @@ ghost use Rattle.std.specs.Prelude.{◌≡◌, ◌<◌, ◌≤◌, ◌+◌, ◌�
 ghost use Rattle.loom_tree.specs.Tree.{end, if_, while_, behind, body_of, expression_of};
 ghost use Rattle.loom_lang.specs.Rules.{knows, knows_body};
 ghost use Rattle.loom_flow.specs.Arguments.{takes_body};
-ghost use Rattle.loom_flow.specs.declared.code.Step.TheVariants as s;
+ghost use Rattle.loom_flow.specs.declared.code.CodeStep.TheVariants as s;
 ghost use Rattle.loom_flow.specs.declared.code.Control.TheVariants.{JumpIfZero};
 ghost use Rattle.loom_flow.specs.FlatCode.{instr, instrs, operand_of, operand_steps, place_count, flat_body, body_sites, site_limit};
 
-use crate::code::{Ask, Control, Instr, Operand, Site, Step};
-use crate::expression::{Spot, operand, push};
+use crate::code::{Ask, CodeStep, Control, Instr, Operand, Site};
+use crate::expression::{InstrSpot, operand, push};
 use crate::numbers::Scope;
 use crate::statement::{
     Taker, assign, call_alone, give_back, next, one_step, put_site, set_cell, skip, spot_of, take,
@@ -26,7 +26,12 @@ struct Test {
 
 /// A test, with a jump to no instruction so far.
 #[tactic(auto, using(crate::proofs::Sizes::step_is, crate::proofs::Sizes::length_behind))]
-fn open_test(code: &mut Vec<Instr>, scope: &Scope, spot: Spot, e: &Expr) -> Result<Test, NoMemory>
+fn open_test(
+    code: &mut Vec<Instr>,
+    scope: &Scope,
+    spot: InstrSpot,
+    e: &Expr,
+) -> Result<Test, NoMemory>
     requires { knows scope.now.program scope.now.locals (expression_of e.now) ≡ true }
     ensures code { OnOk result (code.new.items ≡ code.old.items ++ instrs spot.line spot.place (operand_steps scope.now.program scope.now.locals (expression_of e.now) ++ s.Control (JumpIfZero (operand_of scope.now.locals (expression_of e.now)) 0) ∷ [])) }
     ensures operand { IfOk result (λ t. t.operand ≡ operand_of scope.now.locals (expression_of e.now)) }
@@ -34,12 +39,16 @@ fn open_test(code: &mut Vec<Instr>, scope: &Scope, spot: Spot, e: &Expr) -> Resu
 {
     let operand = operand(code, scope, spot, e)?;
     let at = code.len();
-    push(code, spot, Step::Control(Control::JumpIfZero(operand, 0)))?;
+    push(
+        code,
+        spot,
+        CodeStep::Control(Control::JumpIfZero(operand, 0)),
+    )?;
     Ok(Test { at, operand })
 }
 
 /// Another step at this number.
-fn patch(code: &mut Vec<Instr>, at: usize, spot: Spot, step: Step)
+fn patch(code: &mut Vec<Instr>, at: usize, spot: InstrSpot, step: CodeStep)
     requires { at < length code.old.items }
     ensures { code.new.items ≡ slice_set code.old.items at (instr spot.line spot.place step) }
 {
@@ -55,7 +64,7 @@ fn choice(
     code: &mut Vec<Instr>,
     sites: &mut Vec<Site>,
     scope: &Scope,
-    spot: Spot,
+    spot: InstrSpot,
     e: &Expr,
     a: &Stmts,
     b: &Stmts,
@@ -68,22 +77,22 @@ fn choice(
     ensures sites { OnOk result (sites.new.items ≡ sites.old.items ++ body_sites scope.now.program scope.now.locals (length code.old.items) (if_ spot.line (expression_of e.now) (body_of a.now) (body_of b.now) end)) }
 {
     put_site(sites, spot.line, None)?;
-    push(code, spot, Step::Control(Control::Begin))?;
+    push(code, spot, CodeStep::Control(Control::Begin))?;
     let test = open_test(code, scope, spot, e)?;
     body(code, sites, scope, a)?;
     let skip = code.len();
-    push(code, spot, Step::Control(Control::Jump(0)))?;
+    push(code, spot, CodeStep::Control(Control::Jump(0)))?;
     let second = next(code)?;
     patch(
         code,
         test.at,
         spot,
-        Step::Control(Control::JumpIfZero(test.operand, second)),
+        CodeStep::Control(Control::JumpIfZero(test.operand, second)),
     );
     body(code, sites, scope, b)?;
     let done = next(code)?;
-    patch(code, skip, spot, Step::Control(Control::Jump(done)));
-    push(code, spot, Step::Control(Control::Done))?;
+    patch(code, skip, spot, CodeStep::Control(Control::Jump(done)));
+    push(code, spot, CodeStep::Control(Control::Done))?;
     Ok(())
 }
 
@@ -92,7 +101,7 @@ fn repeat(
     code: &mut Vec<Instr>,
     sites: &mut Vec<Site>,
     scope: &Scope,
-    spot: Spot,
+    spot: InstrSpot,
     e: &Expr,
     a: &Stmts,
 ) -> Result<(), NoMemory>
@@ -106,19 +115,19 @@ fn repeat(
     put_site(sites, spot.line, None)?;
     let back = spot_of(sites, spot.line);
     put_site(sites, spot.line, None)?;
-    push(code, spot, Step::Control(Control::Begin))?;
+    push(code, spot, CodeStep::Control(Control::Begin))?;
     let head = next(code)?;
     let test = open_test(code, scope, spot, e)?;
     body(code, sites, scope, a)?;
-    push(code, back, Step::Control(Control::Edge(head)))?;
+    push(code, back, CodeStep::Control(Control::Edge(head)))?;
     let done = next(code)?;
     patch(
         code,
         test.at,
         spot,
-        Step::Control(Control::JumpIfZero(test.operand, done)),
+        CodeStep::Control(Control::JumpIfZero(test.operand, done)),
     );
-    push(code, spot, Step::Control(Control::Done))?;
+    push(code, spot, CodeStep::Control(Control::Done))?;
     Ok(())
 }
 
@@ -150,7 +159,7 @@ fn statement(
     code: &mut Vec<Instr>,
     sites: &mut Vec<Site>,
     scope: &Scope,
-    spot: Spot,
+    spot: InstrSpot,
     kind: &Kind,
 ) -> Result<(), NoMemory>
     requires known { knows_body scope.now.program scope.now.locals (behind spot.line kind.now end) ≡ true }
@@ -168,10 +177,15 @@ fn statement(
         Kind::While(e, a) => repeat(code, sites, scope, spot, e, a),
         Kind::Call(f, es) => call_alone(code, sites, scope, spot, f, es),
         Kind::Return(e) => give_back(code, sites, scope, spot, e),
-        Kind::Lock(x) => one_step(code, sites, spot, Step::Ask(Ask::Lock(scope.mutex(x)))),
-        Kind::Unlock(x) => one_step(code, sites, spot, Step::Ask(Ask::Unlock(scope.mutex(x)))),
-        Kind::Down(x) => one_step(code, sites, spot, Step::Ask(Ask::Down(scope.sema(x)))),
-        Kind::Up(x) => one_step(code, sites, spot, Step::Ask(Ask::Up(scope.sema(x)))),
+        Kind::Lock(x) => one_step(code, sites, spot, CodeStep::Ask(Ask::Lock(scope.mutex(x)))),
+        Kind::Unlock(x) => one_step(
+            code,
+            sites,
+            spot,
+            CodeStep::Ask(Ask::Unlock(scope.mutex(x))),
+        ),
+        Kind::Down(x) => one_step(code, sites, spot, CodeStep::Ask(Ask::Down(scope.sema(x)))),
+        Kind::Up(x) => one_step(code, sites, spot, CodeStep::Ask(Ask::Up(scope.sema(x)))),
         Kind::Join(e) => take(code, sites, scope, spot, Taker::Join, e),
         Kind::Print(e) => take(code, sites, scope, spot, Taker::Print, e),
         Kind::Skip => skip(code, sites, spot),

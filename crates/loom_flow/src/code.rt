@@ -99,7 +99,7 @@ pub enum Control {
 
 /// What an instruction does.
 #[derive(Clone, Copy, Debug, Drop, PartialEq, Eq)]
-pub enum Step {
+pub enum CodeStep {
     /// It computes.
     Compute(Compute),
     /// It asks for something.
@@ -116,7 +116,7 @@ pub struct Instr {
     /// The number of a place of the program.
     pub place: u16,
     /// What it does.
-    pub step: Step,
+    pub step: CodeStep,
 }
 
 /// A place.

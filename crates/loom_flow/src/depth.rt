@@ -1,9 +1,9 @@
 //! How many values there are before instructions.
 ghost use Rattle.std.specs.Prelude.{◌≡◌, ◌≤◌};
-ghost use Rattle.loom_flow.specs.declared.code.Step.TheVariants as s;
+ghost use Rattle.loom_flow.specs.declared.code.CodeStep.TheVariants as s;
 ghost use Rattle.loom_flow.specs.Depth.{pops, pushes, takes_off, puts_on, most_before};
 
-use crate::code::{Ask, Compute, Control, Instr, Operand, Step, Target};
+use crate::code::{Ask, CodeStep, Compute, Control, Instr, Operand, Target};
 
 fn pops(a: Operand) -> usize
     ensures is { result ≡ pops a }
@@ -72,13 +72,13 @@ fn control_takes_off(step: Control) -> usize
 }
 
 /// How many values an instruction takes off.
-fn takes_off(step: Step) -> usize
+fn takes_off(step: CodeStep) -> usize
     ensures { result ≡ takes_off step }
 {
     match step {
-        Step::Compute(x) => compute_takes_off(x),
-        Step::Ask(x) => ask_takes_off(x),
-        Step::Control(x) => control_takes_off(x),
+        CodeStep::Compute(x) => compute_takes_off(x),
+        CodeStep::Ask(x) => ask_takes_off(x),
+        CodeStep::Control(x) => control_takes_off(x),
     }
 }
 
@@ -132,14 +132,14 @@ fn control_puts_on(step: Control) -> usize
 }
 
 /// How many values it puts on.
-fn puts_on(step: Step) -> usize
+fn puts_on(step: CodeStep) -> usize
     ensures is { result ≡ puts_on step }
     ensures few { result ≤ 1 }
 {
     match step {
-        Step::Compute(x) => compute_puts_on(x),
-        Step::Ask(x) => ask_puts_on(x),
-        Step::Control(x) => control_puts_on(x),
+        CodeStep::Compute(x) => compute_puts_on(x),
+        CodeStep::Ask(x) => ask_puts_on(x),
+        CodeStep::Control(x) => control_puts_on(x),
     }
 }
 

@@ -5,14 +5,14 @@ ghost use Rattle.loom_lang.specs.Rules.{knows, knows_all};
 ghost use Rattle.loom_flow.specs.declared.code.Target.TheVariants as t;
 ghost use Rattle.loom_flow.specs.FlatCode.{instr, instrs, operand_of, operand_steps, steps_to, argument_steps};
 
-use crate::code::{Ask, Compute, Instr, Operand, Step, Target};
+use crate::code::{Ask, CodeStep, Compute, Instr, Operand, Target};
 use crate::numbers::Scope;
 use loom_tree::expression::{Expr, Exprs};
 use loom_tree::name::NoMemory;
 
 /// Where the instructions of a statement stand.
 #[derive(Clone, Copy, Drop)]
-pub struct Spot {
+pub struct InstrSpot {
     /// The line of the statement, from 1.
     pub line: u32,
     /// The number of its place.
@@ -20,7 +20,7 @@ pub struct Spot {
 }
 
 /// One instruction more.
-pub fn push(code: &mut Vec<Instr>, spot: Spot, step: Step) -> Result<(), NoMemory>
+pub fn push(code: &mut Vec<Instr>, spot: InstrSpot, step: CodeStep) -> Result<(), NoMemory>
     ensures { OnOk result (code.new.items ≡ code.old.items ++ instr spot.line spot.place step ∷ []) }
 {
     code.push(Instr {
@@ -53,7 +53,7 @@ fn operand_of(scope: &Scope, e: &Expr) -> Operand
 pub fn operand(
     code: &mut Vec<Instr>,
     scope: &Scope,
-    spot: Spot,
+    spot: InstrSpot,
     e: &Expr,
 ) -> Result<Operand, NoMemory>
     requires { knows scope.now.program scope.now.locals (expression_of e.now) ≡ true }
@@ -76,7 +76,7 @@ pub fn operand(
 pub fn expression(
     code: &mut Vec<Instr>,
     scope: &Scope,
-    spot: Spot,
+    spot: InstrSpot,
     target: Target,
     e: &Expr,
 ) -> Result<(), NoMemory>
@@ -87,31 +87,31 @@ pub fn expression(
         Expr::Num(n) => push(
             code,
             spot,
-            Step::Compute(Compute::Move(Operand::Number(*n), target)),
+            CodeStep::Compute(Compute::Move(Operand::Number(*n), target)),
         ),
         Expr::Var(x) => match scope.local(x) {
             Some(local) => push(
                 code,
                 spot,
-                Step::Compute(Compute::Move(Operand::Local(local), target)),
+                CodeStep::Compute(Compute::Move(Operand::Local(local), target)),
             ),
-            None => push(code, spot, Step::Ask(Ask::Read(scope.word(x), target))),
+            None => push(code, spot, CodeStep::Ask(Ask::Read(scope.word(x), target))),
         },
         Expr::Cell(x, i) => {
             let index = operand(code, scope, spot, i)?;
             push(
                 code,
                 spot,
-                Step::Ask(Ask::ReadCell(scope.array(x), index, target)),
+                CodeStep::Ask(Ask::ReadCell(scope.array(x), index, target)),
             )
         }
         Expr::Neg(a) => {
             let a = operand(code, scope, spot, a)?;
-            push(code, spot, Step::Compute(Compute::Negate(a, target)))
+            push(code, spot, CodeStep::Compute(Compute::Negate(a, target)))
         }
         Expr::Not(a) => {
             let a = operand(code, scope, spot, a)?;
-            push(code, spot, Step::Compute(Compute::Invert(a, target)))
+            push(code, spot, CodeStep::Compute(Compute::Invert(a, target)))
         }
         Expr::Bin(op, a, b) => {
             let left = operand(code, scope, spot, a)?;
@@ -119,7 +119,7 @@ pub fn expression(
             push(
                 code,
                 spot,
-                Step::Compute(Compute::Apply(*op, left, right, target)),
+                CodeStep::Compute(Compute::Apply(*op, left, right, target)),
             )
         }
     }
@@ -130,7 +130,7 @@ pub fn expression(
 pub fn arguments(
     code: &mut Vec<Instr>,
     scope: &Scope,
-    spot: Spot,
+    spot: InstrSpot,
     es: &Exprs,
 ) -> Result<(), NoMemory>
     requires { knows_all scope.now.program scope.now.locals (expressions_of es.now) ≡ true }

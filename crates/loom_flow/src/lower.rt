@@ -8,7 +8,7 @@ ghost use Rattle.loom_flow.specs.FlatCode.{place_count, functions_code, function
 
 use crate::block::body;
 use crate::calls::with_body;
-use crate::code::{Control, Entrance, Instr, Site, Step};
+use crate::code::{CodeStep, Control, Entrance, Instr, Site};
 use crate::expression::push;
 use crate::flow::Flow;
 use crate::numbers::Scope;
@@ -49,7 +49,7 @@ fn put_function(
     put_site(sites, f.line, None)?;
     body(code, sites, scope, &f.body)?;
     let out = spot_of(sites, f.line);
-    push(code, out, Step::Control(Control::Out))?;
+    push(code, out, CodeStep::Control(Control::Out))?;
     put_site(sites, f.line, None)?;
     Ok(())
 }

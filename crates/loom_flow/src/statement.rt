@@ -5,12 +5,12 @@ ghost use Rattle.loom_tree.specs.Tree as tree;
 ghost use Rattle.loom_lang.specs.Numbers.{index_of};
 ghost use Rattle.loom_lang.specs.Rules.{is_in, is_word, takes, knows, knows_call, knows_right, knows_simple, knows_returned};
 ghost use Rattle.loom_flow.specs.Arguments.{takes_right};
-ghost use Rattle.loom_flow.specs.declared.code.Step.TheVariants as s;
+ghost use Rattle.loom_flow.specs.declared.code.CodeStep.TheVariants as s;
 ghost use Rattle.loom_flow.specs.declared.code.Control.TheVariants.{Begin, Done};
 ghost use Rattle.loom_flow.specs.FlatCode.{instr, instrs, operand_of, operand_steps, ask_of, call_steps, spawn_steps, store_step, value_steps, set_steps, simple_steps, resume_of, site, site_limit};
 
-use crate::code::{Ask, Compute, Control, Instr, Operand, Site, Step, Target};
-use crate::expression::{Spot, arguments, expression, operand, push};
+use crate::code::{Ask, CodeStep, Compute, Control, Instr, Operand, Site, Target};
+use crate::expression::{InstrSpot, arguments, expression, operand, push};
 use crate::numbers::Scope;
 use loom_tree::expression::{Expr, Exprs};
 use loom_tree::name::{Name, NoMemory};
@@ -27,11 +27,11 @@ pub fn next(code: &[Instr]) -> Result<u32, NoMemory>
 }
 
 /// Where the instructions of a statement stand whose place is the next.
-pub fn spot_of(sites: &[Site], line: u32) -> Spot
+pub fn spot_of(sites: &[Site], line: u32) -> InstrSpot
     requires { length sites.now < site_limit }
     ensures { result ≡ record { line = line; place = length sites.now } }
 {
-    Spot {
+    InstrSpot {
         line,
         place: sites.len() as u16,
     }
@@ -56,21 +56,21 @@ fn count(scope: &Scope, f: &Name, es: &Exprs) -> u8
 }
 
 /// The beginning of a statement without a call, and its place.
-fn begin(code: &mut Vec<Instr>, sites: &mut Vec<Site>, spot: Spot) -> Result<(), NoMemory>
+fn begin(code: &mut Vec<Instr>, sites: &mut Vec<Site>, spot: InstrSpot) -> Result<(), NoMemory>
     ensures code { OnOk result (code.new.items ≡ code.old.items ++ instr spot.line spot.place (s.Control Begin) ∷ []) }
     ensures sites { OnOk result (sites.new.items ≡ sites.old.items ++ site spot.line None ∷ []) }
 {
     put_site(sites, spot.line, None)?;
-    push(code, spot, Step::Control(Control::Begin))?;
+    push(code, spot, CodeStep::Control(Control::Begin))?;
     Ok(())
 }
 
 /// The last step of a statement, and its completion.
-fn complete(code: &mut Vec<Instr>, spot: Spot, step: Step) -> Result<(), NoMemory>
+fn complete(code: &mut Vec<Instr>, spot: InstrSpot, step: CodeStep) -> Result<(), NoMemory>
     ensures { OnOk result (code.new.items ≡ code.old.items ++ instr spot.line spot.place step ∷ instr spot.line spot.place (s.Control Done) ∷ []) }
 {
     push(code, spot, step)?;
-    push(code, spot, Step::Control(Control::Done))?;
+    push(code, spot, CodeStep::Control(Control::Done))?;
     Ok(())
 }
 
@@ -79,7 +79,7 @@ fn complete(code: &mut Vec<Instr>, spot: Spot, step: Step) -> Result<(), NoMemor
 fn call(
     code: &mut Vec<Instr>,
     scope: &Scope,
-    spot: Spot,
+    spot: InstrSpot,
     f: &Name,
     es: &Exprs,
 ) -> Result<u32, NoMemory>
@@ -93,7 +93,7 @@ fn call(
     push(
         code,
         spot,
-        Step::Control(Control::Call(scope.function(f), count)),
+        CodeStep::Control(Control::Call(scope.function(f), count)),
     )?;
     let resume = next(code)?;
     Ok(resume)
@@ -103,7 +103,7 @@ fn call(
 fn spawn(
     code: &mut Vec<Instr>,
     scope: &Scope,
-    spot: Spot,
+    spot: InstrSpot,
     f: &Name,
     es: &Exprs,
 ) -> Result<(), NoMemory>
@@ -116,13 +116,13 @@ fn spawn(
     push(
         code,
         spot,
-        Step::Ask(Ask::Spawn(scope.function(f), count, Target::Push)),
+        CodeStep::Ask(Ask::Spawn(scope.function(f), count, Target::Push)),
     )
 }
 
 /// What is on top goes into a local.
 #[tactic(auto, using(crate::proofs::Roles::not_in))]
-fn store(code: &mut Vec<Instr>, scope: &Scope, spot: Spot, x: &Name) -> Result<(), NoMemory>
+fn store(code: &mut Vec<Instr>, scope: &Scope, spot: InstrSpot, x: &Name) -> Result<(), NoMemory>
     requires { is_in x.now scope.now.locals ≡ true }
     ensures { OnOk result (code.new.items ≡ code.old.items ++ instr spot.line spot.place (store_step scope.now.program x.now (index_of x.now scope.now.locals)) ∷ []) }
 {
@@ -130,7 +130,7 @@ fn store(code: &mut Vec<Instr>, scope: &Scope, spot: Spot, x: &Name) -> Result<(
         Some(local) => push(
             code,
             spot,
-            Step::Compute(Compute::Move(Operand::Top, Target::Local(local))),
+            CodeStep::Compute(Compute::Move(Operand::Top, Target::Local(local))),
         ),
         None => unreachable!(),
     }
@@ -141,7 +141,7 @@ fn store(code: &mut Vec<Instr>, scope: &Scope, spot: Spot, x: &Name) -> Result<(
 fn value(
     code: &mut Vec<Instr>,
     scope: &Scope,
-    spot: Spot,
+    spot: InstrSpot,
     x: &Name,
     e: &Expr,
 ) -> Result<(), NoMemory>
@@ -153,7 +153,11 @@ fn value(
         Some(local) => expression(code, scope, spot, Target::Local(local), e),
         None => {
             let operand = operand(code, scope, spot, e)?;
-            push(code, spot, Step::Ask(Ask::Write(scope.word(x), operand)))
+            push(
+                code,
+                spot,
+                CodeStep::Ask(Ask::Write(scope.word(x), operand)),
+            )
         }
     }
 }
@@ -163,7 +167,7 @@ fn value(
 fn set(
     code: &mut Vec<Instr>,
     scope: &Scope,
-    spot: Spot,
+    spot: InstrSpot,
     x: &Name,
     right: &Right,
 ) -> Result<Option<u32>, NoMemory>
@@ -196,7 +200,7 @@ pub fn assign(
     code: &mut Vec<Instr>,
     sites: &mut Vec<Site>,
     scope: &Scope,
-    spot: Spot,
+    spot: InstrSpot,
     x: &Name,
     right: &Right,
 ) -> Result<(), NoMemory>
@@ -205,9 +209,9 @@ pub fn assign(
     ensures code { OnOk result (code.new.items ≡ code.old.items ++ instrs spot.line spot.place (simple_steps scope.now.program scope.now.locals (tree.set x.now (right_of right.now)))) }
     ensures sites { OnOk result (sites.new.items ≡ sites.old.items ++ site spot.line (resume_of scope.now.program scope.now.locals (length code.old.items) (tree.set x.now (right_of right.now))) ∷ []) }
 {
-    push(code, spot, Step::Control(Control::Begin))?;
+    push(code, spot, CodeStep::Control(Control::Begin))?;
     let resume = set(code, scope, spot, x, right)?;
-    push(code, spot, Step::Control(Control::Done))?;
+    push(code, spot, CodeStep::Control(Control::Done))?;
     put_site(sites, spot.line, resume)?;
     Ok(())
 }
@@ -218,7 +222,7 @@ pub fn set_cell(
     code: &mut Vec<Instr>,
     sites: &mut Vec<Site>,
     scope: &Scope,
-    spot: Spot,
+    spot: InstrSpot,
     x: &Name,
     i: &Expr,
     e: &Expr,
@@ -233,7 +237,7 @@ pub fn set_cell(
     complete(
         code,
         spot,
-        Step::Ask(Ask::WriteCell(scope.array(x), index, value)),
+        CodeStep::Ask(Ask::WriteCell(scope.array(x), index, value)),
     )?;
     Ok(())
 }
@@ -244,7 +248,7 @@ pub fn call_alone(
     code: &mut Vec<Instr>,
     sites: &mut Vec<Site>,
     scope: &Scope,
-    spot: Spot,
+    spot: InstrSpot,
     f: &Name,
     es: &Exprs,
 ) -> Result<(), NoMemory>
@@ -253,9 +257,9 @@ pub fn call_alone(
     ensures code { OnOk result (code.new.items ≡ code.old.items ++ instrs spot.line spot.place (simple_steps scope.now.program scope.now.locals (Simple.call f.now (expressions_of es.now)))) }
     ensures sites { OnOk result (sites.new.items ≡ sites.old.items ++ site spot.line (resume_of scope.now.program scope.now.locals (length code.old.items) (Simple.call f.now (expressions_of es.now))) ∷ []) }
 {
-    push(code, spot, Step::Control(Control::Begin))?;
+    push(code, spot, CodeStep::Control(Control::Begin))?;
     let resume = call(code, scope, spot, f, es)?;
-    complete(code, spot, Step::Compute(Compute::Discard))?;
+    complete(code, spot, CodeStep::Compute(Compute::Discard))?;
     put_site(sites, spot.line, Some(resume))?;
     Ok(())
 }
@@ -266,7 +270,7 @@ pub fn give_back(
     code: &mut Vec<Instr>,
     sites: &mut Vec<Site>,
     scope: &Scope,
-    spot: Spot,
+    spot: InstrSpot,
     e: &Option<Expr>,
 ) -> Result<(), NoMemory>
     requires { knows_returned scope.now.program scope.now.locals (returned_of e.now) ≡ true }
@@ -279,13 +283,13 @@ pub fn give_back(
             push(
                 code,
                 spot,
-                Step::Control(Control::Return(Operand::Number(0))),
+                CodeStep::Control(Control::Return(Operand::Number(0))),
             )?;
             Ok(())
         }
         Some(e) => {
             let given = operand(code, scope, spot, e)?;
-            push(code, spot, Step::Control(Control::Return(given)))?;
+            push(code, spot, CodeStep::Control(Control::Return(given)))?;
             Ok(())
         }
     }
@@ -295,8 +299,8 @@ pub fn give_back(
 pub fn one_step(
     code: &mut Vec<Instr>,
     sites: &mut Vec<Site>,
-    spot: Spot,
-    step: Step,
+    spot: InstrSpot,
+    step: CodeStep,
 ) -> Result<(), NoMemory>
     ensures code { OnOk result (code.new.items ≡ code.old.items ++ instrs spot.line spot.place (s.Control Begin ∷ step ∷ s.Control Done ∷ [])) }
     ensures sites { OnOk result (sites.new.items ≡ sites.old.items ++ site spot.line None ∷ []) }
@@ -307,12 +311,12 @@ pub fn one_step(
 }
 
 /// A statement of no step.
-pub fn skip(code: &mut Vec<Instr>, sites: &mut Vec<Site>, spot: Spot) -> Result<(), NoMemory>
+pub fn skip(code: &mut Vec<Instr>, sites: &mut Vec<Site>, spot: InstrSpot) -> Result<(), NoMemory>
     ensures code { OnOk result (code.new.items ≡ code.old.items ++ instrs spot.line spot.place (s.Control Begin ∷ s.Control Done ∷ [])) }
     ensures sites { OnOk result (sites.new.items ≡ sites.old.items ++ site spot.line None ∷ []) }
 {
     begin(code, sites, spot)?;
-    push(code, spot, Step::Control(Control::Done))?;
+    push(code, spot, CodeStep::Control(Control::Done))?;
     Ok(())
 }
 
@@ -341,7 +345,7 @@ pub fn take(
     code: &mut Vec<Instr>,
     sites: &mut Vec<Site>,
     scope: &Scope,
-    spot: Spot,
+    spot: InstrSpot,
     taker: Taker,
     e: &Expr,
 ) -> Result<(), NoMemory>
@@ -351,6 +355,6 @@ pub fn take(
 {
     begin(code, sites, spot)?;
     let a = operand(code, scope, spot, e)?;
-    complete(code, spot, Step::Ask(ask_of(taker, a)))?;
+    complete(code, spot, CodeStep::Ask(ask_of(taker, a)))?;
     Ok(())
 }

@@ -1,6 +1,6 @@
 //! Flat code of two programs, made by hand.
 
-use crate::code::{Compute, Control, Entrance, Instr, Operand, Site, Step, Target};
+use crate::code::{CodeStep, Compute, Control, Entrance, Instr, Operand, Site, Target};
 use crate::flow::Flow;
 use crate::lower::lower;
 use loom_lang::limits::FILE_LIMIT;
@@ -79,19 +79,19 @@ fn shares_its_program(rt: HostRuntime) -> Result<(), Fail> {
 fn makes_code(rt: HostRuntime) -> Result<(), Fail> {
     let flow = flow_of(rt.alloc(), STEPS)?;
     assert_eq!(rt; flow.code().len(), 31);
-    let apply = Step::Compute(Compute::Apply(
+    let apply = CodeStep::Compute(Compute::Apply(
         Op::Add,
         Operand::Top,
         Operand::Number(1),
         Target::Push,
     ));
-    let jump = Step::Control(Control::JumpIfZero(Operand::Top, 25));
+    let jump = CodeStep::Control(Control::JumpIfZero(Operand::Top, 25));
     let steps = [
         (2, 3, 2, apply),
         (11, 7, 6, jump),
-        (13, 8, 8, Step::Control(Control::Call(0, 0))),
-        (24, 7, 7, Step::Control(Control::Edge(10))),
-        (30, 5, 12, Step::Control(Control::Out)),
+        (13, 8, 8, CodeStep::Control(Control::Call(0, 0))),
+        (24, 7, 7, CodeStep::Control(Control::Edge(10))),
+        (30, 5, 12, CodeStep::Control(Control::Out)),
     ];
     for (at, line, place, step) in steps {
         let wanted = Instr { line, place, step };

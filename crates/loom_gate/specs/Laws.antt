@@ -63,7 +63,7 @@ abbrev pub StaysOut : Type 0
 StaysOut = (n t place : ℕ) (m : GateMachine) (later : List GateMachine) → Lawful n m → IsThread n t → slice_index_or m.key.looks t Unknown ≡ SawPlace place → has_place m.key.up place ≡ true
     → AreSteps n m later → All (λ (a : GateMachine). has_place a.key.up place ≡ true) later → All (λ (a : GateMachine). IsAt place (a.passes t)) later
 
--- it stands at the place, or has tried from there and read no version
+-- it stands at the place, or its try there has not yet read a version
 abbrev pub IsBeforeEntering : ℕ → PassView → Type 0
 IsBeforeEntering place p = (p.stage ≡ Stands place) ⊎ ((p.stage ≡ Tries place) ⊎ (p.stage ≡ Clear place))
 

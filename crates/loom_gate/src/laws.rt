@@ -28,8 +28,8 @@ pub fn pass_out_until_lowered()
     ensures { StaysOut }
 {}
 
-/// A pass that entered with no version since a switch stands where it was found then, or has tried from
-/// there and read no version.
+/// A pass that entered with no version since a switch stands where it was found then, or its try there has not
+/// yet read a version.
 pub fn pass_waiting_since_a_switch()
     ensures { WaitsWhereFound }
 {}

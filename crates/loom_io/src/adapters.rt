@@ -21,7 +21,7 @@ pub struct DirShelf<'a, R> {
     pub faults: u64,
 }
 
-// All that the source gives, or its first `limit + 1` bytes where it gives more.
+// All that the source gives, or, where that is more than `limit` bytes, the front of them that is one longer.
 fn front_of<S: Read + Drop>(source: S, alloc: Global, limit: usize) -> io::Result<Name>
     requires { limit ≤ LARGEST_LIMIT }
     ensures short { IfOk result (λ bytes. length bytes ≤ limit + 1) }

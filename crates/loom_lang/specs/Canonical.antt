@@ -30,7 +30,7 @@ abbrev pub operand_text : Expression → List ℕ → List ℕ
 operand_text (bin o a b) text = codes "(" ++ text ++ codes ")"
 operand_text _ text = text
 
--- A unary operator stands directly before its operand, a binary one between spaces.
+-- Nothing is between a unary operator and its operand; around a binary one are spaces.
 abbrev pub expression_text : Expression → List ℕ
 expression_text (num n) = signed_decimal n
 expression_text (var x) = x

@@ -1,4 +1,4 @@
--- The rules on names, and the limits of a program.
+-- What a program must keep: its names, and the limits of its size.
 use Rattle.std.specs.Prelude.{ℕ, ◌+◌, ◌≤◌, ◌≡◌, ◌==◌, nat_lt, Bool, true, false, not, ◌&&◌, ◌||◌, List, [], ◌∷◌, ◌++◌, length, map, flat_map, Option, Some, None, is_none, is_some, codes}
 use Rattle.std.specs.Cmp.Lexicographic.{pointwise}
 use Rattle.std.specs.List.{AllByRecursion}
@@ -98,7 +98,7 @@ knows_body p locals (simple l s rest) = knows_simple p locals s && knows_body p 
 knows_body p locals (if_ l e a b rest) = knows p locals e && (knows_body p locals a && (knows_body p locals b && knows_body p locals rest))
 knows_body p locals (while_ l e a rest) = knows p locals e && (knows_body p locals a && knows_body p locals rest)
 
--- A call or a spawn of a function that is there has as many arguments as it has parameters.
+-- Where a call or a spawn names a function of the program, it brings one argument for each parameter.
 
 abbrev pub counts_call : Source → List ℕ → List Expression → Bool
 counts_call p f es = not (is_function p.funcs f) || takes p.funcs f (length es)

@@ -184,7 +184,7 @@ abbrev pub join_of : Thread → ℕ → ℤ → Lists → Lists
 join_of t line (pos c) more = either (trap_lists t line (not_spawned (pos c))) (emit (made line (join c)) more)
 join_of t line (negsuc c) more = trap_lists t line (not_spawned (negsuc c))
 
--- A statement that can trap by the store may give its entry or the trap.
+-- Where the store decides whether a statement traps, both its entry and the trap are allowed.
 abbrev pub effect : Thread → Calls → ℕ → Locals → Simple Expression → (ℤ → Lists) → (Locals → Lists) → Lists
 effect t calls line env (let_ x r) ret more = right t calls line env r (λ v. stored t line env (value_in env x) x v more)
 effect t calls line env (set x r) ret more = right t calls line env r (λ v. stored t line env (value_in env x) x v more)
@@ -234,7 +234,7 @@ bound [] vs = []
 bound (x ∷ xs) [] = (x, pos 0) ∷ bound xs []
 bound (x ∷ xs) (v ∷ vs) = (x, v) ∷ bound xs vs
 
--- A local is 0 until it is written.
+-- Locals begin with 0.
 abbrev pub frame_locals : Function → List ℤ → Locals
 frame_locals f vs = bound f.params vs ++ map (λ x. (x, pos 0)) (lets f.body)
 

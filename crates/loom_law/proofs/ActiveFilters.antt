@@ -12,7 +12,7 @@ use Rattle.loom_lang.specs.Trace.{Locals, begin, end, trap, read, write, lock, u
 use Rattle.loom_law.specs.Walk.{tick_after}
 use Rattle.loom_law.specs.Filter.{Site, statement, function, Ruling, Plan, matching, has, waits, posts, clauses}
 use Rattle.loom_law.specs.Control.{entries_of, listed_places, control}
-use Rattle.loom_law.specs.Walk.{Version, Plans, Operation, wait, enters, at, past, post, leave, back, tick, cross, blocked, PartStep, goes, makes, Inside, OpenFrame, Spot, elsewhere, beginning, entered, complete, left, trapped, Queue, Walk, unborn, holds, begins_in, owed_waits, owed_enters, owed_by, owed_at, is_inside_clause, all_inside, completed, in_frame, owed_posts, owed_leaves, events_of, owed_past, owed_behind, all_leaves, with_back, with_tick, begun_with, function_line, without_first, taking, behind_entry, after_item, filter_of, stays, still_owed, new_filters, owed_fresh, owed_behind_cross, crossing, after_operation, walk_from, Owes, AreWoven}
+use Rattle.loom_law.specs.Walk.{Version, Plans, Operation, wait, enters, at, past, post, leave, back, tick, cross, blocked, PartStep, goes, makes, Inside, OpenFrame, Spot, elsewhere, beginning, entered, complete, left, trapped, Queue, Walk, unborn, holds, begins_in, owed_waits, owed_enters, owed_by, owed_at, is_inside_clause, all_inside, completed, in_frame, owed_posts, owed_leaves, events_of_filter, owed_past, owed_behind, all_leaves, with_back, with_tick, begun_with, function_line, without_first, taking, behind_entry, after_item, operation_filter, stays, still_owed, new_filters, owed_fresh, owed_behind_cross, crossing, after_operation, walk_from, Owes, AreWoven}
 use Rattle.loom_law.specs.ThreadPart.{walk_of, IsPart}
 use Rattle.loom_law.specs.Lawful.{plans, own, Setting, is_installed}
 use Rattle.loom_law.specs.Laws.{HasOwedActive}
@@ -23,7 +23,7 @@ use Rattle.loom_law.proofs.Newest.{newest}
 -- each of these is of one of those filters, or of none
 abbrev AllIn : List ℕ → Queue → Type 0
 AllIn ks [] = Unit {0}
-AllIn ks (x ∷ os) = (stays ks (filter_of x.1) ≡ true) × AllIn ks os
+AllIn ks (x ∷ os) = (stays ks (operation_filter x.1) ≡ true) × AllIn ks os
 
 abbrev pub Among : List ℕ → List ℕ → Type 0
 Among js ks = (k : ℕ) → has js k ≡ true → has ks k ≡ true
@@ -83,7 +83,7 @@ behind_in : (ks : List ℕ) (plans : Plans) (hs : List (ℕ × ℕ)) (fs : List 
     → AllIn ks (owed_behind plans hs fs l xs js)
 behind_in ks plans hs fs l xs [] a = tt
 behind_in ks plans hs fs l xs (j ∷ js) a =
-    past_in ks (plans j) j hs fs l (events_of j xs) (owed_behind plans hs fs l xs js) (first_in j js ks a) (behind_in ks plans hs fs l xs js (others_in j js ks a))
+    past_in ks (plans j) j hs fs l (events_of_filter j xs) (owed_behind plans hs fs l xs js) (first_in j js ks a) (behind_in ks plans hs fs l xs js (others_in j js ks a))
 
 all_leaves_in : (ks : List ℕ) (plans : Plans) (hs : List (ℕ × ℕ)) (is : List Inside) (l : ℕ) (js : List ℕ) → Among js ks → AllIn ks (all_leaves plans hs is l js)
 all_leaves_in ks plans hs is l [] a = tt
@@ -101,8 +101,8 @@ both_in : (ks : List ℕ) (os more : Queue) → AllIn ks os → AllIn ks more �
 both_in ks [] more h g = g
 both_in ks (o ∷ os) more h g = (h.0, both_in ks os more h.1 g)
 
-one_kept : (ks : List ℕ) (l : ℕ) (o : Operation) (os : Queue) → AllIn ks os → AllIn ks (if stays ks (filter_of o) then (l, o) ∷ os else os)
-one_kept ks l o os h = pick (AllIn ks) (stays ks (filter_of o)) _ _ (λ b. (b, h)) (λ b. h)
+one_kept : (ks : List ℕ) (l : ℕ) (o : Operation) (os : Queue) → AllIn ks os → AllIn ks (if stays ks (operation_filter o) then (l, o) ∷ os else os)
+one_kept ks l o os h = pick (AllIn ks) (stays ks (operation_filter o)) _ _ (λ b. (b, h)) (λ b. h)
 
 kept_in : (ks : List ℕ) (os : Queue) → AllIn ks (still_owed ks os)
 kept_in ks [] = tt
@@ -192,12 +192,12 @@ walk_named p plans z [] ahead w h = h
 walk_named p plans z (goes i ∷ ss) ahead w h = walk_named p plans (after_item p plans z i) ss ahead w.1 (item_named p plans z i (owed_none p z i _ w.0))
 walk_named p plans z (makes l o ∷ ss) ahead w h = walk_named p plans (after_operation p plans z o) ss ahead w.1 (op_named p plans z o h)
 
-owes_in : (ks : List ℕ) (os : Queue) (l : ℕ) (o : Operation) (k : ℕ) → AllIn ks os → Owes os l o → filter_of o ≡ Some k → has ks k ≡ true
+owes_in : (ks : List ℕ) (os : Queue) (l : ℕ) (o : Operation) (k : ℕ) → AllIn ks os → Owes os l o → operation_filter o ≡ Some k → has ks k ≡ true
 owes_in ks [] l o k h is f = absurd is
 owes_in ks (x ∷ os) l o k h is f =
     let same : x.1 ≡ o = ap (λ (q : ℕ × Operation). q.1) is in
     let P : Option ℕ → Type 0 = λ q. stays ks q ≡ true in
-    subst P (ap filter_of same ∙ f) h.0
+    subst P (ap operation_filter same ∙ f) h.0
 
 pub owed_active : HasOwedActive
 owed_active p plans x h l o k owes f =
@@ -205,7 +205,7 @@ owed_active p plans x h l o k owes f =
 
 pub owed_installed : (s : Setting) (front rest : List Entry) → IsStrict s (front ++ rest) → (i : ℕ) → i < s.threads → (x : ThreadState)
     (h : IsPart s.program (plans s) (own s front (suc i) x)) (y : Entry) (ys : List Entry) → entries_of (suc i) front ≡ y ∷ ys → listed_places (suc i) front ≡ []
-    → (l : ℕ) (o : Operation) (k : ℕ) → Owes (walk_of s.program (plans s) (own s front (suc i) x) h.steps).owed l o → filter_of o ≡ Some k
+    → (l : ℕ) (o : Operation) (k : ℕ) → Owes (walk_of s.program (plans s) (own s front (suc i) x) h.steps).owed l o → operation_filter o ≡ Some k
     → is_installed (control s.commands front) k ≡ true
 owed_installed s front rest h i small x part y ys some none l o k owes f =
     let active : has (Walk.active (walk_of s.program (plans s) (own s front (suc i) x) part.steps)) k ≡ true =

@@ -13,7 +13,7 @@ use Rattle.loom_lang.specs.Acts.{Deed, AnswerTheSame}
 use Rattle.loom_lang.specs.Alike.{AreAlike}
 use Rattle.loom_lang.proofs.NextItem.{one_next_item}
 use Rattle.loom_event.specs.Answer.{trap_deed, IsAnswered}
-use Rattle.loom_event.specs.Event.{event_of_deed, entry_by, targets}
+use Rattle.loom_event.specs.TargetEvent.{event_of_deed, entry_by, targets}
 use Rattle.loom_event.specs.Entries.{thread_of, is_thread}
 use Rattle.loom_event.specs.Replay.{ThreadState, start, thread_at, replay, IsAllowed}
 use Rattle.loom_law.specs.Walk.{Version, Plans, wait, enters, at, past, post, leave, back, tick, cross, blocked, Queue, PartStep, goes, makes, items, filter_entries, Walk, unborn, behind_entry, crossing, walk_behind, walk_from, request_place, place_of_item, place_of_next, Acts, AsksFor, MayCross, MayBlock, MayStand, AreWoven}

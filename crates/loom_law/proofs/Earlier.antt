@@ -10,7 +10,7 @@ use Rattle.loom_lang.specs.Places.{Place}
 use Rattle.loom_lang.specs.Trace.{Act, begin, end, trap, read, write, lock, unlock, down, up, spawn, join, print, Item, made, begins, done, edge, enter, out, Outcome, Open, IsTrace}
 use Rattle.loom_lang.specs.Acts.{Deed, acts}
 use Rattle.loom_lang.proofs.Broken.{broken_trace, trace_begins}
-use Rattle.loom_event.specs.Event.{Event, entry_by, entry_of, is_target, targets, deeds}
+use Rattle.loom_event.specs.TargetEvent.{TargetEvent, entry_by, entry_of, is_target, targets, deeds}
 use Rattle.loom_event.specs.Entries.{thread_of, is_thread}
 use Rattle.loom_event.specs.Replay.{ThreadState, Store, start, thread_at, AwaitsBegin, IsRunning, IsAllowedAct, with_thread, after_act, replay, AreAllowed}
 use Rattle.loom_event.specs.Replay as law
@@ -72,7 +72,7 @@ taken_append cs t c (x ∷ es) fs =
     ap (λ zs. if takes_version t x then c.version ∷ zs else zs) (taken_append cs t (after_entry cs c x) es fs)
     ∙ sym (more_append (takes_version t x) c.version (versions_from cs t (after_entry cs c x) es) (versions_from cs t (control_after cs (after_entry cs c x) es) fs))
 
-pub deeds_append : (t : ℕ) (xs ys : List Event) → deeds t (xs ++ ys) ≡ deeds t xs ++ deeds t ys
+pub deeds_append : (t : ℕ) (xs ys : List TargetEvent) → deeds t (xs ++ ys) ≡ deeds t xs ++ deeds t ys
 deeds_append t [] ys = refl
 deeds_append t (x ∷ xs) ys =
     let d : Deed = record { line = x.line; act = x.act } in
@@ -130,11 +130,11 @@ act_keeps s u (spawn c f vs) (suc i) = of_append s.spawned _ i
 act_keeps s u (join c) (suc i) = of_same (slice_get s.spawned i)
 act_keeps s u (print v) (suc i) = of_same (slice_get s.spawned i)
 
-pub replay_keeps : (s : Store) (xs : List Event) (t : ℕ) → IsOf (thread_at s t) (thread_at (replay s xs) t)
+pub replay_keeps : (s : Store) (xs : List TargetEvent) (t : ℕ) → IsOf (thread_at s t) (thread_at (replay s xs) t)
 replay_keeps s [] t = of_same (thread_at s t)
 replay_keeps s (x ∷ xs) t = of_both _ _ _ (act_keeps s x.thread x.act t) (replay_keeps (law.after_event s x) xs t)
 
-pub replay_append : (s : Store) (xs ys : List Event) → replay s (xs ++ ys) ≡ replay (replay s xs) ys
+pub replay_append : (s : Store) (xs ys : List TargetEvent) → replay s (xs ++ ys) ≡ replay (replay s xs) ys
 replay_append s [] ys = refl
 replay_append s (x ∷ xs) ys = replay_append (law.after_event s x) xs ys
 
@@ -181,7 +181,7 @@ pub if_true : {A : Type 0} (b : Bool) (x y : A) → b ≡ true → (if b then x 
 if_true true x y h = refl
 if_true false x y h = cc
 
-pub nothing_done : (s : Store) (t : ℕ) (xs : List Event) → AreAllowed s xs → thread_at (replay s xs) t ≡ None → deeds t xs ≡ []
+pub nothing_done : (s : Store) (t : ℕ) (xs : List TargetEvent) → AreAllowed s xs → thread_at (replay s xs) t ≡ None → deeds t xs ≡ []
 nothing_done s t [] h none = refl
 nothing_done s t (x ∷ xs) h none =
     by_test (x.thread == t) (deeds t (x ∷ xs) ≡ [])
@@ -193,7 +193,7 @@ nothing_done s t (x ∷ xs) h none =
 
 -- Fronts of runs
 
-pub allowed_front : (s : Store) (xs ys : List Event) → AreAllowed s (xs ++ ys) → AreAllowed s xs
+pub allowed_front : (s : Store) (xs ys : List TargetEvent) → AreAllowed s (xs ++ ys) → AreAllowed s xs
 allowed_front s [] ys h = tt
 allowed_front s (x ∷ xs) ys h = (h.0, allowed_front (law.after_event s x) xs ys h.1)
 
@@ -227,7 +227,7 @@ traced_front p f vs ds fs h =
     record { items = c.before; outcome = Open; trace = broken_trace p f vs c.before c.behind h.outcome (subst (λ z. IsTrace p f vs z h.outcome) c.whole h.trace); same = c.same }
 
 -- of the thread as it was, from what it is in the end
-thread_front : (p : Source) (xs ys : List Event) (t : ℕ) (o o' : Option ThreadState) → IsOf o o' → (o ≡ None → deeds t xs ≡ []) → IsThreadTraced p (xs ++ ys) t o'
+thread_front : (p : Source) (xs ys : List TargetEvent) (t : ℕ) (o o' : Option ThreadState) → IsOf o o' → (o ≡ None → deeds t xs ≡ []) → IsThreadTraced p (xs ++ ys) t o'
     → IsThreadTraced p xs t o
 thread_front p xs ys t None o' is none h = none refl
 thread_front p xs ys t (Some x) None is none h = absurd is
@@ -236,10 +236,10 @@ thread_front p xs ys t (Some x) (Some y) is none h =
     let front : IsTraced p y.func y.args (deeds t xs) = traced_front p y.func y.args (deeds t xs) (deeds t ys) all in
     subst (λ f. IsTraced p f x.args (deeds t xs)) (sym is.0) (subst (λ vs. IsTraced p y.func vs (deeds t xs)) (sym is.1) front)
 
-pub stays : (p : Source) (most : ℕ) (xs ys : List Event) (t : ℕ) → IsOf (thread_at (replay (start p most) xs) t) (thread_at (replay (start p most) (xs ++ ys)) t)
+pub stays : (p : Source) (most : ℕ) (xs ys : List TargetEvent) (t : ℕ) → IsOf (thread_at (replay (start p most) xs) t) (thread_at (replay (start p most) (xs ++ ys)) t)
 stays p most xs ys t = subst (λ s. IsOf (thread_at (replay (start p most) xs) t) (thread_at s t)) (sym (replay_append (start p most) xs ys)) (replay_keeps (replay (start p most) xs) ys t)
 
-pub run_front : (p : Source) (most : ℕ) (xs ys : List Event) → AreRun p most (xs ++ ys) → AreRun p most xs
+pub run_front : (p : Source) (most : ℕ) (xs ys : List TargetEvent) → AreRun p most (xs ++ ys) → AreRun p most xs
 run_front p most xs ys h =
     let ok : AreAllowed (start p most) xs = allowed_front (start p most) xs ys h.allowed in
     record {
@@ -532,7 +532,7 @@ entry_thread t l (spawn c f vs) = refl
 entry_thread t l (join c) = refl
 entry_thread t l (print v) = refl
 
-pub idle_entries : (t : ℕ) (xs : List Event) → deeds t xs ≡ [] → entries_of t (map entry_of xs) ≡ []
+pub idle_entries : (t : ℕ) (xs : List TargetEvent) → deeds t xs ≡ [] → entries_of t (map entry_of xs) ≡ []
 idle_entries t [] h = refl
 idle_entries t (x ∷ xs) h =
     by_test (x.thread == t) (entries_of t (entry_of x ∷ map entry_of xs) ≡ [])
@@ -601,8 +601,8 @@ less_behind s f _ more rest h = h
 pub fronts : (s : Setting) (front rest : List Entry) → IsStrict s (front ++ rest) → IsStrict s front
 fronts s front rest h =
     let n : ℕ = length (targets front) in
-    let xs : List Event = take n h.events in
-    let ys : List Event = drop n h.events in
+    let xs : List TargetEvent = take n h.events in
+    let ys : List TargetEvent = drop n h.events in
     let whole : xs ++ ys ≡ h.events = take-append-drop n h.events in
     let tells : map entry_of xs ≡ targets front = map_front entry_of h.events (targets front) (targets rest) (h.tells ∙ targets_append front rest) in
     let run : AreRun s.program s.threads (xs ++ ys) = subst (AreRun s.program s.threads) (sym whole) h.run in

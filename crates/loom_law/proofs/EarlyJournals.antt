@@ -11,7 +11,7 @@ use Rattle.loom_lang.specs.Places.{nowhere}
 use Rattle.loom_lang.specs.Trace.{begin, end, read, write, lock, spawn, join, print, made, begins, done, enter, out, Finished, Open, IsTrace}
 use Rattle.loom_command.specs.Filter.{Clause}
 use Rattle.loom_command.specs.Script as script
-use Rattle.loom_event.specs.Event.{Event}
+use Rattle.loom_event.specs.TargetEvent.{TargetEvent}
 use Rattle.loom_event.specs.Replay.{ThreadState, start, thread_at, replay}
 use Rattle.loom_event.specs.Run.{AreRun}
 use Rattle.loom_event.proofs.Runs.{next, given, threads_traced, does}
@@ -56,7 +56,7 @@ order_journal =
     ∷ e.Blocked 1 9 (w.Join 2) ∷ e.At 2 3 1 (2 ∷ []) ∷ e.Read 2 3 0 (pos 5) ∷ e.Print 2 3 (pos 2) ∷ e.Past 2 3 1 (2 ∷ []) ∷ e.End 2 2 ∷ e.Join 1 9 2
     ∷ e.End 1 5 ∷ e.Finish k.Done ∷ []
 
-abbrev order_events : List Event
+abbrev order_events : List TargetEvent
 order_events =
     event 1 5 begin ∷ event 1 6 (spawn 2 0 []) ∷ event 2 2 begin ∷ event 1 7 (print (pos 1)) ∷ event 1 8 (write 0 (pos 5)) ∷ event 2 3 (read 0 (pos 5))
     ∷ event 2 3 (print (pos 2)) ∷ event 2 2 end ∷ event 1 9 (join 2) ∷ event 1 5 end ∷ []
@@ -206,7 +206,7 @@ abbrev pub nested_journal : List Entry
 nested_journal =
     e.Asked 1 ∷ e.Refused 1 7 1 ∷ e.Begin 1 6 ∷ e.Print 1 8 (pos 0) ∷ e.End 1 6 ∷ e.Finish k.Done ∷ []
 
-abbrev nested_events : List Event
+abbrev nested_events : List TargetEvent
 nested_events =
     event 1 6 begin ∷ event 1 8 (print (pos 0)) ∷ event 1 6 end ∷ []
 
@@ -274,7 +274,7 @@ abbrev pub unreached_journal : List Entry
 unreached_journal =
     e.Begin 1 5 ∷ e.Read 1 3 0 (pos 0) ∷ e.Unreached 1 ∷ e.Finish k.Limit ∷ []
 
-abbrev unreached_events : List Event
+abbrev unreached_events : List TargetEvent
 unreached_events =
     event 1 5 begin ∷ event 1 3 (read 0 (pos 0)) ∷ []
 
@@ -331,7 +331,7 @@ abbrev pub cut_journal : List Entry
 cut_journal =
     e.Begin 1 5 ∷ e.Read 1 3 0 (pos 0) ∷ e.Asked 1 ∷ e.Write 1 3 0 (pos 1) ∷ e.Cut 1 ∷ e.Finish k.Limit ∷ []
 
-abbrev cut_events : List Event
+abbrev cut_events : List TargetEvent
 cut_events =
     event 1 5 begin ∷ event 1 3 (read 0 (pos 0)) ∷ event 1 3 (write 0 (pos 1)) ∷ []
 
@@ -403,7 +403,7 @@ before_stall = e.Begin 1 2 ∷ e.Lock 1 3 0 ∷ e.Blocked 1 4 (w.Lock 0) ∷ []
 abbrev pub on_stall_journal : List Entry
 on_stall_journal = e.Begin 1 2 ∷ e.Lock 1 3 0 ∷ e.Blocked 1 4 (w.Lock 0) ∷ e.Asked 1 ∷ e.Refused 1 12 0 ∷ e.Finish k.Stuck ∷ []
 
-abbrev pub on_stall_events : List Event
+abbrev pub on_stall_events : List TargetEvent
 on_stall_events = event 1 2 begin ∷ event 1 3 (lock 0) ∷ []
 
 abbrev stalled_front : List Entry → Front

@@ -6,7 +6,7 @@ use Rattle.loom_tree.specs.Tree.{Source}
 use Rattle.loom_trace.specs.declared.entry.Entry.{Entry}
 use Rattle.loom_trace.specs.declared.entry.Entry.TheVariants as e
 use Rattle.loom_lang.specs.Trace.{end, made, begins, done, edge, enter, out, IsTrace}
-use Rattle.loom_event.specs.Event.{Event, entry_by, entry_of, is_target, targets}
+use Rattle.loom_event.specs.TargetEvent.{TargetEvent, entry_by, entry_of, is_target, targets}
 use Rattle.loom_event.specs.Entries.{thread_of, is_thread}
 use Rattle.loom_event.specs.Replay.{ThreadState, start, thread_at, replay}
 use Rattle.loom_event.specs.Run.{AreRun}
@@ -151,7 +151,7 @@ map_empty : {A B : Type 0} (f : A → B) (xs : List A) → map f xs ≡ [] → x
 map_empty f [] h = refl
 map_empty f (x ∷ xs) h = cc
 
-stood : (s : Setting) (es : List Entry) (h : IsStrict s es) (x : Entry) (rest : List Entry) (xs : List Event) → (is_target x ≡ false → h.events ≡ xs)
+stood : (s : Setting) (es : List Entry) (h : IsStrict s es) (x : Entry) (rest : List Entry) (xs : List TargetEvent) → (is_target x ≡ false → h.events ≡ xs)
     → ((t : ℕ) → HasPart s (es ++ x ∷ []) t (thread_at (replay (start s.program s.threads) xs) t)) → (o : Option ℕ) → thread_of x ≡ o
     → MayFollowBy s (front_of s es h.events) x rest o → Stands s (front_of s es h.events) x []
 stood s es h x rest xs same parts None of n =
@@ -167,14 +167,14 @@ grown s es n before x rest is h ev =
     let front : List Entry = before ++ x ∷ [] in
     let k : ℕ = length (targets front) in
     let m : ℕ = length (targets before) in
-    let xs : List Event = take k n.events in
-    let more : List Event = drop k n.events in
+    let xs : List TargetEvent = take k n.events in
+    let more : List TargetEvent = drop k n.events in
     let whole : xs ++ more ≡ n.events = take-append-drop k n.events in
     let there : es ≡ front ++ rest = is ∙ sym (append_assoc before (x ∷ []) rest) in
     let tells : map entry_of xs ≡ targets front = map_front entry_of n.events (targets front) (targets rest) (n.tells ∙ (ap targets there ∙ targets_append front rest)) in
     let longer_by : targets front ≡ targets before ++ targets (x ∷ []) = targets_append before (x ∷ []) in
     let few : m ≤ k = subst (λ zs. m ≤ length zs) (sym longer_by) (length_append (targets before) (targets (x ∷ []))) in
-    let ys : List Event = drop m xs in
+    let ys : List TargetEvent = drop m xs in
     let split : xs ≡ h.events ++ ys = sym (take-append-drop m xs) ∙ ap (λ zs. zs ++ ys) (take_again m k n.events few ∙ sym ev) in
     let last : map entry_of ys ≡ targets (x ∷ []) = map_behind entry_of xs (targets before) (targets (x ∷ [])) (tells ∙ longer_by) in
     let run : AreRun p s.threads (xs ++ more) = subst (AreRun p s.threads) (sym whole) n.run in

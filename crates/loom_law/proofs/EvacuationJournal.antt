@@ -13,7 +13,7 @@ use Rattle.loom_lang.specs.Numbers.{function_number}
 use Rattle.loom_lang.specs.Trace.{begin, end, read, write, print, made, begins, done, edge, enter, out, Finished, Open, IsTrace}
 use Rattle.loom_command.specs.Filter.{LineEvent, Region, Clause, Filter}
 use Rattle.loom_command.specs.Script as script
-use Rattle.loom_event.specs.Event.{Event}
+use Rattle.loom_event.specs.TargetEvent.{TargetEvent}
 use Rattle.loom_event.specs.Replay.{ThreadState, start, thread_at, replay}
 use Rattle.loom_event.specs.Run.{AreRun}
 use Rattle.loom_event.proofs.Runs.{next, given, threads_traced, does}
@@ -322,7 +322,7 @@ evacuation_journal =
     ∷ e.At 1 9 1 (2 ∷ []) ∷ e.Read 1 9 0 (pos 7) ∷ e.Write 1 9 0 (pos 14) ∷ e.Past 1 9 1 (2 ∷ []) ∷ e.Leave 1 9 1 1 ∷ e.Read 1 12 0 (pos 14)
     ∷ e.Print 1 12 (pos 14) ∷ e.End 1 5 ∷ e.Finish k.Done ∷ []
 
-abbrev evacuation_events : List Event
+abbrev evacuation_events : List TargetEvent
 evacuation_events =
     event 1 5 begin ∷ event 1 3 (read 0 (pos 0)) ∷ event 1 3 (write 0 (pos 1)) ∷ event 1 9 (read 0 (pos 1)) ∷ event 1 9 (write 0 (pos 2))
     ∷ event 1 3 (read 0 (pos 2)) ∷ event 1 3 (write 0 (pos 3)) ∷ event 1 9 (read 0 (pos 3)) ∷ event 1 9 (write 0 (pos 6))

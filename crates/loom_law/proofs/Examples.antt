@@ -16,7 +16,7 @@ use Rattle.loom_command.specs.Script as script
 use Rattle.loom_law.specs.Control.{means, install, Command}
 use Rattle.loom_law.specs.ThreadPart.{Own, IsPart}
 use Rattle.loom_lang.specs.Places.{nowhere}
-use Rattle.loom_event.specs.Event.{Event}
+use Rattle.loom_event.specs.TargetEvent.{TargetEvent}
 use Rattle.loom_event.specs.Replay.{start, thread_at, replay}
 use Rattle.loom_event.specs.Run.{AreRun}
 use Rattle.loom_event.proofs.Examples.{event}
@@ -205,7 +205,7 @@ main_part = record {
 
 -- The journal
 
-abbrev pub events : List Event
+abbrev pub events : List TargetEvent
 events =
     event 1 5 begin ∷ event 1 6 (spawn 2 0 []) ∷ event 2 2 begin ∷ event 1 7 (read 0 (pos 0)) ∷ event 1 7 (write 0 (pos 1))
     ∷ event 2 3 (read 0 (pos 1)) ∷ event 2 3 (write 0 (pos 2)) ∷ event 2 2 end ∷ event 1 8 (join 2) ∷ event 1 9 (read 0 (pos 2))
@@ -342,7 +342,7 @@ bare_journal =
 pub bare_is_unlawful : IsLawful setting bare_journal → ⊥
 bare_is_unlawful h =
     let same : h.events ≡ events = events_told h.events events (ap (map event_of) h.tells) in
-    let P : List Event → Type 0 = λ xs. HasPart setting bare_journal 1 (thread_at (replay (start adds 8) xs) 1) in
+    let P : List TargetEvent → Type 0 = λ xs. HasPart setting bare_journal 1 (thread_at (replay (start adds 8) xs) 1) in
     bare_is_no_part (subst P same (h.parts 1))
 
 -- No thread makes `Blocked` twice behind each other, and nothing of an order begins before what it follows

@@ -2,7 +2,7 @@
 use Rattle.std.proofs.Common.{ℕ, ◌≤◌, ◌<◌, ◌≡◌, Bool, true, false, ◌&&◌, nat_lt, List, [], ◌∷◌, ◌++◌, Option, Some, None, refl, sym, ap, subst, arith}
 use Rattle.std.proofs.lemmas.Bool.{and_parts, ltb-true, ne_eqb}
 use Rattle.loom_trace.specs.declared.entry.Entry.{Entry}
-use Rattle.loom_event.specs.Event.{Event}
+use Rattle.loom_event.specs.TargetEvent.{TargetEvent}
 use Rattle.loom_event.specs.Entries.{thread_of, is_thread}
 use Rattle.loom_law.specs.Control.{entries_of}
 use Rattle.loom_law.specs.Lawful.{Setting, front_at, MayFollow}
@@ -46,7 +46,7 @@ pub each_one : (Q : List Entry → Entry → List Entry → Type 0) (es : List E
     → es ≡ front ++ x ∷ rest → Q front x rest
 each_one Q es h front x rest is = one_of_each Q [] es front x rest h is
 
-abbrev pub FollowsBehind : Setting → List Event → List Entry → Entry → List Entry → Type 0
+abbrev pub FollowsBehind : Setting → List TargetEvent → List Entry → Entry → List Entry → Type 0
 FollowsBehind s xs front x rest = MayFollow s (front_at s xs front) x rest
 
 -- these entries are of threads below this one, or of none

@@ -4,7 +4,7 @@ use Rattle.std.specs.List.{filter, list_any}
 use Rattle.std.proofs.lemmas.Bool.{and_parts}
 use Rattle.loom_lang.specs.Trace.{Locals}
 use Rattle.loom_law.specs.Filter.{Site, Range, Ruling, Plan, matching, share, entry_events, ranges_of, clauses, waits, posts}
-use Rattle.loom_law.specs.Walk.{Plans, Operation, enters, at, past, leave, back, Inside, OpenFrame, Queue, holds, begins_in, owed_waits, owed_enters, owed_by, owed_at, is_inside_clause, all_inside, is_left_with, completed, in_frame, owed_posts, owed_leaves, events_of, owed_past, owed_behind, all_leaves, with_back, entered_ranges, entered_regions, without_clause, without_first, Owes}
+use Rattle.loom_law.specs.Walk.{Plans, Operation, enters, at, past, leave, back, Inside, OpenFrame, Queue, holds, begins_in, owed_waits, owed_enters, owed_by, owed_at, is_inside_clause, all_inside, is_left_with, completed, in_frame, owed_posts, owed_leaves, events_of_filter, owed_past, owed_behind, all_leaves, with_back, entered_ranges, entered_regions, without_clause, without_first, Owes}
 
 -- Bool
 
@@ -412,4 +412,4 @@ pub behind_safe : (plans : Plans) (hs0 hs : List (ℕ × ℕ)) (iss : List (List
     → AllHeld hs iss [] → UnderEach iss fs → Safe plans hs iss [] (owed_behind plans hs0 fs l xs ks)
 behind_safe plans hs0 hs iss fs l xs [] h u = h
 behind_safe plans hs0 hs iss fs l xs (k ∷ ks) h u =
-    past_safe plans hs0 hs iss fs k l (events_of k xs) (owed_behind plans hs0 fs l xs ks) (λ hs' iss' all under. behind_safe plans hs0 hs' iss' fs l xs ks all under) h u
+    past_safe plans hs0 hs iss fs k l (events_of_filter k xs) (owed_behind plans hs0 fs l xs ks) (λ hs' iss' all under. behind_safe plans hs0 hs' iss' fs l xs ks all under) h u

@@ -9,7 +9,7 @@ use Rattle.loom_trace.specs.declared.entry.Entry.TheVariants as e
 use Rattle.loom_lang.specs.Places.{Place}
 use Rattle.loom_lang.specs.Places as place
 use Rattle.loom_lang.specs.Trace.{Act, begin, end, trap, read, write, lock, unlock, down, up, spawn, join, print, Item, made, begins, done, edge, enter, out}
-use Rattle.loom_event.specs.Event.{entry_by}
+use Rattle.loom_event.specs.TargetEvent.{entry_by}
 use Rattle.loom_law.specs.Walk.{tick_after}
 use Rattle.loom_law.specs.Filter.{statement, function, clauses}
 use Rattle.loom_law.specs.Walk.{Version, Plans, Operation, wait, enters, at, past, post, leave, back, tick, cross, blocked, PartStep, goes, makes, filter_entries, entry_of_operation, Inside, OpenFrame, Spot, elsewhere, beginning, entered, complete, left, trapped, Queue, Walk, unborn, holds, all_inside, is_left_with, completed, in_frame, open_statement, close_statement, without_first, inside_first, function_line, with_tick, taking, behind_entry, after_item, noted_at, begun_at, entered_regions, without_clause, left_behind, after_operation, walk_from, all_leaves, with_back, without_filters, frames_without, spot_without, new_filters, owed_fresh, owed_behind_cross, crossing, begun_with, MayStand, AreWoven}

@@ -10,7 +10,7 @@ use Rattle.loom_lang.specs.Places.{nowhere}
 use Rattle.loom_lang.specs.Trace.{division, begin, end, trap, read, write, spawn, join, print, made, begins, done, enter, out, Finished, IsTrace}
 use Rattle.loom_command.specs.Filter.{LineEvent, Region, Clause, Filter}
 use Rattle.loom_command.specs.Script as script
-use Rattle.loom_event.specs.Event.{Event}
+use Rattle.loom_event.specs.TargetEvent.{TargetEvent}
 use Rattle.loom_event.specs.Replay.{ThreadState, start, thread_at, replay}
 use Rattle.loom_event.specs.Run.{AreRun}
 use Rattle.loom_event.proofs.Runs.{next, given, threads_traced, does}
@@ -44,7 +44,7 @@ alone_journal =
     ∷ e.Enter 2 3 1 1 ∷ e.At 2 3 1 (1 ∷ 2 ∷ []) ∷ e.Read 2 3 0 (pos 0) ∷ e.Write 2 3 0 (pos 1) ∷ e.Past 2 3 1 (1 ∷ 2 ∷ []) ∷ e.Leave 2 3 1 1
     ∷ e.Write 1 7 0 (pos 1) ∷ e.End 2 2 ∷ e.Join 1 8 2 ∷ e.Read 1 9 0 (pos 1) ∷ e.Print 1 9 (pos 1) ∷ e.End 1 5 ∷ e.Finish k.Done ∷ []
 
-abbrev alone_events : List Event
+abbrev alone_events : List TargetEvent
 alone_events =
     event 1 5 begin ∷ event 1 6 (spawn 2 0 []) ∷ event 2 2 begin ∷ event 1 7 (read 0 (pos 0)) ∷ event 2 3 (read 0 (pos 0)) ∷ event 2 3 (write 0 (pos 1))
     ∷ event 1 7 (write 0 (pos 1)) ∷ event 2 2 end ∷ event 1 8 (join 2) ∷ event 1 9 (read 0 (pos 1)) ∷ event 1 9 (print (pos 1)) ∷ event 1 5 end ∷ []
@@ -178,7 +178,7 @@ back_journal =
     e.Asked 1 ∷ e.Installed 1 1 (0 ∷ 0 ∷ 0 ∷ 0 ∷ 0 ∷ 0 ∷ 0 ∷ 0 ∷ []) ∷ e.Begin 1 6 ∷ e.Enter 1 2 1 1 ∷ e.At 1 2 1 (1 ∷ []) ∷ e.Write 1 3 0 (pos 1)
     ∷ e.Read 1 4 0 (pos 1) ∷ e.Back 1 2 ∷ e.Leave 1 2 1 1 ∷ e.Print 1 8 (pos 1) ∷ e.End 1 6 ∷ e.Finish k.Done ∷ []
 
-abbrev back_events : List Event
+abbrev back_events : List TargetEvent
 back_events =
     event 1 6 begin ∷ event 1 3 (write 0 (pos 1)) ∷ event 1 4 (read 0 (pos 1)) ∷ event 1 8 (print (pos 1)) ∷ event 1 6 end ∷ []
 
@@ -302,7 +302,7 @@ caught_journal =
     e.Asked 1 ∷ e.Installed 1 1 (0 ∷ 0 ∷ 0 ∷ 0 ∷ 0 ∷ 0 ∷ 0 ∷ 0 ∷ []) ∷ e.Begin 1 2 ∷ e.Enter 1 3 1 1 ∷ e.At 1 3 1 (1 ∷ []) ∷ e.Write 1 3 0 (pos 1)
     ∷ e.Past 1 3 1 (1 ∷ []) ∷ e.Trap 1 4 1 ∷ e.Leave 1 4 1 1 ∷ e.End 1 2 ∷ e.Finish k.Done ∷ []
 
-abbrev caught_events : List Event
+abbrev caught_events : List TargetEvent
 caught_events = event 1 2 begin ∷ event 1 3 (write 0 (pos 1)) ∷ event 1 4 (trap division) ∷ event 1 2 end ∷ []
 
 caught_ended : (t : ℕ) (x : ThreadState) → thread_at (replay (start caught_program 8) caught_events) t ≡ Some x → x.ended ≡ true

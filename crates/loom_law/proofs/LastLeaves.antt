@@ -8,7 +8,7 @@ use Rattle.loom_lang.specs.Places as place
 use Rattle.loom_lang.specs.Trace.{Locals, begin, end, trap, read, write, lock, unlock, down, up, spawn, join, print, Item, made, begins, done, edge, enter, out, Outcome, IsTrace}
 use Rattle.loom_law.specs.Walk.{tick_after}
 use Rattle.loom_law.specs.Filter.{Site, statement, function, Ruling, Plan, matching, has, waits, posts, clauses}
-use Rattle.loom_law.specs.Walk.{Version, Plans, Operation, wait, enters, at, past, post, leave, back, tick, cross, blocked, PartStep, goes, makes, items, Inside, OpenFrame, Spot, elsewhere, beginning, entered, complete, left, trapped, Queue, Walk, unborn, holds, begins_in, owed_waits, owed_enters, owed_by, owed_at, is_inside_clause, all_inside, completed, in_frame, owed_posts, owed_leaves, events_of, owed_past, owed_behind, all_leaves, with_back, with_tick, begun_with, function_line, without_first, without_clause, taking, behind_entry, after_item, filter_of, stays, still_owed, new_filters, owed_fresh, owed_behind_cross, crossing, frames_without, open_statement, close_statement, owed_out, begun_at, made_one, spot_without, left_behind, after_operation, walk_behind, walk_from, Owes, MayStand, AreWoven}
+use Rattle.loom_law.specs.Walk.{Version, Plans, Operation, wait, enters, at, past, post, leave, back, tick, cross, blocked, PartStep, goes, makes, items, Inside, OpenFrame, Spot, elsewhere, beginning, entered, complete, left, trapped, Queue, Walk, unborn, holds, begins_in, owed_waits, owed_enters, owed_by, owed_at, is_inside_clause, all_inside, completed, in_frame, owed_posts, owed_leaves, events_of_filter, owed_past, owed_behind, all_leaves, with_back, with_tick, begun_with, function_line, without_first, without_clause, taking, behind_entry, after_item, operation_filter, stays, still_owed, new_filters, owed_fresh, owed_behind_cross, crossing, frames_without, open_statement, close_statement, owed_out, begun_at, made_one, spot_without, left_behind, after_operation, walk_behind, walk_from, Owes, MayStand, AreWoven}
 use Rattle.loom_law.proofs.Holdings.{or_left, or_right, pick, same_number}
 use Rattle.loom_law.proofs.ActiveFilters.{Among, first_in, others_in, fresh_among, itself}
 use Rattle.loom_law.proofs.Ends.{IsOpened, one_less, EndsWell, trace_ends}
@@ -86,7 +86,7 @@ past_well plans ks f k hs fs l (n ∷ ns) more h =
 behind_well : (plans : Plans) (ks : List ℕ) (hs : List (ℕ × ℕ)) (fs : List OpenFrame) (l : ℕ) (xs : List (ℕ × List ℕ)) (js : List ℕ) → AllWell plans ks (owed_behind plans hs fs l xs js)
 behind_well plans ks hs fs l xs [] = tt
 behind_well plans ks hs fs l xs (j ∷ js) =
-    past_well plans ks (plans j) j hs fs l (events_of j xs) (owed_behind plans hs fs l xs js) (behind_well plans ks hs fs l xs js)
+    past_well plans ks (plans j) j hs fs l (events_of_filter j xs) (owed_behind plans hs fs l xs js) (behind_well plans ks hs fs l xs js)
 
 all_leaves_well : (plans : Plans) (ks : List ℕ) (hs : List (ℕ × ℕ)) (is : List Inside) (l : ℕ) (js : List ℕ) → AllWell plans ks (all_leaves plans hs is l js)
 all_leaves_well plans ks hs is l [] = tt
@@ -103,9 +103,9 @@ both_well : (plans : Plans) (ks : List ℕ) (os more : Queue) → AllWell plans 
 both_well plans ks [] more h g = g
 both_well plans ks (o ∷ os) more h g = (h.0, both_well plans ks os more h.1 g)
 
-one_kept : (plans : Plans) (ks : List ℕ) (l : ℕ) (o : Operation) (os : Queue) → (stays ks (filter_of o) ≡ true → OpWell plans ks o) → AllWell plans ks os
-    → AllWell plans ks (if stays ks (filter_of o) then (l, o) ∷ os else os)
-one_kept plans ks l o os w h = pick (AllWell plans ks) (stays ks (filter_of o)) _ _ (λ b. (w b, h)) (λ b. h)
+one_kept : (plans : Plans) (ks : List ℕ) (l : ℕ) (o : Operation) (os : Queue) → (stays ks (operation_filter o) ≡ true → OpWell plans ks o) → AllWell plans ks os
+    → AllWell plans ks (if stays ks (operation_filter o) then (l, o) ∷ os else os)
+one_kept plans ks l o os w h = pick (AllWell plans ks) (stays ks (operation_filter o)) _ _ (λ b. (w b, h)) (λ b. h)
 
 kept_well : (plans : Plans) (old ks : List ℕ) (os : Queue) → AllWell plans old os → AllWell plans ks (still_owed ks os)
 kept_well plans old ks [] h = tt
@@ -306,9 +306,9 @@ back_has : (k c l : ℕ) (os : Queue) → has_leave k c os ≡ true → has_leav
 back_has k c l [] h = h
 back_has k c l (o ∷ os) h = h
 
-one_has : (ks : List ℕ) (k c l : ℕ) (o : Operation) (os : Queue) → is_leave k c o ≡ false → has_leave k c os ≡ true → has_leave k c (if stays ks (filter_of o) then (l, o) ∷ os else os) ≡ true
+one_has : (ks : List ℕ) (k c l : ℕ) (o : Operation) (os : Queue) → is_leave k c o ≡ false → has_leave k c os ≡ true → has_leave k c (if stays ks (operation_filter o) then (l, o) ∷ os else os) ≡ true
 one_has ks k c l o os f h =
-    pick (λ us. has_leave k c us ≡ true) (stays ks (filter_of o)) ((l, o) ∷ os) os (λ b. or_right (is_leave k c o) (has_leave k c os) h) (λ b. h)
+    pick (λ us. has_leave k c us ≡ true) (stays ks (operation_filter o)) ((l, o) ∷ os) os (λ b. or_right (is_leave k c o) (has_leave k c os) h) (λ b. h)
 
 kept_leave : (ks : List ℕ) (k c : ℕ) (os : Queue) → has ks k ≡ true → has_leave k c os ≡ true → has_leave k c (still_owed ks os) ≡ true
 kept_leave ks k c [] i h = cc
@@ -329,8 +329,8 @@ kept_leave ks k c ((l, tick x) ∷ os) i h = kept_leave ks k c os i h
 kept_leave ks k c ((l, cross x v n) ∷ os) i h = kept_leave ks k c os i h
 kept_leave ks k c ((l, blocked what) ∷ os) i h = kept_leave ks k c os i h
 
-one_none : (ks : List ℕ) (l : ℕ) (o : Operation) (os : Queue) → IsNoEnter o → NoEnters os → NoEnters (if stays ks (filter_of o) then (l, o) ∷ os else os)
-one_none ks l o os n h = pick NoEnters (stays ks (filter_of o)) ((l, o) ∷ os) os (λ b. (n, h)) (λ b. h)
+one_none : (ks : List ℕ) (l : ℕ) (o : Operation) (os : Queue) → IsNoEnter o → NoEnters os → NoEnters (if stays ks (operation_filter o) then (l, o) ∷ os else os)
+one_none ks l o os n h = pick NoEnters (stays ks (operation_filter o)) ((l, o) ∷ os) os (λ b. (n, h)) (λ b. h)
 
 kept_none : (ks : List ℕ) (os : Queue) → NoEnters os → NoEnters (still_owed ks os)
 kept_none ks [] h = tt

@@ -2,7 +2,7 @@
 use Rattle.std.proofs.Common.{◌≡◌, List, [], ◌∷◌, ◌++◌, sym, ap, subst, ◌∙◌}
 use Rattle.loom_trace.specs.declared.entry.Entry.{Entry}
 use Rattle.loom_lang.specs.Trace.{made}
-use Rattle.loom_event.specs.Event.{Event, entry_of}
+use Rattle.loom_event.specs.TargetEvent.{TargetEvent, entry_of}
 use Rattle.loom_event.specs.Replay.{start, replay, IsAllowed}
 use Rattle.loom_law.specs.Walk.{goes, makes, entry_of_operation}
 use Rattle.loom_law.specs.Lawful.{Setting, front_of, front_at, MayFollow, IsObeyed, IsLawful}
@@ -58,7 +58,7 @@ beginning s =
     (n.0, n.1 ∙ b.1)
 
 -- a longer journal of which more is known is lawful
-longer : (s : Setting) (es : List Entry) (xs ys : List Event) → xs ≡ ys → (h : IsStrict s es) × (h.events ≡ xs) → (h' : IsLawful s es) × (h'.events ≡ ys)
+longer : (s : Setting) (es : List Entry) (xs ys : List TargetEvent) → xs ≡ ys → (h : IsStrict s es) × (h.events ≡ xs) → (h' : IsLawful s es) × (h'.events ≡ ys)
 longer s es xs ys same h = let n = lawful s es h.0 in (n.0, n.1 ∙ (h.1 ∙ same))
 
 pub event_turns : HasEventTurns

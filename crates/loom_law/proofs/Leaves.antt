@@ -14,7 +14,7 @@ use Rattle.loom_lang.specs.Places as place
 use Rattle.loom_lang.specs.Trace.{Locals, begin, end, trap, read, write, lock, unlock, down, up, spawn, join, print, Item, made, begins, done, edge, enter, out}
 use Rattle.loom_law.specs.Walk.{tick_after}
 use Rattle.loom_law.specs.Filter.{Site, statement, function, Ruling, Plan, matching, has, waits, posts, numbered_from, clauses}
-use Rattle.loom_law.specs.Walk.{Version, Plans, Operation, wait, enters, at, past, post, leave, back, tick, cross, blocked, PartStep, goes, makes, Inside, OpenFrame, Spot, elsewhere, beginning, entered, complete, left, trapped, Queue, Walk, unborn, holds, begins_in, owed_waits, owed_enters, owed_by, owed_at, is_inside_clause, all_inside, completed, in_frame, owed_posts, owed_leaves, events_of, owed_past, owed_behind, all_leaves, with_back, with_tick, begun_with, function_line, without_first, taking, behind_entry, after_item, without_clause, still_owed, new_filters, owed_fresh, owed_behind_cross, crossing, after_operation, walk_from, Owes, MayStand, AreWoven}
+use Rattle.loom_law.specs.Walk.{Version, Plans, Operation, wait, enters, at, past, post, leave, back, tick, cross, blocked, PartStep, goes, makes, Inside, OpenFrame, Spot, elsewhere, beginning, entered, complete, left, trapped, Queue, Walk, unborn, holds, begins_in, owed_waits, owed_enters, owed_by, owed_at, is_inside_clause, all_inside, completed, in_frame, owed_posts, owed_leaves, events_of_filter, owed_past, owed_behind, all_leaves, with_back, with_tick, begun_with, function_line, without_first, taking, behind_entry, after_item, without_clause, still_owed, new_filters, owed_fresh, owed_behind_cross, crossing, after_operation, walk_from, Owes, MayStand, AreWoven}
 use Rattle.loom_law.specs.ThreadPart.{walk_of, IsPart}
 use Rattle.loom_law.specs.Control.{Command, have_one_name, Control, first_control, control, after_entry, takes_version, versions_from, versions_of, entries_of, listed_places}
 use Rattle.loom_law.specs.Lawful.{plans, own, is_installed, Setting, is_held_by}
@@ -175,7 +175,7 @@ behind_left : (plans : Plans) (gs hs : List (ℕ × ℕ)) (fs : List OpenFrame) 
     → AllLeft hs (owed_behind plans gs fs l xs ks)
 behind_left plans gs hs fs l xs [] o h = tt
 behind_left plans gs hs fs l xs (k ∷ ks) o h =
-    past_left (plans k) k gs hs fs l (events_of k xs) (owed_behind plans gs fs l xs ks) (holding_first gs hs k ks h)
+    past_left (plans k) k gs hs fs l (events_of_filter k xs) (owed_behind plans gs fs l xs ks) (holding_first gs hs k ks h)
     (λ js others. behind_left plans gs js fs l xs ks o.1 (holding_others gs hs js k ks o.0 h others))
 
 -- Where a version is taken

@@ -5,7 +5,7 @@ use Rattle.loom_trace.specs.declared.entry.Entry.{Entry}
 use Rattle.loom_trace.specs.declared.entry.Entry.TheVariants as e
 use Rattle.loom_trace.specs.declared.entry.Ending.{Ending}
 use Rattle.loom_lang.specs.Trace.{Open, thread, IsTrace}
-use Rattle.loom_event.specs.Event.{Event, entry_of, is_target, targets}
+use Rattle.loom_event.specs.TargetEvent.{TargetEvent, entry_of, is_target, targets}
 use Rattle.loom_event.specs.Entries.{thread_of, is_thread}
 use Rattle.loom_event.specs.Replay.{ThreadState, start, thread_at, replay}
 use Rattle.loom_event.specs.Run.{IsThreadTraced, AreRun}
@@ -77,7 +77,7 @@ pub more_behind : (s : Setting) (f : Front) (x : Entry) (rest more : List Entry)
 more_behind s f (e.Finish k) rest more none h = absurd (none k refl h.0)
 more_behind s f _ rest more none h = h
 
-pub longer : (s : Setting) (es : List Entry) (h : IsStrict s es) (x : Entry) (xs ys : List Event) → xs ≡ h.events ++ ys → IsUnfinished es → map entry_of ys ≡ targets (x ∷ [])
+pub longer : (s : Setting) (es : List Entry) (h : IsStrict s es) (x : Entry) (xs ys : List TargetEvent) → xs ≡ h.events ++ ys → IsUnfinished es → map entry_of ys ≡ targets (x ∷ [])
     → AreRun s.program s.threads xs → ((u : ℕ) → HasPart s (es ++ x ∷ []) u (thread_at (replay (start s.program s.threads) xs) u)) → Stands s (front_of s es h.events) x []
     → (h' : IsStrict s (es ++ x ∷ [])) × (h'.events ≡ xs)
 longer s es h x xs ys is open_ tells run parts last = (

@@ -8,7 +8,7 @@ use Rattle.loom_trace.specs.declared.entry.What.{What}
 use Rattle.loom_trace.specs.declared.request.Request.{Request}
 use Rattle.loom_lang.specs.Acts.{Deed}
 use Rattle.loom_event.specs.Answer.{IsAnswered}
-use Rattle.loom_event.specs.Event.{Event, event_of_deed, entry_by}
+use Rattle.loom_event.specs.TargetEvent.{TargetEvent, event_of_deed, entry_by}
 use Rattle.loom_event.specs.Entries.{thread_of, is_stopped, is_at_limit}
 use Rattle.loom_event.specs.Replay.{AllEnded}
 use Rattle.loom_event.specs.Replay.{ThreadState, start, thread_at, replay, IsAllowed}
@@ -136,11 +136,11 @@ pub nothing_asked : (s : Setting) (es : List Entry) → IsLawful s es → s.comm
 nothing_asked s es h none = ap (λ (c : Control). c.asked) (nothing_controlled s es h none)
 
 -- Nobody is held off.
-pub nobody_held_off : (s : Setting) (es : List Entry) → IsLawful s es → s.commands ≡ [] → (xs : List Event) (t : ℕ) → IsHeldOff s (front_of s es xs) t → ⊥
+pub nobody_held_off : (s : Setting) (es : List Entry) → IsLawful s es → s.commands ≡ [] → (xs : List TargetEvent) (t : ℕ) → IsHeldOff s (front_of s es xs) t → ⊥
 nobody_held_off s es h none xs t g = none_held (front_of s es xs) g.filter g.clause g.held.by (nothing_controlled s es h none) g.held.holds
 
 -- A journal that isn't over is open.
-pub is_open : (s : Setting) (es : List Entry) → IsLawful s es → s.commands ≡ [] → (xs : List Event) → run_is_over s (front_of s es xs) ≡ false → IsOpen s (front_of s es xs)
+pub is_open : (s : Setting) (es : List Entry) → IsLawful s es → s.commands ≡ [] → (xs : List TargetEvent) → run_is_over s (front_of s es xs) ≡ false → IsOpen s (front_of s es xs)
 is_open s es h none xs runs = record {
   runs = runs;
   not_closing = ap (λ (c : Control). c.closing) (nothing_controlled s es h none);

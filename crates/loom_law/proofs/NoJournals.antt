@@ -8,7 +8,7 @@ use Rattle.loom_trace.specs.declared.entry.Ending.TheVariants as k
 use Rattle.loom_lang.specs.Places.{Place, nowhere}
 use Rattle.loom_lang.specs.Trace.{begin, spawn, print}
 use Rattle.loom_command.specs.Script as script
-use Rattle.loom_event.specs.Event.{Event}
+use Rattle.loom_event.specs.TargetEvent.{TargetEvent}
 use Rattle.loom_event.proofs.Runs.{event_of, events_told}
 use Rattle.loom_event.proofs.Examples.{event, adds, changed_is_no_run}
 use Rattle.loom_law.specs.Filter.{plan_of}
@@ -215,11 +215,11 @@ none_there h = cc
 
 pub removed_elsewhere_unlawful : IsLawful removal_setting removed_elsewhere → ⊥
 removed_elsewhere_unlawful h =
-    let xs : List Event = (event 1 9 begin ∷ event 1 10 (spawn 2 0 []) ∷ event 2 2 begin ∷ event 1 11 (spawn 3 0 []) ∷ event 3 2 begin ∷ event 1 12 (print (pos 1)) ∷ []) in
+    let xs : List TargetEvent = (event 1 9 begin ∷ event 1 10 (spawn 2 0 []) ∷ event 2 2 begin ∷ event 1 11 (spawn 3 0 []) ∷ event 3 2 begin ∷ event 1 12 (print (pos 1)) ∷ []) in
     let same : h.events ≡ xs = events_told h.events xs (ap (map event_of) h.tells) in
     let bad = h.follows removal_front (e.Removed 2 2 (4 ∷ 2 ∷ 2 ∷ 1 ∷ 0 ∷ 0 ∷ 0 ∷ 0 ∷ [])) [] refl in
     let x : Place = bad.1.lists.place 4 in
-    let P : List Event → Type 0 = λ ys. StandsAt removal_setting (front_at removal_setting ys removal_front) 4 x in
+    let P : List TargetEvent → Type 0 = λ ys. StandsAt removal_setting (front_at removal_setting ys removal_front) 4 x in
     let stands : x ≡ nowhere = subst P same (bad.1.lists.stands 4) in
     let listed_places : 1 ≡ place_number removal_program x = ap fourth bad.1.lists.are in
     none_there (listed_places ∙ ap (place_number removal_program) stands)
@@ -286,7 +286,7 @@ done_early = e.Begin 1 5 ∷ e.Finish k.Done ∷ []
 pub done_early_unlawful : IsLawful lost_setting done_early → ⊥
 done_early_unlawful h =
     let same : h.events ≡ event 1 5 begin ∷ [] = events_told h.events (event 1 5 begin ∷ []) (ap (map event_of) h.tells) in
-    let P : List Event → Type 0 = λ xs. Ends lost_setting (front_at lost_setting xs (e.Begin 1 5 ∷ [])) k.Done in
+    let P : List TargetEvent → Type 0 = λ xs. Ends lost_setting (front_at lost_setting xs (e.Begin 1 5 ∷ [])) k.Done in
     let bad = h.follows (e.Begin 1 5 ∷ []) (e.Finish k.Done) [] refl in
     let ends : Ends lost_setting (front_at lost_setting (event 1 5 begin ∷ []) (e.Begin 1 5 ∷ [])) k.Done = subst P same bad.1.1.1 in
     let no : false ≡ true = ends.1.0 1 _ refl in
@@ -320,7 +320,7 @@ goes_on (inr h) = let no : false ≡ true = h.held.holds in cc
 pub stuck_early_unlawful : IsLawful lost_setting stuck_early → ⊥
 stuck_early_unlawful h =
     let same : h.events ≡ event 1 5 begin ∷ [] = events_told h.events (event 1 5 begin ∷ []) (ap (map event_of) h.tells) in
-    let P : List Event → Type 0 = λ xs. Ends lost_setting (front_at lost_setting xs (e.Begin 1 5 ∷ [])) k.Stuck in
+    let P : List TargetEvent → Type 0 = λ xs. Ends lost_setting (front_at lost_setting xs (e.Begin 1 5 ∷ [])) k.Stuck in
     let bad = h.follows (e.Begin 1 5 ∷ []) (e.Finish k.Stuck) [] refl in
     let ends : Ends lost_setting lost_front k.Stuck = subst P same bad.1.1.1 in
     goes_on (ends.1.0.stuck 1 (record { state = _; is = refl; not_ended = refl }))
@@ -339,7 +339,7 @@ pub stuck_when_due_unlawful : IsLawful on_stall_setting stuck_when_due → ⊥
 stuck_when_due_unlawful h =
     let same : h.events ≡ on_stall_events = events_told h.events on_stall_events (ap (map event_of) h.tells) in
     let bad = h.follows before_stall (e.Unreached 1) (e.Finish k.Stuck ∷ []) refl in
-    let P : List Event → Type 0 = λ xs. EndsSo on_stall_setting (front_at on_stall_setting xs before_stall) in
+    let P : List TargetEvent → Type 0 = λ xs. EndsSo on_stall_setting (front_at on_stall_setting xs before_stall) in
     let ends : EndsSo on_stall_setting (front_at on_stall_setting on_stall_events before_stall) = subst P same bad.1.1.1 in
     no_end ends.0 ends.1
 

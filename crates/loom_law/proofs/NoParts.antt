@@ -13,7 +13,7 @@ use Rattle.loom_lang.specs.Places as place
 use Rattle.loom_lang.specs.Trace.{begin, read, write, up, down, spawn, print, Item, made, begins, done, enter, Open}
 use Rattle.loom_command.specs.Filter.{Region, Clause}
 use Rattle.loom_command.specs.Script as script
-use Rattle.loom_event.specs.Event.{Event}
+use Rattle.loom_event.specs.TargetEvent.{TargetEvent}
 use Rattle.loom_event.specs.Replay.{start, thread_at, replay}
 use Rattle.loom_event.proofs.Runs.{next, given, event_of, events_told}
 use Rattle.loom_event.proofs.Examples.{event, adds}
@@ -62,7 +62,7 @@ leave_first =
 pub leave_first_unlawful : IsLawful setting leave_first → ⊥
 leave_first_unlawful h =
     let same : h.events ≡ events = events_told h.events events (ap (map event_of) h.tells) in
-    let P : List Event → Type 0 = λ xs. HasPart setting leave_first 1 (thread_at (replay (start adds 8) xs) 1) in
+    let P : List TargetEvent → Type 0 = λ xs. HasPart setting leave_first 1 (thread_at (replay (start adds 8) xs) 1) in
     let part : HasPart setting leave_first 1 (thread_at (replay (start adds 8) events) 1) = subst P same (h.parts 1) in
     let asks : AsksToMake adds (plans setting) at_update 7 (leave 1 1) =
     part_front adds (plans setting) 1 1 [] (version ∷ []) [] (updated ++ e.Leave 1 7 1 1 ∷ [])
@@ -229,10 +229,10 @@ passing_moved = record {
 
 pub passing_unlawful : IsLawful fifth_setting passing → ⊥
 passing_unlawful h =
-    let xs : List Event = (event 1 9 begin ∷ event 1 10 (spawn 2 0 []) ∷ event 2 2 begin ∷ event 1 11 (spawn 3 0 []) ∷ event 1 12 (print (pos 1)) ∷ event 1 6 (up 0) ∷ []) in
+    let xs : List TargetEvent = (event 1 9 begin ∷ event 1 10 (spawn 2 0 []) ∷ event 2 2 begin ∷ event 1 11 (spawn 3 0 []) ∷ event 1 12 (print (pos 1)) ∷ event 1 6 (up 0) ∷ []) in
     let same : h.events ≡ xs = events_told h.events xs (ap (map event_of) h.tells) in
     let bad = h.follows passing_front (e.Up 1 6 0) [] refl in
-    let P : List Event → Type 0 = λ ys. Parks fifth_setting passing 2 1 (thread_at (Front.store (front_at fifth_setting ys passing_front)) 1) in
+    let P : List TargetEvent → Type 0 = λ ys. Parks fifth_setting passing 2 1 (thread_at (Front.store (front_at fifth_setting ys passing_front)) 1) in
     let kept : StaysAway fifth_setting passing_own 2 = subst P same (bad.0.parked.0 refl) in
     let steps : kept.steps ≡ passing_steps = one_move removal_program (plans fifth_setting) passing_own kept.steps passing_steps kept.moved passing_moved in
     let away = subst (λ ss. KeepsAway (IsFlagged fifth_setting 2) (walk_of removal_program (plans fifth_setting) passing_own ss)) steps kept.away in
@@ -250,10 +250,10 @@ going = going_front ++ e.Down 2 3 0 ∷ []
 
 pub going_unlawful : IsLawful removal_setting going → ⊥
 going_unlawful h =
-    let xs : List Event = (event 1 9 begin ∷ event 1 10 (spawn 2 0 []) ∷ event 2 2 begin ∷ event 1 11 (spawn 3 0 []) ∷ event 3 2 begin ∷ event 1 12 (print (pos 1)) ∷ event 1 6 (up 0) ∷ event 2 3 (down 0) ∷ []) in
+    let xs : List TargetEvent = (event 1 9 begin ∷ event 1 10 (spawn 2 0 []) ∷ event 2 2 begin ∷ event 1 11 (spawn 3 0 []) ∷ event 3 2 begin ∷ event 1 12 (print (pos 1)) ∷ event 1 6 (up 0) ∷ event 2 3 (down 0) ∷ []) in
     let same : h.events ≡ xs = events_told h.events xs (ap (map event_of) h.tells) in
     let bad = h.follows going_front (e.Down 2 3 0) [] refl in
-    let P : List Event → Type 0 = λ ys. Parks removal_setting going 2 2 (thread_at (Front.store (front_at removal_setting ys going_front)) 2) in
+    let P : List TargetEvent → Type 0 = λ ys. Parks removal_setting going 2 2 (thread_at (Front.store (front_at removal_setting ys going_front)) 2) in
     let kept = subst P same (bad.0.parked.0 refl) in
     blocked_stays removal_setting _ 2 (e.Begin 2 2 ∷ e.Enter 2 3 1 1 ∷ e.At 2 3 1 (1 ∷ 2 ∷ []) ∷ e.Blocked 2 3 (w.Down 0) ∷ []) (e.Down 2 3 0) refl refl (λ y. tt) kept
 
@@ -329,13 +329,13 @@ third_of _ = 0
 pub removed_misplaced_unlawful : IsLawful removal_setting removed_misplaced → ⊥
 removed_misplaced_unlawful h =
     let p : Source = removal_program in
-    let xs : List Event = (event 1 9 begin ∷ event 1 10 (spawn 2 0 []) ∷ event 2 2 begin ∷ event 1 11 (spawn 3 0 []) ∷ event 3 2 begin ∷ event 1 12 (print (pos 1)) ∷ []) in
+    let xs : List TargetEvent = (event 1 9 begin ∷ event 1 10 (spawn 2 0 []) ∷ event 2 2 begin ∷ event 1 11 (spawn 3 0 []) ∷ event 3 2 begin ∷ event 1 12 (print (pos 1)) ∷ []) in
     let same : h.events ≡ xs = events_told h.events xs (ap (map event_of) h.tells) in
     let bad = h.follows removal_front (e.Removed 2 2 (4 ∷ 2 ∷ 1 ∷ 0 ∷ 0 ∷ 0 ∷ 0 ∷ 0 ∷ [])) [] refl in
     let x : Place = bad.1.lists.place 3 in
     let number : place_number p x ≡ 1 = sym (ap third_of bad.1.lists.are) in
     let passed : place.entry 0 ≡ x = at_number x (places p) 1 (place.entry 0) number refl in
-    let P : List Event → Type 0 = λ ys. StandsAt removal_setting (front_at removal_setting ys removal_front) 3 x in
+    let P : List TargetEvent → Type 0 = λ ys. StandsAt removal_setting (front_at removal_setting ys removal_front) 3 x in
     let stands : ComesTo p (plans removal_setting) blocked_own x = subst P same (bad.1.lists.stands 3) in
     let at : place.inside 3 ≡ x =
     stands_owing p (plans removal_setting) blocked_own blocked_point stands.point before_block (makes 3 (blocked (w.Enter 1 1))) (e.Blocked 3 3 (w.Enter 1 1)) refl refl
@@ -377,14 +377,14 @@ same_plan c f is installs =
 
 pub inside_unlawful : IsLawful third_setting inside → ⊥
 inside_unlawful h =
-    let xs : List Event = (event 1 5 begin ∷ event 1 6 (spawn 2 0 []) ∷ event 1 7 (read 0 (pos 0)) ∷ []) in
+    let xs : List TargetEvent = (event 1 5 begin ∷ event 1 6 (spawn 2 0 []) ∷ event 1 7 (read 0 (pos 0)) ∷ []) in
     let same : h.events ≡ xs = events_told h.events xs (ap (map event_of) h.tells) in
     let bad = h.follows (e.Begin 1 5 ∷ e.Spawn 1 6 2 0 [] ∷ e.Read 1 7 0 (pos 0) ∷ e.Asked 1 ∷ []) (e.Installed 1 1 (6 ∷ 0 ∷ 0 ∷ 0 ∷ 0 ∷ 0 ∷ 0 ∷ 0 ∷ [])) [] refl in
     let m : MayInstall third_setting (front_at third_setting h.events (e.Begin 1 5 ∷ e.Spawn 1 6 2 0 [] ∷ e.Read 1 7 0 (pos 0) ∷ e.Asked 1 ∷ [])) 1 1 (6 ∷ 0 ∷ 0 ∷ 0 ∷ 0 ∷ 0 ∷ 0 ∷ 0 ∷ []) = bad.1 in
     let number : place_number adds (m.lists.place 1) ≡ 6 = sym (ap first_of m.lists.are) in
     let place_is : place.inside 7 ≡ m.lists.place 1 = at_number (m.lists.place 1) (places adds) 6 (place.inside 7) number refl in
     let plan_is : plan_of adds fix ≡ m.plan = same_plan m.command m.plan m.is m.installs in
-    let P : List Event → Type 0 = λ ys.
+    let P : List TargetEvent → Type 0 = λ ys.
     IsOutside third_setting (e.Begin 1 5 ∷ e.Spawn 1 6 2 0 [] ∷ e.Read 1 7 0 (pos 0) ∷ e.Asked 1 ∷ []) 1 (running_thread (thread_at (Front.store (front_at third_setting ys (e.Begin 1 5 ∷ e.Spawn 1 6 2 0 [] ∷ e.Read 1 7 0 (pos 0) ∷ e.Asked 1 ∷ []))) 1)) m.plan (m.lists.place 1) in
     let sees : SeesNothing third_setting inside_own m.plan (m.lists.place 1) = subst P same (m.outside 1) in
     let one : SeesNothing third_setting inside_own (plan_of adds fix) (m.lists.place 1) = subst (λ f. SeesNothing third_setting inside_own f (m.lists.place 1)) (sym plan_is) sees in

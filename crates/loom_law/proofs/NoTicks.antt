@@ -9,7 +9,7 @@ use Rattle.loom_trace.specs.declared.request.Request.TheVariants as r
 use Rattle.loom_lang.specs.Places.{Place, places, line_of_place}
 use Rattle.loom_lang.specs.Places as place
 use Rattle.loom_lang.specs.Trace.{Locals, Lists, Open, turns, IsTrace, begin, end, trap, read, write, lock, unlock, down, up, spawn, join, print, Item, made, begins, done, edge, enter, out}
-use Rattle.loom_event.specs.Event.{Event}
+use Rattle.loom_event.specs.TargetEvent.{TargetEvent}
 use Rattle.loom_event.specs.Replay.{start, thread_at, replay}
 use Rattle.loom_event.proofs.Runs.{next, given, event_of, events_told}
 use Rattle.loom_event.proofs.Examples.{event}
@@ -177,9 +177,9 @@ missing_own = an_own 1 0 [] (first_version ∷ record { number = 1; active = 1 �
 
 pub tick_missing_unlawful : IsLawful loop_setting tick_missing → ⊥
 tick_missing_unlawful h =
-    let xs : List Event = (event 1 1 begin ∷ []) in
+    let xs : List TargetEvent = (event 1 1 begin ∷ []) in
     let same : h.events ≡ xs = events_told h.events xs (ap (map event_of) h.tells) in
-    let P : List Event → Type 0 = λ ys. HasPart loop_setting tick_missing 1 (thread_at (replay (start endless 8) ys) 1) in
+    let P : List TargetEvent → Type 0 = λ ys. HasPart loop_setting tick_missing 1 (thread_at (replay (start endless 8) ys) 1) in
     let part : IsPart endless (plans loop_setting) missing_own = subst P same (h.parts 1) in
     let few : 1000 < tick_after = crosses_in_time endless (plans loop_setting) missing_own (e.Begin 1 1 ∷ []) 2 3 1 1000 2 refl refl part in
     let no : ⊥ = omega arith in
@@ -331,9 +331,9 @@ tick_forgotten = e.Begin 1 1 ∷ e.Tick 1 7 7 ∷ []
 
 pub tick_forgotten_unlawful : IsLawful calling_setting tick_forgotten → ⊥
 tick_forgotten_unlawful h =
-    let xs : List Event = (event 1 1 begin ∷ []) in
+    let xs : List TargetEvent = (event 1 1 begin ∷ []) in
     let same : h.events ≡ xs = events_told h.events xs (ap (map event_of) h.tells) in
-    let P : List Event → Type 0 = λ ys. HasPart calling_setting tick_forgotten 1 (thread_at (replay (start calling 8) ys) 1) in
+    let P : List TargetEvent → Type 0 = λ ys. HasPart calling_setting tick_forgotten 1 (thread_at (replay (start calling 8) ys) 1) in
     let part : AsksToMake calling no_plans calling_own 7 (tick 7) = subst P same (h.parts 1) in
     let one = one_operation calling no_plans calling_own 2 7 (tick 3) (tick 7) refl refl asks_tick part in
     let no : 2 ≡ 7 = one.0 in
@@ -369,8 +369,8 @@ asks_read = record {
 
 pub tick_early_unlawful : IsLawful bare_setting tick_early → ⊥
 tick_early_unlawful h =
-    let xs : List Event = (event 1 5 begin ∷ event 1 3 (read 0 (pos 0)) ∷ event 1 3 (write 0 (pos 1)) ∷ event 1 9 (read 0 (pos 1)) ∷ event 1 9 (write 0 (pos 2)) ∷ []) in
+    let xs : List TargetEvent = (event 1 5 begin ∷ event 1 3 (read 0 (pos 0)) ∷ event 1 3 (write 0 (pos 1)) ∷ event 1 9 (read 0 (pos 1)) ∷ event 1 9 (write 0 (pos 2)) ∷ []) in
     let same : h.events ≡ xs = events_told h.events xs (ap (map event_of) h.tells) in
-    let P : List Event → Type 0 = λ ys. HasPart bare_setting tick_early 1 (thread_at (replay (start evacuated 8) ys) 1) in
+    let P : List TargetEvent → Type 0 = λ ys. HasPart bare_setting tick_early 1 (thread_at (replay (start evacuated 8) ys) 1) in
     let asks_tick : AsksToMake evacuated (plans bare_setting) early_own 7 (tick 7) = subst P same (h.parts 1) in
     no_split evacuated (plans bare_setting) early_own (r.Read 3 0) (record { line = 3; act = read 0 (pos 2) }) 7 (tick 7) asks_read (inl (pos 2, refl)) refl asks_tick

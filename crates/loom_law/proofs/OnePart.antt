@@ -10,7 +10,7 @@ use Rattle.loom_lang.specs.Trace.{Cause, division, index, not_held, not_spawned,
 use Rattle.loom_lang.specs.Acts.{AnswerTheSame}
 use Rattle.loom_lang.specs.Alike.{AreAlike}
 use Rattle.loom_lang.proofs.NextItem.{Agree, traces_agree}
-use Rattle.loom_event.specs.Event.{entry_by}
+use Rattle.loom_event.specs.TargetEvent.{entry_by}
 use Rattle.loom_law.specs.Walk.{Plans, Operation, wait, enters, at, past, post, leave, back, tick, cross, blocked, PartStep, goes, makes, items, told_item, filter_entries, entry_of_operation, Queue, Walk, unborn, walk_behind, place_of_item, place_of_next, Owes, Acts, AsksFor, MayCross, MayBlock, MayStand, AreWoven}
 use Rattle.loom_law.specs.ThreadPart.{Own}
 use Rattle.loom_law.specs.Laws.{EndsWithEntry, HasOnePart, HasOneMove, HasOneMade}

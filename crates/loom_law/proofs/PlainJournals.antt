@@ -9,7 +9,7 @@ use Rattle.loom_trace.specs.declared.entry.Entry.TheVariants as e
 use Rattle.loom_trace.specs.declared.entry.What.TheVariants as w
 use Rattle.loom_trace.specs.declared.entry.Ending.TheVariants as k
 use Rattle.loom_lang.specs.Trace.{division, begin, end, trap, read, write, lock, spawn, join, print, made, begins, done, enter, out, Finished, Open, IsTrace}
-use Rattle.loom_event.specs.Event.{Event}
+use Rattle.loom_event.specs.TargetEvent.{TargetEvent}
 use Rattle.loom_event.specs.Replay.{ThreadState, start, thread_at, replay}
 use Rattle.loom_event.specs.Run.{AreRun}
 use Rattle.loom_event.proofs.Runs.{next, given, threads_traced, does}
@@ -31,7 +31,7 @@ lost_journal =
     e.Begin 1 5 ∷ e.Spawn 1 6 2 0 [] ∷ e.Begin 2 2 ∷ e.Read 1 7 0 (pos 0) ∷ e.Read 2 3 0 (pos 0) ∷ e.Write 1 7 0 (pos 1) ∷ e.Write 2 3 0 (pos 1)
     ∷ e.Blocked 1 8 (w.Join 2) ∷ e.End 2 2 ∷ e.Join 1 8 2 ∷ e.Read 1 9 0 (pos 1) ∷ e.Print 1 9 (pos 1) ∷ e.End 1 5 ∷ e.Finish k.Done ∷ []
 
-abbrev lost_events : List Event
+abbrev lost_events : List TargetEvent
 lost_events =
     event 1 5 begin ∷ event 1 6 (spawn 2 0 []) ∷ event 2 2 begin ∷ event 1 7 (read 0 (pos 0)) ∷ event 2 3 (read 0 (pos 0)) ∷ event 1 7 (write 0 (pos 1))
     ∷ event 2 3 (write 0 (pos 1)) ∷ event 2 2 end ∷ event 1 8 (join 2) ∷ event 1 9 (read 0 (pos 1)) ∷ event 1 9 (print (pos 1)) ∷ event 1 5 end ∷ []
@@ -131,7 +131,7 @@ stop_journal =
     e.Begin 1 5 ∷ e.Spawn 1 6 2 0 [] ∷ e.Begin 2 2 ∷ e.Read 1 7 0 (pos 0) ∷ e.Read 2 3 0 (pos 0) ∷ e.Write 1 7 0 (pos 1) ∷ e.Write 2 3 0 (pos 1)
     ∷ e.Blocked 1 8 (w.Join 2) ∷ e.End 2 2 ∷ e.Join 1 8 2 ∷ e.Read 1 9 0 (pos 1) ∷ e.Print 1 9 (pos 1) ∷ e.Finish k.Stopped ∷ []
 
-abbrev stop_events : List Event
+abbrev stop_events : List TargetEvent
 stop_events =
     event 1 5 begin ∷ event 1 6 (spawn 2 0 []) ∷ event 2 2 begin ∷ event 1 7 (read 0 (pos 0)) ∷ event 2 3 (read 0 (pos 0)) ∷ event 1 7 (write 0 (pos 1))
     ∷ event 2 3 (write 0 (pos 1)) ∷ event 2 2 end ∷ event 1 8 (join 2) ∷ event 1 9 (read 0 (pos 1)) ∷ event 1 9 (print (pos 1)) ∷ []
@@ -203,7 +203,7 @@ abbrev pub limit_journal : List Entry
 limit_journal =
     e.Begin 1 5 ∷ e.Spawn 1 6 2 0 [] ∷ e.Begin 2 2 ∷ e.Finish k.Limit ∷ []
 
-abbrev limit_events : List Event
+abbrev limit_events : List TargetEvent
 limit_events =
     event 1 5 begin ∷ event 1 6 (spawn 2 0 []) ∷ event 2 2 begin ∷ []
 
@@ -279,7 +279,7 @@ abbrev pub stuck_journal : List Entry
 stuck_journal =
     e.Begin 1 2 ∷ e.Lock 1 3 0 ∷ e.Blocked 1 4 (w.Lock 0) ∷ e.Finish k.Stuck ∷ []
 
-abbrev stuck_events : List Event
+abbrev stuck_events : List TargetEvent
 stuck_events =
     event 1 2 begin ∷ event 1 3 (lock 0) ∷ []
 
@@ -363,7 +363,7 @@ abbrev pub trap_journal : List Entry
 trap_journal =
     e.Begin 1 2 ∷ e.Read 1 3 0 (pos 0) ∷ e.Trap 1 3 1 ∷ e.End 1 2 ∷ e.Finish k.Done ∷ []
 
-abbrev trap_events : List Event
+abbrev trap_events : List TargetEvent
 trap_events =
     event 1 2 begin ∷ event 1 3 (read 0 (pos 0)) ∷ event 1 3 (trap division) ∷ event 1 2 end ∷ []
 

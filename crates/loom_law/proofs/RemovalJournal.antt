@@ -12,7 +12,7 @@ use Rattle.loom_lang.specs.Places as place
 use Rattle.loom_lang.specs.Trace.{begin, end, down, up, spawn, join, print, made, begins, done, enter, out, Finished, IsTrace}
 use Rattle.loom_command.specs.Filter.{Region, Clause}
 use Rattle.loom_command.specs.Script as script
-use Rattle.loom_event.specs.Event.{Event}
+use Rattle.loom_event.specs.TargetEvent.{TargetEvent}
 use Rattle.loom_event.specs.Replay.{ThreadState, start, thread_at, replay}
 use Rattle.loom_event.specs.Run.{AreRun}
 use Rattle.loom_event.proofs.Runs.{next, given, threads_traced, does}
@@ -67,7 +67,7 @@ removal_journal =
     ∷ e.Removed 2 2 (4 ∷ 2 ∷ 2 ∷ 0 ∷ 0 ∷ 0 ∷ 0 ∷ 0 ∷ []) ∷ e.Cross 1 5 4 2 0 ∷ e.Cross 2 3 2 2 0 ∷ e.Cross 3 3 2 2 0 ∷ e.Up 1 6 0 ∷ e.Down 2 3 0
     ∷ e.Blocked 3 3 (w.Down 0) ∷ e.Up 1 7 0 ∷ e.End 2 2 ∷ e.Down 3 3 0 ∷ e.Join 1 14 2 ∷ e.End 3 2 ∷ e.Join 1 15 3 ∷ e.End 1 9 ∷ e.Finish k.Done ∷ []
 
-abbrev removal_events : List Event
+abbrev removal_events : List TargetEvent
 removal_events =
     event 1 9 begin ∷ event 1 10 (spawn 2 0 []) ∷ event 2 2 begin ∷ event 1 11 (spawn 3 0 []) ∷ event 3 2 begin ∷ event 1 12 (print (pos 1))
     ∷ event 1 6 (up 0) ∷ event 2 3 (down 0) ∷ event 1 7 (up 0) ∷ event 2 2 end ∷ event 3 3 (down 0) ∷ event 1 14 (join 2) ∷ event 3 2 end

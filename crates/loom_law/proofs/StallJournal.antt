@@ -13,7 +13,7 @@ use Rattle.loom_lang.specs.Places as place
 use Rattle.loom_lang.specs.Trace.{begin, end, write, lock, unlock, spawn, join, print, made, begins, done, edge, enter, out, Finished, IsTrace}
 use Rattle.loom_command.specs.Filter.{LineEvent, Region, Clause, Filter}
 use Rattle.loom_command.specs.Script as script
-use Rattle.loom_event.specs.Event.{Event}
+use Rattle.loom_event.specs.TargetEvent.{TargetEvent}
 use Rattle.loom_event.specs.Replay.{ThreadState, start, thread_at, replay}
 use Rattle.loom_event.specs.Run.{AreRun}
 use Rattle.loom_event.proofs.Runs.{next, given, threads_traced, does}
@@ -274,7 +274,7 @@ stall_journal =
     ∷ e.Print 1 13 (pos 1) ∷ e.Unlock 1 16 0 ∷ e.Lock 2 4 0 ∷ e.Blocked 1 17 (w.Join 2) ∷ e.Write 2 5 0 (pos 1) ∷ e.Unlock 2 6 0 ∷ e.End 2 3
     ∷ e.Join 1 17 2 ∷ e.End 1 8 ∷ e.Finish k.Done ∷ []
 
-abbrev stall_events : List Event
+abbrev stall_events : List TargetEvent
 stall_events =
     event 1 8 begin ∷ event 1 9 (lock 0) ∷ event 1 10 (spawn 2 0 []) ∷ event 2 3 begin ∷ event 1 13 (print (pos 0)) ∷ event 1 13 (print (pos 1))
     ∷ event 1 16 (unlock 0) ∷ event 2 4 (lock 0) ∷ event 2 5 (write 0 (pos 1)) ∷ event 2 6 (unlock 0) ∷ event 2 3 end ∷ event 1 17 (join 2)

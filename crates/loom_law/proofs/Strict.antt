@@ -3,7 +3,7 @@ use Rattle.std.proofs.Common.{ℕ, ◌≡◌, ◌==◌, true, false, List, ◌�
 use Rattle.std.specs.List.{AllByRecursion, list_any}
 use Rattle.loom_trace.specs.declared.entry.Entry.{Entry}
 use Rattle.loom_trace.specs.declared.entry.Entry.TheVariants as e
-use Rattle.loom_event.specs.Event.{Event, entry_of, targets}
+use Rattle.loom_event.specs.TargetEvent.{TargetEvent, entry_of, targets}
 use Rattle.loom_event.specs.Entries.{thread_of}
 use Rattle.loom_event.specs.Replay.{start, thread_at, replay}
 use Rattle.loom_event.specs.Run.{AreRun}
@@ -35,7 +35,7 @@ abbrev pub Stands : Setting → Front → Entry → List Entry → Type 0
 Stands s f x rest = StandsBy s f x rest (thread_of x)
 
 pub record IsStrict (s : Setting) (es : List Entry) : Type 0 where
-  pub events : List Event
+  pub events : List TargetEvent
   pub tells : map entry_of events ≡ targets es
   pub run : AreRun s.program s.threads events
   pub parts : (t : ℕ) → HasPart s es t (thread_at (replay (start s.program s.threads) events) t)

@@ -13,7 +13,7 @@ use Rattle.loom_lang.specs.Trace.{Locals, Lists, begin, Item, made, begins, done
 use Rattle.loom_lang.specs.Acts.{acts}
 use Rattle.loom_command.specs.Filter.{OrderStep, Clause, Filter}
 use Rattle.loom_command.specs.Script as script
-use Rattle.loom_event.specs.Event.{Event}
+use Rattle.loom_event.specs.TargetEvent.{TargetEvent}
 use Rattle.loom_event.specs.Replay.{ThreadState, start, thread_at, replay}
 use Rattle.loom_event.specs.Run.{AreRun}
 use Rattle.loom_event.proofs.Runs.{next, threads_traced}
@@ -57,7 +57,7 @@ tick_setting = record { program = endless; commands = tick_commands; limit = 5; 
 abbrev pub tick_journal : List Entry
 tick_journal = e.Begin 1 1 ∷ e.Tick 1 2 3 ∷ e.Tick 1 2 3 ∷ e.Tick 1 2 3 ∷ e.Tick 1 2 3 ∷ e.Unreached 1 ∷ e.Finish k.Limit ∷ []
 
-abbrev tick_events : List Event
+abbrev tick_events : List TargetEvent
 tick_events = event 1 1 begin ∷ []
 
 -- Rounds

@@ -10,12 +10,12 @@ use Rattle.loom_lang.specs.Trace.{Act, begin, end, trap, read, write, lock, unlo
 use Rattle.loom_lang.specs.Acts.{Deed, acts, IsAlike}
 use Rattle.loom_lang.proofs.Broken.{broken_trace}
 use Rattle.loom_lang.proofs.NextAct.{one_next_act}
-use Rattle.loom_event.specs.Event.{Event, entry_by, entry_of, is_target, targets, deeds}
+use Rattle.loom_event.specs.TargetEvent.{TargetEvent, entry_by, entry_of, is_target, targets, deeds}
 use Rattle.loom_event.specs.Entries.{thread_of, is_thread}
 use Rattle.loom_event.specs.Replay.{ThreadState, Store, new_thread, main_thread, start, thread_at, IsAllowedAct, IsAllowed, with_thread, after_act, replay, AreAllowed}
 use Rattle.loom_event.specs.Replay as law
 use Rattle.loom_event.specs.Run.{IsTraced, IsThreadTraced, AreRun}
-use Rattle.loom_law.specs.Walk.{Version, Plans, Operation, wait, enters, at, past, post, leave, back, tick, cross, blocked, PartStep, goes, makes, items, filter_entries, entry_of_operation, Walk, unborn, holds, without_first, taking, behind_entry, crossing, filter_of, walk_behind, walk_from, Owes, first_number, MayCross, MayStand, AreWoven}
+use Rattle.loom_law.specs.Walk.{Version, Plans, Operation, wait, enters, at, past, post, leave, back, tick, cross, blocked, PartStep, goes, makes, items, filter_entries, entry_of_operation, Walk, unborn, holds, without_first, taking, behind_entry, crossing, operation_filter, walk_behind, walk_from, Owes, first_number, MayCross, MayStand, AreWoven}
 use Rattle.loom_law.specs.ThreadPart.{Own, walk_of, IsPart, HasMoved}
 use Rattle.loom_law.specs.Control.{Holder, Control, control, first_control, versions_of, entries_of, listed_places}
 use Rattle.loom_law.specs.Lawful.{Setting, Front, front_of, plans, own, HasPart, owes_cross, StaysAway, Parks, IsParked, MayMove, is_held_by, is_installed, Permits}
@@ -101,7 +101,7 @@ told_targets t (goes (edge l) ∷ ss) = told_targets t ss
 told_targets t (goes (enter f env) ∷ ss) = told_targets t ss
 told_targets t (goes (out f) ∷ ss) = told_targets t ss
 
-deeds_told : (t : ℕ) (xs : List Event) → entries_of t (map entry_of xs) ≡ map (entry_of_deed t) (deeds t xs)
+deeds_told : (t : ℕ) (xs : List TargetEvent) → entries_of t (map entry_of xs) ≡ map (entry_of_deed t) (deeds t xs)
 deeds_told t [] = refl
 deeds_told t (x ∷ xs) =
     let d : Deed = record { line = x.line; act = x.act } in
@@ -159,7 +159,7 @@ acts_append (out f ∷ is) js = acts_append is js
 
 -- Runs with one more event
 
-own_traced : (s : Setting) (es : List Entry) (h : IsStrict s es) (y : Event) (z : ThreadState) → thread_at (replay (start s.program s.threads) h.events) y.thread ≡ Some z
+own_traced : (s : Setting) (es : List Entry) (h : IsStrict s es) (y : TargetEvent) (z : ThreadState) → thread_at (replay (start s.program s.threads) h.events) y.thread ≡ Some z
     → (part : IsPart s.program (plans s) (own_with s es y.thread z (entry_of y))) (before : List PartStep) → part.steps ≡ before ++ goes (made y.line y.act) ∷ []
     → IsTraced s.program z.func z.args (deeds y.thread h.events ++ record { line = y.line; act = y.act } ∷ [])
 own_traced s es h y z there part before is =
@@ -185,11 +185,11 @@ own_traced s es h y z there part before is =
       same = ap acts (items_append before last) ∙ (acts_append (items before) (made y.line y.act ∷ []) ∙ ap (λ ds. ds ++ d ∷ []) (sym same));
     }
 
-allowed_append : (s : Store) (xs : List Event) (y : Event) → AreAllowed s xs → IsAllowed (replay s xs) y → AreAllowed s (xs ++ y ∷ [])
+allowed_append : (s : Store) (xs : List TargetEvent) (y : TargetEvent) → AreAllowed s xs → IsAllowed (replay s xs) y → AreAllowed s (xs ++ y ∷ [])
 allowed_append s [] y h g = (g, tt)
 allowed_append s (x ∷ xs) y h g = (h.0, allowed_append (law.after_event s x) xs y h.1 g)
 
-same_traced : (p : Source) (xs : List Event) (t : ℕ) (ds : List Deed) (z : ThreadState) (o : Option ThreadState) → IsOf (Some z) o → deeds t xs ≡ ds → IsTraced p z.func z.args ds
+same_traced : (p : Source) (xs : List TargetEvent) (t : ℕ) (ds : List Deed) (z : ThreadState) (o : Option ThreadState) → IsOf (Some z) o → deeds t xs ≡ ds → IsTraced p z.func z.args ds
     → IsThreadTraced p xs t o
 same_traced p xs t ds z None is same h = absurd is
 same_traced p xs t ds z (Some y) is same h =
@@ -197,24 +197,24 @@ same_traced p xs t ds z (Some y) is same h =
     let two : IsTraced p y.func y.args ds = subst (λ vs. IsTraced p y.func vs ds) is.1 one in
     subst (IsTraced p y.func y.args) (sym same) two
 
-others_traced : (p : Source) (xs ys : List Event) (t : ℕ) (o o' : Option ThreadState) → IsOf o o' → deeds t ys ≡ deeds t xs → IsThreadTraced p xs t o → IsThreadTraced p ys t o'
+others_traced : (p : Source) (xs ys : List TargetEvent) (t : ℕ) (o o' : Option ThreadState) → IsOf o o' → deeds t ys ≡ deeds t xs → IsThreadTraced p xs t o → IsThreadTraced p ys t o'
 others_traced p xs ys t None None is same h = same ∙ h
 others_traced p xs ys t None (Some y) is same h = record { items = []; outcome = Open; trace = empty_trace p y.func y.args; same = sym (same ∙ h) }
 others_traced p xs ys t (Some x) o' is same h = same_traced p ys t (deeds t xs) x o' is same h
 
-deeds_last : (t : ℕ) (xs : List Event) (y : Event) → (y.thread == t) ≡ true → deeds t (xs ++ y ∷ []) ≡ deeds t xs ++ record { line = y.line; act = y.act } ∷ []
+deeds_last : (t : ℕ) (xs : List TargetEvent) (y : TargetEvent) → (y.thread == t) ≡ true → deeds t (xs ++ y ∷ []) ≡ deeds t xs ++ record { line = y.line; act = y.act } ∷ []
 deeds_last t xs y h = deeds_append t xs (y ∷ []) ∙ ap (λ ds. deeds t xs ++ ds) (if_true (y.thread == t) (record { line = y.line; act = y.act } ∷ []) [] h)
 
-deeds_others : (t : ℕ) (xs : List Event) (y : Event) → (y.thread == t) ≡ false → deeds t (xs ++ y ∷ []) ≡ deeds t xs
+deeds_others : (t : ℕ) (xs : List TargetEvent) (y : TargetEvent) → (y.thread == t) ≡ false → deeds t (xs ++ y ∷ []) ≡ deeds t xs
 deeds_others t xs y h =
     deeds_append t xs (y ∷ [])
     ∙ (ap (λ ds. deeds t xs ++ ds) (if_false (y.thread == t) (record { line = y.line; act = y.act } ∷ []) [] h) ∙ append_none (deeds t xs))
 
-keeps_threads : (p : Source) (most : ℕ) (xs : List Event) (y : Event) (u : ℕ) → IsOf (thread_at (replay (start p most) xs) u) (thread_at (replay (start p most) (xs ++ y ∷ [])) u)
+keeps_threads : (p : Source) (most : ℕ) (xs : List TargetEvent) (y : TargetEvent) (u : ℕ) → IsOf (thread_at (replay (start p most) xs) u) (thread_at (replay (start p most) (xs ++ y ∷ [])) u)
 keeps_threads p most xs y u =
     subst (λ st. IsOf (thread_at (replay (start p most) xs) u) (thread_at st u)) (sym (replay_append (start p most) xs (y ∷ []))) (act_keeps (replay (start p most) xs) y.thread y.act u)
 
-longer_run : (p : Source) (most : ℕ) (xs : List Event) (y : Event) (z : ThreadState) → AreRun p most xs → thread_at (replay (start p most) xs) y.thread ≡ Some z → IsAllowed (replay (start p most) xs) y
+longer_run : (p : Source) (most : ℕ) (xs : List TargetEvent) (y : TargetEvent) (z : ThreadState) → AreRun p most xs → thread_at (replay (start p most) xs) y.thread ≡ Some z → IsAllowed (replay (start p most) xs) y
     → IsTraced p z.func z.args (deeds y.thread xs ++ record { line = y.line; act = y.act } ∷ []) → AreRun p most (xs ++ y ∷ [])
 longer_run p most xs y z run there ok traced = record {
   traced = λ u. by_test (y.thread == u) (IsThreadTraced p (xs ++ y ∷ []) u (thread_at (replay (start p most) (xs ++ y ∷ [])) u))
@@ -390,7 +390,7 @@ moved p plans x h before step y is tells = record {
   tells = ap (filter_entries x.thread) (sym is) ∙ h.tells;
 }
 
-turn_parked : (s : Setting) (es : List Entry) (xs : List Event) (t : ℕ) (x : Entry) (step : PartStep) (m : MayTurn s es xs t x step) → is_thread t (thread_of x) ≡ true
+turn_parked : (s : Setting) (es : List Entry) (xs : List TargetEvent) (t : ℕ) (x : Entry) (step : PartStep) (m : MayTurn s es xs t x step) → is_thread t (thread_of x) ≡ true
     → filter_entries t (step ∷ []) ≡ x ∷ [] → (o : Option ℕ) → Control.asked (control s.commands es) ≡ o → IsParked s (front_of s es xs) t x o
 turn_parked s es xs t x step m self tells None is = tt
 turn_parked s es xs t x step m self tells (Some k) is = (
@@ -404,7 +404,7 @@ turn_parked s es xs t x step m self tells (Some k) is = (
   (λ b. m.no_begin k is b),
 )
 
-turn_moves : (s : Setting) (es : List Entry) (xs : List Event) (t : ℕ) (x : Entry) (step : PartStep) → MayTurn s es xs t x step → thread_of x ≡ Some t → filter_entries t (step ∷ []) ≡ x ∷ []
+turn_moves : (s : Setting) (es : List Entry) (xs : List TargetEvent) (t : ℕ) (x : Entry) (step : PartStep) → MayTurn s es xs t x step → thread_of x ≡ Some t → filter_entries t (step ∷ []) ≡ x ∷ []
     → MayMove s (front_of s es xs) t x
 turn_moves s es xs t x step m of tells = record {
   goes_on = m.goes_on;
@@ -414,7 +414,7 @@ turn_moves s es xs t x step m of tells = record {
 }
 
 pub event_turns : (s : Setting) (es : List Entry) (h : IsStrict s es) → IsUnfinished es
-    → (y : Event) → MayTurn s es h.events y.thread (entry_of y) (goes (made y.line y.act)) → IsAllowed (replay (start s.program s.threads) h.events) y
+    → (y : TargetEvent) → MayTurn s es h.events y.thread (entry_of y) (goes (made y.line y.act)) → IsAllowed (replay (start s.program s.threads) h.events) y
     → (h' : IsStrict s (es ++ entry_of y ∷ [])) × (h'.events ≡ h.events ++ y ∷ [])
 event_turns s es h open_ y m ok =
     let p : Source = s.program in
@@ -561,7 +561,7 @@ few_behind s u (spawn c f vs) h n =
 few_behind s u (join c) h n = n
 few_behind s u (print v) h n = n
 
-few_along : (s : Store) (xs : List Event) → AreAllowed s xs → AreFew s → AreFew (replay s xs)
+few_along : (s : Store) (xs : List TargetEvent) → AreAllowed s xs → AreFew s → AreFew (replay s xs)
 few_along s [] h n = n
 few_along s (x ∷ xs) h n = few_along (law.after_event s x) xs h.1 (few_behind s x.thread x.act h.0 n)
 
@@ -579,7 +579,7 @@ act_most s u (spawn c f vs) = refl
 act_most s u (join c) = refl
 act_most s u (print v) = refl
 
-pub replay_most : (s : Store) (xs : List Event) → Store.most (replay s xs) ≡ s.most
+pub replay_most : (s : Store) (xs : List TargetEvent) → Store.most (replay s xs) ≡ s.most
 replay_most s [] = refl
 replay_most s (x ∷ xs) = replay_most (law.after_event s x) xs ∙ act_most s x.thread x.act
 
@@ -588,7 +588,7 @@ few_first most None = omega arith
 few_first zero (Some f) = omega arith
 few_first (suc n) (Some f) = omega arith
 
-thread_small : (p : Source) (most : ℕ) (xs : List Event) (i : ℕ) (z : ThreadState) → AreAllowed (start p most) xs → thread_at (replay (start p most) xs) (suc i) ≡ Some z → i < most
+thread_small : (p : Source) (most : ℕ) (xs : List TargetEvent) (i : ℕ) (z : ThreadState) → AreAllowed (start p most) xs → thread_at (replay (start p most) xs) (suc i) ≡ Some z → i < most
 thread_small p most xs i z ok there =
     let few : length (Store.spawned (replay (start p most) xs)) ≤ Store.most (replay (start p most) xs) =
     few_along (start p most) xs ok (few_first most (function_number p (codes "main"))) in
@@ -619,7 +619,7 @@ abbrev IsOwed : ℕ → Operation → Type 0
 IsOwed l o = (p : Source) (z : Walk) (rest : List Item) → MayStand p z (makes l o) rest → Owes z.owed l o
 
 op_installed : (s : Setting) (es : List Entry) (h : IsStrict s es) (i l : ℕ) (o : Operation) (z : ThreadState) (k : ℕ) → thread_at (replay (start s.program s.threads) h.events) (suc i) ≡ Some z
-    → MakesOp s es (suc i) z l o → owes_cross (entry_of_operation (suc i) l o) (listed_places (suc i) es) ≡ false → filter_of o ≡ Some k → IsOwed l o
+    → MakesOp s es (suc i) z l o → owes_cross (entry_of_operation (suc i) l o) (listed_places (suc i) es) ≡ false → operation_filter o ≡ Some k → IsOwed l o
     → is_installed (control s.commands es) k ≡ true
 op_installed s es h i l o z k there part none f owed =
     let t : ℕ = suc i in

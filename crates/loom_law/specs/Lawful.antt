@@ -9,7 +9,7 @@ use Rattle.loom_trace.specs.declared.entry.Ending.TheVariants as k
 use Rattle.loom_trace.specs.declared.entry.What.{What}
 use Rattle.loom_trace.specs.declared.entry.What.TheVariants as w
 use Rattle.loom_lang.specs.Places.{Place, nowhere, line_of_place}
-use Rattle.loom_event.specs.Event.{Event, entry_of, targets}
+use Rattle.loom_event.specs.TargetEvent.{TargetEvent, entry_of, targets}
 use Rattle.loom_event.specs.Replay.{ThreadState, Store, start, thread_at, replay, IsDisabled, AllEnded}
 use Rattle.loom_event.specs.Run.{AreRun}
 use Rattle.loom_event.specs.Entries.{thread_of, thread_entries, last_of_thread, is_stopped, is_over, is_at_limit}
@@ -38,11 +38,11 @@ pub record Front : Type 0 where
   pub store : Store
   pub control : Control
 
-abbrev pub front_of : Setting → List Entry → List Event → Front
+abbrev pub front_of : Setting → List Entry → List TargetEvent → Front
 front_of s es xs = record { entries = es; store = replay (start s.program s.threads) xs; control = control s.commands es }
 
 -- the end of the front of a journal that tells these events
-abbrev pub front_at : Setting → List Event → List Entry → Front
+abbrev pub front_at : Setting → List TargetEvent → List Entry → Front
 front_at s xs es = front_of s es (take (length (targets es)) xs)
 
 -- what the filter of each command is in the program
@@ -350,7 +350,7 @@ MayFollow s f x rest = MayFollowBy s f x rest (thread_of x)
 
 -- Filters are obeyed
 
--- the thread is inside a region of the clause
+-- the clause has a region in which the thread is
 abbrev pub IsInsideIf : Setting → List Entry → ℕ → Option ThreadState → ℕ → ℕ → Type 0
 IsInsideIf s es t None k c = ⊥
 IsInsideIf s es t (Some x) k c = IsInside s.program (plans s) (own s es t x) k c
@@ -368,7 +368,7 @@ pub record IsObeyed (s : Setting) (f : Front) (x : Entry) : Type 0 where
 -- The journal is lawful for a program, a list of commands, a limit of thread entries, a number of threads and a stop test.
 pub record IsLawful (s : Setting) (es : List Entry) : Type 0 where
   -- its target entries are a run of the program
-  pub events : List Event
+  pub events : List TargetEvent
   pub tells : map entry_of events ≡ targets es
   pub run : AreRun s.program s.threads events
   -- each thread has its full part

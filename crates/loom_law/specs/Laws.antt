@@ -10,11 +10,11 @@ use Rattle.loom_lang.specs.Rules as rules
 use Rattle.loom_lang.specs.Trace.{end, made}
 use Rattle.loom_command.specs.Filter.{Filter}
 use Rattle.loom_law.specs.Filter.{Plan, has, plan_of}
-use Rattle.loom_law.specs.Walk.{Version, Plans, place_number, Operation, leave, entry_of_operation, PartStep, goes, makes, holds, filter_entries, filter_of, Owes}
+use Rattle.loom_law.specs.Walk.{Version, Plans, place_number, Operation, leave, entry_of_operation, PartStep, goes, makes, holds, filter_entries, operation_filter, Owes}
 use Rattle.loom_law.specs.ThreadPart.{Own, walk_of, IsPart, Point, IsPlaceOf, HasMoved, KeepsAway, IsInside}
 use Rattle.loom_law.specs.FilterView.{IsClear, view_behind}
 use Rattle.loom_law.specs.Paths.{IsUnsafe}
-use Rattle.loom_event.specs.Event.{Event, entry_of}
+use Rattle.loom_event.specs.TargetEvent.{TargetEvent, entry_of}
 use Rattle.loom_event.specs.Replay.{ThreadState, start, thread_at, replay, IsAllowed}
 use Rattle.loom_event.specs.Entries.{thread_of, IsFinished}
 use Rattle.loom_law.specs.Judgement.{IsJudged, IsCommandList}
@@ -117,14 +117,14 @@ HasNewest = (s : Setting) (front rest : List Entry) → IsLawful s (front ++ res
 
 -- What a thread owes first is of a filter of its version.
 abbrev pub HasOwedActive : Type 0
-HasOwedActive = (p : Source) (plans : Plans) (x : Own) (h : IsPart p plans x) (l : ℕ) (o : Operation) (k : ℕ) → Owes (walk_of p plans x h.steps).owed l o → filter_of o ≡ Some k
+HasOwedActive = (p : Source) (plans : Plans) (x : Own) (h : IsPart p plans x) (l : ℕ) (o : Operation) (k : ℕ) → Owes (walk_of p plans x h.steps).owed l o → operation_filter o ≡ Some k
     → has (walk_of p plans x h.steps).active k ≡ true
 
 -- So it is of an installed filter, where no new version is listed for the thread.
 abbrev pub HasOwedInstalled : Type 0
 HasOwedInstalled = (s : Setting) (front rest : List Entry) → IsLawful s (front ++ rest) → (i : ℕ) → i < s.threads → (x : ThreadState)
     (h : IsPart s.program (plans s) (own s front (suc i) x)) (y : Entry) (ys : List Entry) → entries_of (suc i) front ≡ y ∷ ys → listed_places (suc i) front ≡ []
-    → (l : ℕ) (o : Operation) (k : ℕ) → Owes (walk_of s.program (plans s) (own s front (suc i) x) h.steps).owed l o → filter_of o ≡ Some k
+    → (l : ℕ) (o : Operation) (k : ℕ) → Owes (walk_of s.program (plans s) (own s front (suc i) x) h.steps).owed l o → operation_filter o ≡ Some k
     → is_installed (control s.commands front) k ≡ true
 
 -- no number stands twice, in no version a filter
@@ -184,7 +184,7 @@ abbrev pub HasBeginning : Type 0
 HasBeginning = (s : Setting) → (h : IsLawful s []) × (h.events ≡ [])
 
 -- Behind the entries and events so far thread t may make this entry, with this step of its part.
-pub record MayTurn (s : Setting) (es : List Entry) (xs : List Event) (t : ℕ) (x : Entry) (step : PartStep) : Type 0 where
+pub record MayTurn (s : Setting) (es : List Entry) (xs : List TargetEvent) (t : ℕ) (x : Entry) (step : PartStep) : Type 0 where
   pub state : ThreadState
   pub there : thread_at (replay (start s.program s.threads) xs) t ≡ Some state
   -- with it the thread's own entries are a part
@@ -203,7 +203,7 @@ pub record MayTurn (s : Setting) (es : List Entry) (xs : List Event) (t : ℕ) (
 -- A lawful journal with one more event of a thread is lawful, where the store allows the event.
 abbrev pub HasEventTurns : Type 0
 HasEventTurns = (s : Setting) (es : List Entry) (h : IsLawful s es) → IsUnfinished es
-    → (y : Event) → MayTurn s es h.events y.thread (entry_of y) (goes (made y.line y.act)) → IsAllowed (replay (start s.program s.threads) h.events) y
+    → (y : TargetEvent) → MayTurn s es h.events y.thread (entry_of y) (goes (made y.line y.act)) → IsAllowed (replay (start s.program s.threads) h.events) y
     → (h' : IsLawful s (es ++ entry_of y ∷ [])) × (h'.events ≡ h.events ++ y ∷ [])
 
 -- So it is with one more operation of a thread, `Cross` and `Blocked` too.

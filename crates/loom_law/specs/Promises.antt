@@ -4,7 +4,7 @@ use Rattle.std.specs.List.{AllByRecursion}
 use Rattle.loom_trace.specs.declared.entry.Entry.{Entry}
 use Rattle.loom_trace.specs.declared.entry.Entry.TheVariants as e
 use Rattle.loom_event.specs.Entries.{thread_of}
-use Rattle.loom_event.specs.Event.{targets}
+use Rattle.loom_event.specs.TargetEvent.{targets}
 use Rattle.loom_event.specs.Replay.{ThreadState, thread_at}
 use Rattle.loom_event.specs.Run.{IsRun}
 use Rattle.loom_law.specs.Filter.{Plan, before_in}

@@ -9,7 +9,7 @@ use Rattle.loom_trace.specs.declared.request.Request.{Request}
 use Rattle.loom_lang.specs.Trace.{made}
 use Rattle.loom_lang.specs.Acts.{Deed, IsAlike}
 use Rattle.loom_event.specs.Answer.{IsAnswered, IsBlockedFor}
-use Rattle.loom_event.specs.Event.{Event, event_of_deed, entry_by}
+use Rattle.loom_event.specs.TargetEvent.{TargetEvent, event_of_deed, entry_by}
 use Rattle.loom_event.specs.Replay.{ThreadState, start, thread_at, replay, IsAllowed}
 use Rattle.loom_law.specs.Walk.{Plans, Operation, cross, blocked, goes, makes, entry_of_operation}
 use Rattle.loom_law.specs.Walk as walk
@@ -19,7 +19,7 @@ use Rattle.loom_law.specs.Lawful.{Setting, front_of, plans, own, IsFlagged, IsHe
 use Rattle.loom_law.specs.Laws.{IsUnfinished, own_with, MayTurn}
 
 -- Behind the entries and events so far thread t asks for an act, the store allows this answer, and nothing keeps the thread from making it.
-pub record MayAnswer (s : Setting) (es : List Entry) (xs : List Event) (t : ℕ) (q : Request) (d : Deed) : Type 0 where
+pub record MayAnswer (s : Setting) (es : List Entry) (xs : List TargetEvent) (t : ℕ) (q : Request) (d : Deed) : Type 0 where
   pub state : ThreadState
   pub there : thread_at (replay (start s.program s.threads) xs) t ≡ Some state
   pub asks : AsksToAct s.program (plans s) (own s es t state) q
@@ -52,7 +52,7 @@ AsksToDo s es x l (cross y n m) =
 AsksToDo s es x l o = AsksToMake s.program (plans s) x l o
 
 -- Behind the entries and events so far thread t asks to make an operation, and nothing keeps it from making it.
-pub record MayMake (s : Setting) (es : List Entry) (xs : List Event) (t l : ℕ) (o : Operation) : Type 0 where
+pub record MayMake (s : Setting) (es : List Entry) (xs : List TargetEvent) (t l : ℕ) (o : Operation) : Type 0 where
   pub state : ThreadState
   pub there : thread_at (replay (start s.program s.threads) xs) t ≡ Some state
   pub asks : AsksToDo s es (own s es t state) l o

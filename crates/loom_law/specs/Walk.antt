@@ -9,7 +9,7 @@ use Rattle.loom_trace.specs.declared.entry.What.TheVariants as w
 use Rattle.loom_lang.specs.Places.{Place, places, line_of_place, line_of_function}
 use Rattle.loom_lang.specs.Places as place
 use Rattle.loom_lang.specs.Trace.{Locals, Act, begin, trap, lock, down, join, Item, made, begins, done, edge, enter, out}
-use Rattle.loom_event.specs.Event.{entry_by}
+use Rattle.loom_event.specs.TargetEvent.{entry_by}
 use Rattle.loom_law.specs.Filter.{Site, statement, function, Range, Ruling, Plan, matching, has, share, entry_events, exit_events, ranges_of, waits, posts, clauses}
 use Rattle.std.specs.Prelude.{slice_get}
 
@@ -185,9 +185,9 @@ owed_leaves hs is k l [] more = more
 owed_leaves hs is k l (c ∷ cs) more =
     if holds hs k c.0 && not (is_inside_clause is k c.0) then (l, leave k c.0) ∷ owed_leaves hs is k l cs more else owed_leaves hs is k l cs more
 
-abbrev pub events_of : ℕ → List (ℕ × List ℕ) → List ℕ
-events_of k [] = []
-events_of k (x ∷ xs) = if x.0 == k then x.1 else events_of k xs
+abbrev pub events_of_filter : ℕ → List (ℕ × List ℕ) → List ℕ
+events_of_filter k [] = []
+events_of_filter k (x ∷ xs) = if x.0 == k then x.1 else events_of_filter k xs
 
 abbrev pub owed_past : Plan → ℕ → List (ℕ × ℕ) → List OpenFrame → ℕ → List ℕ → Queue → Queue
 owed_past f k hs fs l [] more = more
@@ -196,7 +196,7 @@ owed_past f k hs fs l (n ∷ ns) more =
 
 abbrev pub owed_behind : Plans → List (ℕ × ℕ) → List OpenFrame → ℕ → List (ℕ × List ℕ) → List ℕ → Queue
 owed_behind plans hs fs l xs [] = []
-owed_behind plans hs fs l xs (k ∷ ks) = owed_past (plans k) k hs fs l (events_of k xs) (owed_behind plans hs fs l xs ks)
+owed_behind plans hs fs l xs (k ∷ ks) = owed_past (plans k) k hs fs l (events_of_filter k xs) (owed_behind plans hs fs l xs ks)
 
 -- What is owed behind a frame, and behind a trap: in order of filters and clauses
 
@@ -330,14 +330,14 @@ left_behind (left f is) = left f []
 left_behind s = s
 
 -- the filter of an operation
-abbrev pub filter_of : Operation → Option ℕ
-filter_of (wait k n) = Some k
-filter_of (enters k c) = Some k
-filter_of (at k ns) = Some k
-filter_of (past k ns) = Some k
-filter_of (post k n) = Some k
-filter_of (leave k c) = Some k
-filter_of _ = None
+abbrev pub operation_filter : Operation → Option ℕ
+operation_filter (wait k n) = Some k
+operation_filter (enters k c) = Some k
+operation_filter (at k ns) = Some k
+operation_filter (past k ns) = Some k
+operation_filter (post k n) = Some k
+operation_filter (leave k c) = Some k
+operation_filter _ = None
 
 -- What is still owed where these filters alone stay: their operations, a tick, and `Back` where a leave stands behind it.
 abbrev pub stays : List ℕ → Option ℕ → Bool
@@ -347,7 +347,7 @@ stays ks (Some k) = has ks k
 abbrev pub still_owed : List ℕ → Queue → Queue
 still_owed ks [] = []
 still_owed ks ((l, back) ∷ os) = with_back l (still_owed ks os)
-still_owed ks ((l, o) ∷ os) = if stays ks (filter_of o) then (l, o) ∷ still_owed ks os else still_owed ks os
+still_owed ks ((l, o) ∷ os) = if stays ks (operation_filter o) then (l, o) ∷ still_owed ks os else still_owed ks os
 
 -- the filters that are new in a version, and what they owe at the same beginning, where the thread holds nothing of them
 abbrev pub new_filters : List ℕ → List ℕ → List ℕ

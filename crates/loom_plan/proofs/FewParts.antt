@@ -7,10 +7,11 @@ use Rattle.loom_command.specs.FilterForm.{StepForm, RegionForm, between, whole, 
 use Rattle.loom_command.specs.FilterFault as fault
 use Rattle.loom_command.specs.FilterFault.{FilterFault, HasFault, IsFaultOf, IsFilter, is_too_much}
 use Rattle.loom_law.specs.Filter.{Range, Ruling, numbered_from, ranges_from, ruling_from, rulings_from, ranges_of, watches_of_region, watches_of_clause}
-use Rattle.loom_plan.specs.Counts.{region_events, regions_events, clause_events, filter_events, clause_region_count, filter_regions, IsSmallFilter}
+use Rattle.loom_filter.specs.Fault.{region_events, regions_events, clause_events}
+use Rattle.loom_plan.specs.Counts.{filter_events, clause_region_count, filter_regions, IsSmallFilter}
 use Rattle.loom_plan.specs.declared.plan.EventWatch.{EventWatch}
 use Rattle.loom_plan.specs.declared.plan.Rule.{Rule}
-use Rattle.loom_plan.specs.PlanView.{watch_of, watches_of, ruling_of, rulings_of, plan_of_rows}
+use Rattle.loom_plan.specs.PlanView.{event_watch_of, watches_of, ruling_of, rulings_of, plan_of_rows}
 use Rattle.loom_plan.specs.PlanParts as fitting
 use Rattle.loom_plan.specs.PlanParts.{IsSmallPlan}
 use Rattle.loom_plan.proofs.LocalNames.{as_many_in_filter}
@@ -131,7 +132,7 @@ few_rules p f rs e h =
 
 pub few_events : (p : Source) (f : tree.Filter) (es : List EventWatch) → watches_of es ≡ flat_map (watches_of_clause p) f → filter_events f ≤ 32 → length es ≤ 32
 few_events p f es e h =
-    let one : length (watches_of es) ≡ length es = length_map watch_of es in
+    let one : length (watches_of es) ≡ length es = length_map event_watch_of es in
     let two = ap length e in
     let three : length (flat_map (watches_of_clause p) f) ≡ filter_events f = as_many_in_filter p f in
     omega arith
@@ -142,7 +143,7 @@ small_plan p f es rs e g h =
     let events = few_events p f es e h.events in
     let clauses = few_rules p f rs g h.clauses in
     let regions = h.regions in
-    let one : length (watches_of es) ≡ length es = length_map watch_of es in
+    let one : length (watches_of es) ≡ length es = length_map event_watch_of es in
     let two : length (rulings_of rs) ≡ length rs = length_map ruling_of rs in
     let three : length (flat_map fitting.clause_regions (numbered_from 1 (rulings_of rs))) ≡ filter_regions f
     = ap (λ (xs : List Ruling). length (flat_map fitting.clause_regions (numbered_from 1 xs))) g ∙ as_many_regions p 1 1 f in

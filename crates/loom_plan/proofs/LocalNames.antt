@@ -9,7 +9,8 @@ use Rattle.loom_flow.specs.State.{named}
 use Rattle.loom_command.specs.Filter.{OrderStep, Region, between, whole, Clause, order, exclusive, unilateral, Filter}
 use Rattle.loom_law.specs.Filter.{has, watch_of, watches_of_region, watches_of_clause, numbers}
 use Rattle.loom_plan.specs.Numbers.{consecutive}
-use Rattle.loom_plan.specs.Counts.{region_events, regions_events, clause_events, filter_events}
+use Rattle.loom_filter.specs.Fault.{region_events, regions_events, clause_events}
+use Rattle.loom_plan.specs.Counts.{filter_events}
 use Rattle.loom_plan.proofs.ElementNumbers.{length_map}
 
 -- the value of a name is that of its number

@@ -13,7 +13,7 @@ use Rattle.loom_plan.specs.declared.plan.Pick.{Pick}
 use Rattle.loom_plan.specs.declared.plan.WatchRow.{WatchRow}
 use Rattle.loom_plan.specs.declared.plan.Rule.{Rule}
 use Rattle.loom_plan.specs.declared.plan.EventWatch.{EventWatch}
-use Rattle.loom_plan.specs.PlanView.{site_of, watch_of, watches_of, plan_of_rows, ruling_of, rulings_of}
+use Rattle.loom_plan.specs.PlanView.{site_of, event_watch_of, watches_of, plan_of_rows, ruling_of, rulings_of}
 use Rattle.loom_plan.specs.Tests.{is_passed}
 use Rattle.loom_plan.specs.PlaceEvents.{line_of_site, site_at, names_or_none, picks_from, ArePicks, IsWatchRow, AreRows, picked, Ascend}
 
@@ -143,7 +143,7 @@ row_matches f names o at row vs e h =
 
 -- the line of an event
 
-get_watch : (es : List EventWatch) (k : ℕ) (d : EventWatch) → k < length es → slice_get (watches_of es) k ≡ Some (watch_of (get_or es k d))
+get_watch : (es : List EventWatch) (k : ℕ) (d : EventWatch) → k < length es → slice_get (watches_of es) k ≡ Some (event_watch_of (get_or es k d))
 get_watch [] k d low = absurd (omega arith)
 get_watch (x ∷ es) zero d low = refl
 get_watch (x ∷ es) (suc k) d low = get_watch es k d (omega arith)

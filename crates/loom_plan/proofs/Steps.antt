@@ -12,7 +12,8 @@ use Rattle.loom_law.specs.Filter.{Range, Ruling, numbers, range_from, ranges_fro
 use Rattle.loom_plan.specs.declared.plan.RegionSpan.{RegionSpan}
 use Rattle.loom_plan.specs.declared.plan.Rule.{Rule}
 use Rattle.loom_plan.specs.Numbers.{consecutive}
-use Rattle.loom_plan.specs.Counts.{region_events, regions_events, clause_events, filter_events}
+use Rattle.loom_filter.specs.Fault.{region_events, regions_events, clause_events}
+use Rattle.loom_plan.specs.Counts.{filter_events}
 use Rattle.loom_plan.specs.PlanView.{range_of, span_ranges, ruling_of, rulings_of}
 use Rattle.loom_plan.proofs.LocalNames.{as_many_in_region, as_many_in_clause, numbers_run}
 use Rattle.loom_plan.proofs.ElementNumbers.{length_map}

@@ -13,7 +13,7 @@ use Rattle.loom_plan.specs.declared.plan.EventSite.{EventSite}
 use Rattle.loom_plan.specs.declared.plan.Pick.{Pick}
 use Rattle.loom_plan.specs.declared.plan.WatchRow.{WatchRow}
 use Rattle.loom_plan.specs.ElementNumbers.{numbers_where}
-use Rattle.loom_plan.specs.PlanView.{watch_of, watches_of}
+use Rattle.loom_plan.specs.PlanView.{event_watch_of, watches_of}
 use Rattle.loom_plan.specs.Tests.{MeansIf}
 use Rattle.loom_plan.specs.PlaceEvents.{site_at, watched_from, picks_from, names_from, ArePicks, IsWatchRow, AreRows}
 use Rattle.loom_plan.specs.Table.{site_if, sites_of, sites_at, AreSiteRows, same_names, GoOn, pick_if, HasPick, HaveFewLocals}
@@ -44,14 +44,14 @@ cut true x xs = refl
 cut false x xs = refl
 
 pub picks_more : (at : Site) (n m i j : ℕ) (es : List EventWatch) (d : EventWatch) (ys all : List (ℕ × Option Expression)) → m ≡ suc n → j ≡ suc i → i < length es
-    → ys ++ picks_from n at (drop i (watches_of es)) ≡ all → (ys ++ pick_if at n (watch_of (get_or es i d))) ++ picks_from m at (drop j (watches_of es)) ≡ all
+    → ys ++ picks_from n at (drop i (watches_of es)) ≡ all → (ys ++ pick_if at n (event_watch_of (get_or es i d))) ++ picks_from m at (drop j (watches_of es)) ≡ all
 picks_more at n m i j es d ys all e f low h =
-    let w : Watch = watch_of (get_or es i d) in
+    let w : Watch = event_watch_of (get_or es i d) in
     append_assoc ys (pick_if at n w) (picks_from m at (drop j (watches_of es)))
     ∙ (ap (λ (k : ℕ). ys ++ (pick_if at n w ++ picks_from k at (drop j (watches_of es)))) e
     ∙ (ap (λ (k : ℕ). ys ++ (pick_if at n w ++ picks_from (suc n) at (drop k (watches_of es)))) f
     ∙ (ap (λ (zs : List (ℕ × Option Expression)). ys ++ zs) (sym (cut (is_site at w.site) (n, w.test) (picks_from (suc n) at (drop (suc i) (watches_of es)))))
-    ∙ (ap (λ (ws : List Watch). ys ++ picks_from n at ws) (sym (drop_map watch_of es i d low)) ∙ h))))
+    ∙ (ap (λ (ws : List Watch). ys ++ picks_from n at ws) (sym (drop_map event_watch_of es i d low)) ∙ h))))
 
 -- rows
 

@@ -1,21 +1,8 @@
--- How many events stand in parts of a filter.
-use Rattle.std.specs.Prelude.{ℕ, ◌+◌, ◌≤◌, List, [], ◌∷◌, length}
-use Rattle.loom_command.specs.Filter.{Region, between, whole, Clause, order, exclusive, unilateral, Filter}
+-- How many events and regions a filter has.
+use Rattle.std.specs.Prelude.{ℕ, ◌+◌, ◌≤◌, [], ◌∷◌, length}
+use Rattle.loom_command.specs.Filter.{Clause, order, exclusive, unilateral, Filter}
 use Rattle.loom_command.specs.FilterFault.{most_clauses, most_events}
-
-abbrev pub region_events : Region → ℕ
-region_events (between es xs) = length es + length xs
--- a function is one event
-region_events (whole f test) = 1
-
-abbrev pub regions_events : List Region → ℕ
-regions_events [] = 0
-regions_events (r ∷ rs) = region_events r + regions_events rs
-
-abbrev pub clause_events : Clause → ℕ
-clause_events (order ss) = length ss
-clause_events (exclusive rs) = regions_events rs
-clause_events (unilateral r) = region_events r
+use Rattle.loom_filter.specs.Fault.{clause_events}
 
 abbrev pub filter_events : Filter → ℕ
 filter_events [] = 0

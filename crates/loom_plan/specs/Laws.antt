@@ -7,15 +7,15 @@ use Rattle.loom_lang.specs.Rules.{locals_of}
 use Rattle.loom_plan.specs.PlaceEvents.{names_at}
 
 -- it is a place of function n
-abbrev pub LiesIn : ℕ → Function → Place → Type 0
-LiesIn n f x = (x ≡ entry n) ⊎ (Contains (body_places f.body) x ⊎ (x ≡ out n))
+abbrev pub IsPlaceIn : ℕ → Function → Place → Type 0
+IsPlaceIn n f x = (x ≡ entry n) ⊎ (Contains (body_places f.body) x ⊎ (x ≡ out n))
 
 -- a function in which the place lies, the names of whose locals are those at the place
 pub record NamesPlace (p : Source) (k : ℕ) (x : Place) : Type 0 where
   pub number : ℕ
   pub function : Function
   pub is : slice_get p.funcs number ≡ Some function
-  pub place : LiesIn number function x
+  pub place : IsPlaceIn number function x
   pub names : names_at p k ≡ locals_of function
 
 -- Each place but place 0 lies in a function, and the names at it are those of the locals of that function.

@@ -1,7 +1,6 @@
 -- The plans that values of the program's types stand for.
-use Rattle.std.specs.Prelude.{ℕ, List, map, Option, Some, None}
-use Rattle.loom_tree.specs.declared.expression.Expr.{Expr}
-use Rattle.loom_tree.specs.Tree.{Expression, expression_of}
+use Rattle.std.specs.Prelude.{ℕ, List, map}
+use Rattle.loom_filter.specs.View.{test_of}
 use Rattle.loom_law.specs.Filter.{Site, statement, function, Watch, Range, between, whole, Ruling, order, exclusive, unilateral, Plan}
 use Rattle.loom_plan.specs.declared.plan.EventSite.{EventSite}
 use Rattle.loom_plan.specs.declared.plan.EventSite.TheVariants as s
@@ -14,19 +13,15 @@ use Rattle.loom_plan.specs.declared.plan.Rule.TheVariants as r
 use Rattle.loom_plan.specs.declared.plan.RegionRow.{RegionRow}
 use Rattle.loom_plan.specs.Sets.{event_numbers}
 
-abbrev pub test_of : Option Expr → Option Expression
-test_of None = None
-test_of (Some e) = Some (expression_of e)
-
 abbrev pub site_of : EventSite → Site
 site_of (s.Statement l) = statement l
 site_of (s.Function f) = function f
 
-abbrev pub watch_of : EventWatch → Watch
-watch_of x = record { site = site_of x.site; test = test_of x.test }
+abbrev pub event_watch_of : EventWatch → Watch
+event_watch_of x = record { site = site_of x.site; test = test_of x.test }
 
 abbrev pub watches_of : List EventWatch → List Watch
-watches_of xs = map watch_of xs
+watches_of xs = map event_watch_of xs
 
 abbrev pub counted_of : OrderEvent → ℕ × ℕ
 counted_of x = (x.event, x.count)

@@ -5,7 +5,8 @@ ghost use Rattle.loom_filter.specs.View.{steps_of, region_of, regions_of, clause
 ghost use Rattle.loom_filter.specs.View as view;
 ghost use Rattle.loom_command.specs.FilterFault.{most_events};
 ghost use Rattle.loom_law.specs.Filter.{between, numbers, counted, range_from, ranges_from, ruling_from, rulings_from};
-ghost use Rattle.loom_plan.specs.Counts.{region_events, regions_events, clause_events, filter_events};
+ghost use Rattle.loom_filter.specs.Fault.{region_events, regions_events, clause_events};
+ghost use Rattle.loom_plan.specs.Counts.{filter_events};
 ghost use Rattle.loom_plan.specs.Sets.{event_numbers};
 ghost use Rattle.loom_plan.specs.Numbers.{consecutive};
 ghost use Rattle.loom_plan.specs.PlanView.{order_of, range_of, span_ranges, ruling_of, rulings_of};

@@ -1,11 +1,10 @@
 //! The events of a filter in a program. An `Err` is want of memory throughout.
 ghost use Rattle.std.specs.Prelude.{◌≡◌, ◌∷◌, ◌++◌, [], IfOk, OnOk, flat_map, map};
-ghost use Rattle.loom_filter.specs.View.{event_of, events_of, step_of, steps_of, region_of, regions_of, clause_of, clauses_of};
-ghost use Rattle.loom_filter.specs.View as view;
+ghost use Rattle.loom_filter.specs.View.{test_of, event_of, events_of, step_of, steps_of, region_of, regions_of, clause_of, clauses_of};
 ghost use Rattle.loom_lang.specs.Numbers.{function_number};
 ghost use Rattle.loom_command.specs.Filter.{OrderStep};
 ghost use Rattle.loom_law.specs.Filter.{watch_of, watches_of_region, watches_of_clause, function};
-ghost use Rattle.loom_plan.specs.PlanView.{test_of, watches_of};
+ghost use Rattle.loom_plan.specs.PlanView.{watches_of};
 
 use crate::plan::{EventSite, EventWatch};
 use loom_filter::filter::{Clause, Event as FilterEvent, Region, Step};
@@ -16,7 +15,7 @@ use loom_tree::name::{Name, NoMemory};
 use std::alloc::Global;
 
 fn copied(alloc: Global, test: &Option<Expr>) -> Result<Option<Expr>, NoMemory>
-    ensures { IfOk result (λ t. test_of t ≡ view.test_of test.now) }
+    ensures { IfOk result (λ t. test_of t ≡ test_of test.now) }
 {
     match test {
         None => Ok(None),
@@ -58,7 +57,7 @@ fn put_function(
     name: &Name,
     test: &Option<Expr>,
 ) -> Result<(), NoMemory>
-    ensures { OnOk result (watches_of events.new.items ≡ watches_of events.old.items ++ (record { site = function (function_number program.now name.now); test = view.test_of test.now }) ∷ []) }
+    ensures { OnOk result (watches_of events.new.items ≡ watches_of events.old.items ++ (record { site = function (function_number program.now name.now); test = test_of test.now }) ∷ []) }
 {
     let site = EventSite::Function(function_number(program, name));
     let test = copied(alloc, test)?;

@@ -7,7 +7,7 @@ ghost use Rattle.loom_lang.specs.Rules.{locals_of};
 ghost use Rattle.loom_command.specs.FilterFault.{most_events};
 ghost use Rattle.loom_law.specs.Filter.{function, is_site};
 ghost use Rattle.loom_plan.specs.Sets.{event_numbers};
-ghost use Rattle.loom_plan.specs.PlanView.{site_of, watch_of, watches_of, plan_of_rows};
+ghost use Rattle.loom_plan.specs.PlanView.{site_of, event_watch_of, watches_of, plan_of_rows};
 ghost use Rattle.loom_plan.specs.PlaceEvents.{watched_from, picks_from, names_from, place_names, ArePicks, IsWatchRow, AreRows};
 ghost use Rattle.loom_plan.specs.Table.{site_if, sites_of, sites_at, inner_places, AreSiteRows, same_names, GoOn, pick_if, HasPick, HaveFewLocals};
 
@@ -72,7 +72,7 @@ fn put_pick(
     x: &EventWatch,
 ) -> Result<(), NoMemory>
     requires { length names.now ≤ local_limit }
-    ensures { OnOk result (HasPick names.now picks.old.items picks.new.items (pick_if (site_of at) n (watch_of x.now))) }
+    ensures { OnOk result (HasPick names.now picks.old.items picks.new.items (pick_if (site_of at) n (event_watch_of x.now))) }
 {
     if is_site(at, x.site) {
         let test = numbered_if(alloc, names, &x.test)?;

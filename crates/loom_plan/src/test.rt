@@ -2,7 +2,7 @@
 ghost use Rattle.std.specs.Prelude.{◌≡◌, ◌≤◌, IfOk, length};
 ghost use Rattle.loom_tree.specs.Tree.{expression_of, var};
 ghost use Rattle.loom_lang.specs.Limits.{local_limit};
-ghost use Rattle.loom_plan.specs.PlanView.{test_of};
+ghost use Rattle.loom_filter.specs.View.{test_of};
 ghost use Rattle.loom_plan.specs.Tests.{Means, MeansIf};
 
 use crate::plan::LocalTest;

@@ -4,7 +4,7 @@ use Rattle.loom_trace.specs.declared.request.Request.{Request}
 use Rattle.loom_trace.specs.declared.request.Request.TheVariants as r
 use Rattle.loom_lang.specs.Trace.{Act, trap}
 use Rattle.loom_lang.specs.Acts.{Deed}
-use Rattle.loom_event.specs.Event.{Event, event_of_deed}
+use Rattle.loom_event.specs.TargetEvent.{TargetEvent, event_of_deed}
 use Rattle.loom_event.specs.Replay.{Store, IsAllowed, after_act, after_event, replay, AreAllowed}
 use Rattle.loom_event.specs.Answer.{trap_deed, IsAnswered}
 use Rattle.loom_store.specs.declared.answer.Answer.TheVariants as a
@@ -47,25 +47,25 @@ deeds s t q (a.Trapped n) new h = trap_leads s t q (trap_deed q) n new (trap_of 
 
 -- One event more
 
-pub replay_more : (s : Store) (xs : List Event) (y : Event) → replay s (xs ++ y ∷ []) ≡ after_event (replay s xs) y
+pub replay_more : (s : Store) (xs : List TargetEvent) (y : TargetEvent) → replay s (xs ++ y ∷ []) ≡ after_event (replay s xs) y
 replay_more s [] y = refl
 replay_more s (x ∷ xs) y = replay_more (after_event s x) xs y
 
-allowed_more : (s : Store) (xs : List Event) (y : Event) → AreAllowed s xs → IsAllowed (replay s xs) y → AreAllowed s (xs ++ y ∷ [])
+allowed_more : (s : Store) (xs : List TargetEvent) (y : TargetEvent) → AreAllowed s xs → IsAllowed (replay s xs) y → AreAllowed s (xs ++ y ∷ [])
 allowed_more s [] y h may = (may, tt)
 allowed_more s (x ∷ xs) y h may = (h.0, allowed_more (after_event s x) xs y h.1 may)
 
-none_more : (xs : List Event) → xs ++ [] ≡ xs
+none_more : (xs : List TargetEvent) → xs ++ [] ≡ xs
 none_more [] = refl
 none_more (x ∷ xs) = ap (λ z. x ∷ z) (none_more xs)
 
-with_deed : (s : Store) (xs : List Event) (t : ℕ) (q : Request) (o : Option Deed) (new : Store) → AreAllowed s xs → LeadsTo (replay s xs) t q o new
+with_deed : (s : Store) (xs : List TargetEvent) (t : ℕ) (q : Request) (o : Option Deed) (new : Store) → AreAllowed s xs → LeadsTo (replay s xs) t q o new
     → (new ≡ replay s (xs ++ deed_events t o)) × AreAllowed s (xs ++ deed_events t o)
 with_deed s xs t q None new h is =
     let same : xs ++ [] ≡ xs = none_more xs in
     (is ∙ ap (replay s) (sym same), subst (AreAllowed s) (sym same) h)
 with_deed s xs t q (Some d) new h leads =
-    let y : Event = event_of_deed t d in
+    let y : TargetEvent = event_of_deed t d in
     (leads.1.1 ∙ sym (replay_more s xs y), allowed_more s xs y h leads.1.0)
 
 pub replays : HasReplays

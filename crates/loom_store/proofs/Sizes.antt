@@ -10,7 +10,7 @@ use Rattle.loom_lang.specs.Rules.{cells_in, cell_count}
 use Rattle.loom_lang.specs.Trace.{Act, begin, end, trap, read, write, lock, unlock, down, up, spawn, join, print}
 use Rattle.loom_trace.specs.declared.entry.What.TheVariants as w
 use Rattle.loom_trace.specs.declared.request.Request.TheVariants as r
-use Rattle.loom_event.specs.Event.{Event}
+use Rattle.loom_event.specs.TargetEvent.{TargetEvent}
 use Rattle.loom_event.specs.Replay.{ThreadState, Store, first_values, nobody, start, new_thread, thread_at, with_thread, counted_down, counted_up, after_act, after_event, replay}
 use Rattle.loom_store.specs.Laws.{CanAllWait, HasLastingWaits, CanAlwaysAnswer}
 
@@ -59,7 +59,7 @@ act_sizes s t (spawn c f vs) = record { words = refl; holders = refl; semas = re
 act_sizes s t (join c) = same_sizes s
 act_sizes s t (print v) = same_sizes s
 
-replay_sizes : (s : Store) (xs : List Event) → HasSizes s (replay s xs)
+replay_sizes : (s : Store) (xs : List TargetEvent) → HasSizes s (replay s xs)
 replay_sizes s [] = same_sizes s
 replay_sizes s (x ∷ xs) = sizes_on s (after_event s x) (replay (after_event s x) xs) (act_sizes s x.thread x.act) (replay_sizes (after_event s x) xs)
 
@@ -98,13 +98,13 @@ many_cells (x ∷ ws) =
     let rest : List ℤ = flat_map (λ (x : Word). first_values x.cells x.first) ws in
     length-append (first_values x.cells x.first) rest ∙ ap (λ z. z + length rest) (many_values x x.cells refl) ∙ ap (λ z. cells_in x + z) (many_cells ws)
 
-words_of : (p : Source) (most : ℕ) (xs : List Event) → length (Store.words (replay (start p most) xs)) ≡ cell_count p.words
+words_of : (p : Source) (most : ℕ) (xs : List TargetEvent) → length (Store.words (replay (start p most) xs)) ≡ cell_count p.words
 words_of p most xs = HasSizes.words (replay_sizes (start p most) xs) ∙ many_cells p.words
 
-mutexes_of : (p : Source) (most : ℕ) (xs : List Event) → length (Store.holders (replay (start p most) xs)) ≡ length p.mutexes
+mutexes_of : (p : Source) (most : ℕ) (xs : List TargetEvent) → length (Store.holders (replay (start p most) xs)) ≡ length p.mutexes
 mutexes_of p most xs = HasSizes.holders (replay_sizes (start p most) xs) ∙ length-map p.mutexes nobody
 
-semas_of : (p : Source) (most : ℕ) (xs : List Event) → length (Store.semas (replay (start p most) xs)) ≡ length p.semas
+semas_of : (p : Source) (most : ℕ) (xs : List TargetEvent) → length (Store.semas (replay (start p most) xs)) ≡ length p.semas
 semas_of p most xs = HasSizes.semas (replay_sizes (start p most) xs) ∙ length-map p.semas (λ (x : Sema). x.first)
 
 pub always_answers : CanAlwaysAnswer

@@ -6,7 +6,7 @@ use Rattle.loom_trace.specs.declared.entry.What.{What}
 use Rattle.loom_trace.specs.declared.entry.What.TheVariants as w
 use Rattle.loom_trace.specs.declared.request.Request.{Request}
 use Rattle.loom_trace.specs.declared.request.Request.TheVariants as r
-use Rattle.loom_event.specs.Event.{event_of_deed}
+use Rattle.loom_event.specs.TargetEvent.{event_of_deed}
 use Rattle.loom_event.specs.Replay.{ThreadState, Store, thread_at, IsAllowed, after_event, IsDisabled}
 use Rattle.loom_event.specs.Answer.{asks_begin, grant_deed, trap_deed, request_for}
 use Rattle.loom_store.specs.declared.answer.Answer.{Answer}

@@ -6,7 +6,7 @@ use Rattle.loom_trace.specs.declared.request.Request.{Request}
 use Rattle.loom_trace.specs.declared.request.Request.TheVariants as r
 use Rattle.loom_lang.specs.Trace.{Cause, trap, reason}
 use Rattle.loom_lang.specs.Acts.{Deed}
-use Rattle.loom_event.specs.Event.{Event, event_of_deed}
+use Rattle.loom_event.specs.TargetEvent.{TargetEvent, event_of_deed}
 use Rattle.loom_event.specs.Replay.{Store, start, IsAllowed, after_event, replay, AreAllowed, IsCaused, IsDisabled}
 use Rattle.loom_event.specs.Answer.{deed, trap_deed, HasNumbers, IsAnswered, request_for}
 use Rattle.loom_store.specs.declared.answer.Answer.{Answer}
@@ -46,13 +46,13 @@ abbrev pub HasDeeds : Type 0
 HasDeeds = (s : Store) (t : ℕ) (q : Request) (x : Answer) (new : Store) → Answers s t q x new → LeadsTo s t q (deed_of q x) new
 
 -- the events of one deed
-abbrev pub deed_events : ℕ → Option Deed → List Event
+abbrev pub deed_events : ℕ → Option Deed → List TargetEvent
 deed_events t None = []
 deed_events t (Some d) = event_of_deed t d ∷ []
 
 -- The store of allowed events is, behind an answer, that of these and of what was answered, and they are allowed.
 abbrev pub HasReplays : Type 0
-HasReplays = (s : Store) (xs : List Event) (t : ℕ) (q : Request) (x : Answer) (new : Store) → AreAllowed s xs → Answers (replay s xs) t q x new
+HasReplays = (s : Store) (xs : List TargetEvent) (t : ℕ) (q : Request) (x : Answer) (new : Store) → AreAllowed s xs → Answers (replay s xs) t q x new
     → (new ≡ replay s (xs ++ deed_events t (deed_of q x))) × AreAllowed s (xs ++ deed_events t (deed_of q x))
 
 -- What a store is asked
@@ -63,8 +63,8 @@ CanAllWait = (s : Store) (what : What) → IsDisabled s what → CanWait s what
 
 -- What a thread can wait for it still can behind any events: a thread that was spawned stays so.
 abbrev pub HasLastingWaits : Type 0
-HasLastingWaits = (s : Store) (xs : List Event) (what : What) → CanWait s what → CanWait (replay s xs) what
+HasLastingWaits = (s : Store) (xs : List TargetEvent) (what : What) → CanWait s what → CanWait (replay s xs) what
 
 -- The store of a run can answer each request that has the program's numbers.
 abbrev pub CanAlwaysAnswer : Type 0
-CanAlwaysAnswer = (p : Source) (most : ℕ) (xs : List Event) (q : Request) → HasNumbers p q → CanAnswer (replay (start p most) xs) q
+CanAlwaysAnswer = (p : Source) (most : ℕ) (xs : List TargetEvent) (q : Request) → HasNumbers p q → CanAnswer (replay (start p most) xs) q

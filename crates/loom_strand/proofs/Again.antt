@@ -13,7 +13,7 @@ use Rattle.loom_trace.specs.declared.entry.What.TheVariants as w
 use Rattle.loom_trace.specs.declared.request.Request.{Request}
 use Rattle.loom_trace.specs.declared.request.Request.TheVariants as r
 use Rattle.loom_lang.specs.Acts.{Deed}
-use Rattle.loom_event.specs.Event.{entry_by}
+use Rattle.loom_event.specs.TargetEvent.{entry_by}
 use Rattle.loom_event.specs.Answer.{grant_deed, trap_deed, IsEntryOf, IsGrantOf, IsAnswerTo, IsBlockedFor}
 use Rattle.loom_law.specs.Walk.{Plans, Queue, Walk, Acts, AsksFor}
 use Rattle.loom_law.specs.ThreadPart.{Own, IsPart, AsksToAct}

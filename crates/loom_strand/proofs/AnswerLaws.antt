@@ -17,7 +17,7 @@ use Rattle.loom_trace.specs.declared.entry.Entry.TheVariants as e
 use Rattle.loom_trace.specs.declared.entry.What.{What}
 use Rattle.loom_trace.specs.declared.request.Request.{Request}
 use Rattle.loom_trace.specs.declared.request.Request.TheVariants as r
-use Rattle.loom_event.specs.Event.{entry_by}
+use Rattle.loom_event.specs.TargetEvent.{entry_by}
 use Rattle.loom_event.specs.Answer.{IsGrantOf, IsAnswerTo, IsBlockedFor, IsFunctionWith}
 use Rattle.loom_law.specs.Walk.{tick_after, tick, blocked, PartStep, makes, items}
 use Rattle.loom_law.specs.Walk as walk

@@ -10,8 +10,8 @@ use Rattle.loom_flow.specs.declared.code.Ask.{Ask}
 use Rattle.loom_flow.specs.declared.code.Ask.TheVariants.{Read, ReadCell, Write, WriteCell, Lock, Unlock, Down, Up, Join, Print, Spawn}
 use Rattle.loom_flow.specs.declared.code.Control.{Control}
 use Rattle.loom_flow.specs.declared.code.Control.TheVariants.{Begin, Done, Edge, Jump, JumpIfZero, Call, Return, Out}
-use Rattle.loom_flow.specs.declared.code.Step.{Step}
-use Rattle.loom_flow.specs.declared.code.Step.TheVariants as s
+use Rattle.loom_flow.specs.declared.code.CodeStep.{CodeStep}
+use Rattle.loom_flow.specs.declared.code.CodeStep.TheVariants as s
 use Rattle.loom_flow.specs.declared.code.Instr.{Instr}
 use Rattle.loom_flow.specs.declared.code.Entrance.{Entrance}
 use Rattle.loom_flow.specs.Flow.{Flow, resume, return_point}
@@ -120,7 +120,7 @@ control_nears c z i (Call f n) h leads =
 control_nears c z i (Return a) h leads = λ e. omega arith
 control_nears c z i Out h leads = λ e. omega arith
 
-step_nears : (c : Flow) (z : State) (i : Instr) (x : Step) → z.at < length c.code → LeadsInto (λ to. to < length c.code) c z.at i x → Nears c (ahead c (before z)) (of_step c z i x)
+step_nears : (c : Flow) (z : State) (i : Instr) (x : CodeStep) → z.at < length c.code → LeadsInto (λ to. to < length c.code) c z.at i x → Nears c (ahead c (before z)) (of_step c z i x)
 step_nears c z i (s.Compute x) h leads = compute_nears c z i.line x h
 step_nears c z i (s.Ask x) h leads = ask_nears c (ahead c (before z)) z i.line x
 step_nears c z i (s.Control x) h leads = control_nears c z i x h leads

@@ -18,7 +18,7 @@ use Rattle.loom_flow.specs.FlatCode.{lowered}
 use Rattle.loom_flow.specs.Code.{IsLowered}
 use Rattle.loom_flow.proofs.Traces.{lowered_traces}
 use Rattle.loom_trace.specs.declared.entry.Entry.{Entry}
-use Rattle.loom_event.specs.Event.{entry_by}
+use Rattle.loom_event.specs.TargetEvent.{entry_by}
 use Rattle.loom_event.specs.Answer.{grant_deed, trap_deed, IsAnswerTo}
 use Rattle.loom_strand.specs.declared.reply.Reply.TheVariants as a
 use Rattle.loom_strand.specs.Reply.{reply_of}

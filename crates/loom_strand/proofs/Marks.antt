@@ -11,8 +11,8 @@ use Rattle.loom_flow.specs.declared.code.Ask.{Ask}
 use Rattle.loom_flow.specs.declared.code.Ask.TheVariants.{Read, ReadCell, Write, WriteCell, Lock, Unlock, Down, Up, Join, Print, Spawn}
 use Rattle.loom_flow.specs.declared.code.Control.{Control}
 use Rattle.loom_flow.specs.declared.code.Control.TheVariants.{Begin, Done, Edge, Jump, JumpIfZero, Call, Return, Out}
-use Rattle.loom_flow.specs.declared.code.Step.{Step}
-use Rattle.loom_flow.specs.declared.code.Step.TheVariants as s
+use Rattle.loom_flow.specs.declared.code.CodeStep.{CodeStep}
+use Rattle.loom_flow.specs.declared.code.CodeStep.TheVariants as s
 use Rattle.loom_flow.specs.declared.code.Instr.{Instr}
 use Rattle.loom_flow.specs.declared.code.Entrance.{Entrance}
 use Rattle.loom_flow.specs.Flow.{Flow}
@@ -89,7 +89,7 @@ control_marks c z i (Call f n) l e is =
 control_marks c z i (Return a) l e is = tt
 control_marks c z i Out l e is = tt
 
-step_marks : (c : Flow) (z : State) (i : Instr) (x : Step) → IsLowered c → slice_get c.code z.at ≡ Some i → i.step ≡ x → Marks c i.place (of_step c z i x)
+step_marks : (c : Flow) (z : State) (i : Instr) (x : CodeStep) → IsLowered c → slice_get c.code z.at ≡ Some i → i.step ≡ x → Marks c i.place (of_step c z i x)
 step_marks c z i (s.Compute x) l e is = compute_marks c i.place z i.line x
 step_marks c z i (s.Ask x) l e is = ask_marks c i.place z i.line x
 step_marks c z i (s.Control x) l e is = control_marks c z i x l e is

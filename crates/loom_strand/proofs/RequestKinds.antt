@@ -8,8 +8,8 @@ use Rattle.loom_flow.specs.declared.code.Array.{Array}
 use Rattle.loom_flow.specs.declared.code.Compute.TheVariants.{Move, Negate, Invert, Apply, Discard}
 use Rattle.loom_flow.specs.declared.code.Ask.TheVariants.{Read, ReadCell, Write, WriteCell, Lock, Unlock, Down, Up, Join, Print, Spawn}
 use Rattle.loom_flow.specs.declared.code.Control.TheVariants.{Begin, Done, Edge, Jump, JumpIfZero, Call, Return, Out}
-use Rattle.loom_flow.specs.declared.code.Step.{Step}
-use Rattle.loom_flow.specs.declared.code.Step.TheVariants as s
+use Rattle.loom_flow.specs.declared.code.CodeStep.{CodeStep}
+use Rattle.loom_flow.specs.declared.code.CodeStep.TheVariants as s
 use Rattle.loom_flow.specs.declared.code.Instr.{Instr}
 use Rattle.loom_flow.specs.declared.code.Entrance.{Entrance}
 use Rattle.loom_flow.specs.Flow.{Flow}
@@ -44,7 +44,7 @@ asked_cell P line a (pos k) more f trap =
 asked_cell P line a (negsuc k) more f trap = trap
 
 -- what an instruction of this line may ask for
-abbrev Requests : (Request → Type 0) → State → ℕ → Step → Type 0
+abbrev Requests : (Request → Type 0) → State → ℕ → CodeStep → Type 0
 Requests P z line (s.Compute (Apply o a b d)) = P (r.Trap line 1)
 Requests P z line (s.Ask (Read w d)) = P (r.Read line w)
 Requests P z line (s.Ask (ReadCell a n d)) = ((k : ℕ) → k < a.count → P (r.Read line (a.first + k))) × P (r.Trap line 2)
@@ -64,7 +64,7 @@ asked_calls : (P : Request → Type 0) (c : Flow) (z : State) (place f : ℕ) (v
 asked_calls P c z place f vs None = tt
 asked_calls P c z place f vs (Some e) = tt
 
-step_asked : (P : Request → Type 0) (c : Flow) (z : State) (i : Instr) (x : Step) → Requests P z i.line x → Asked P (of_step c z i x)
+step_asked : (P : Request → Type 0) (c : Flow) (z : State) (i : Instr) (x : CodeStep) → Requests P z i.line x → Asked P (of_step c z i x)
 step_asked P c z i (s.Compute (Move a d)) h = tt
 step_asked P c z i (s.Compute (Negate a d)) h = tt
 step_asked P c z i (s.Compute (Invert a d)) h = tt
@@ -112,7 +112,7 @@ asked_at P c over h f = tt
 spawn_length : (z : State) (n : ℕ) → n ≤ length z.values → length (argument_values z n) ≡ n
 spawn_length z n h = omega (arith, h, length-reverse (take n z.values), length-take n z.values)
 
-numbers_asked : (c : Flow) (z : State) (line : ℕ) (x : Step) → HasProgramNumbers c.program x → KeepsDepth c z.at (length z.values) x → Requests (HasNumbers c.program) z line x
+numbers_asked : (c : Flow) (z : State) (line : ℕ) (x : CodeStep) → HasProgramNumbers c.program x → KeepsDepth c z.at (length z.values) x → Requests (HasNumbers c.program) z line x
 numbers_asked c z line (s.Compute (Apply o a b d)) h depth = inl refl
 numbers_asked c z line (s.Compute _) h depth = tt
 numbers_asked c z line (s.Ask (Read w d)) h depth = h

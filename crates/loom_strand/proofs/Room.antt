@@ -2,8 +2,8 @@
 use Rattle.std.proofs.Common.{ℕ, suc, ◌+◌, ◌-◌, ◌≡◌, ◌≤◌, ◌<◌, List, [], ◌∷◌, Some, sym, subst, slice_get, length, arith}
 use Rattle.loom_flow.specs.declared.code.Control.{Control}
 use Rattle.loom_flow.specs.declared.code.Control.TheVariants.{Begin, Done, Edge, Jump, JumpIfZero, Call, Return, Out}
-use Rattle.loom_flow.specs.declared.code.Step.{Step}
-use Rattle.loom_flow.specs.declared.code.Step.TheVariants as s
+use Rattle.loom_flow.specs.declared.code.CodeStep.{CodeStep}
+use Rattle.loom_flow.specs.declared.code.CodeStep.TheVariants as s
 use Rattle.loom_flow.specs.declared.code.Instr.{Instr}
 use Rattle.loom_flow.specs.Flow.{Flow}
 use Rattle.loom_flow.specs.State.{Frame}
@@ -30,7 +30,7 @@ control_fits c at d i (Call f n) leads depth = omega (arith, depth.0, fits c (su
 control_fits c at d i (Return a) leads depth = omega (arith, depth)
 control_fits c at d i Out leads depth = omega (arith, depth)
 
-step_fits : (c : Flow) (at d : ℕ) (i : Instr) (x : Step) → LeadsInto (λ to. to < length c.code) c at i x → KeepsDepth c at d x → d - takes_off x + puts_on x ≤ most_values c
+step_fits : (c : Flow) (at d : ℕ) (i : Instr) (x : CodeStep) → LeadsInto (λ to. to < length c.code) c at i x → KeepsDepth c at d x → d - takes_off x + puts_on x ≤ most_values c
 step_fits c at d i (s.Compute x) leads depth = fits c (suc at) _ leads depth.1
 step_fits c at d i (s.Ask x) leads depth = fits c (suc at) _ (next_asked c at i x leads) depth.1
 step_fits c at d i (s.Control x) leads depth = control_fits c at d i x leads depth
@@ -53,7 +53,7 @@ control_takes c at d (Call f n) depth = omega (arith, depth.0)
 control_takes c at d (Return a) depth = omega (arith, depth)
 control_takes c at d Out depth = omega arith
 
-step_takes : (c : Flow) (at d : ℕ) (x : Step) → KeepsDepth c at d x → takes_off x ≤ d
+step_takes : (c : Flow) (at d : ℕ) (x : CodeStep) → KeepsDepth c at d x → takes_off x ≤ d
 step_takes c at d (s.Compute x) depth = depth.0
 step_takes c at d (s.Ask x) depth = depth.0
 step_takes c at d (s.Control x) depth = control_takes c at d x depth

@@ -18,8 +18,8 @@ use Rattle.loom_flow.specs.declared.code.Ask.{Ask}
 use Rattle.loom_flow.specs.declared.code.Ask.TheVariants.{Read, ReadCell, Write, WriteCell, Lock, Unlock, Down, Up, Join, Print, Spawn}
 use Rattle.loom_flow.specs.declared.code.Control.{Control}
 use Rattle.loom_flow.specs.declared.code.Control.TheVariants.{Begin, Done, Edge, Jump, JumpIfZero, Call, Return, Out}
-use Rattle.loom_flow.specs.declared.code.Step.{Step}
-use Rattle.loom_flow.specs.declared.code.Step.TheVariants as s
+use Rattle.loom_flow.specs.declared.code.CodeStep.{CodeStep}
+use Rattle.loom_flow.specs.declared.code.CodeStep.TheVariants as s
 use Rattle.loom_flow.specs.declared.code.Instr.{Instr}
 use Rattle.loom_flow.specs.declared.code.Entrance.{Entrance}
 use Rattle.loom_flow.specs.Flow.{Flow, resume, return_point}
@@ -150,7 +150,7 @@ pub next_asked : (c : Flow) (at : ℕ) (i : Instr) (x : Ask) → LeadsInto (λ t
 next_asked c at i (Spawn f n d) leads = leads.0
 next_asked c at i _ leads = leads
 
-step_keeps : (c : Flow) (z : State) (i : Instr) (x : Step) → IsBefore c z → AreEntered c → i.place < length c.sites
+step_keeps : (c : Flow) (z : State) (i : Instr) (x : CodeStep) → IsBefore c z → AreEntered c → i.place < length c.sites
     → LeadsInto (λ to. to < length c.code) c z.at i x → KeepsDepth c z.at (length z.values) x → Keeps c (of_step c z i x)
 step_keeps c z i (s.Compute x) h starts site leads depth = compute_keeps c z i.line x h leads depth
 step_keeps c z i (s.Ask x) h starts site leads depth = ask_keeps c z i.line x h (next_asked c z.at i x leads) depth

@@ -5,7 +5,7 @@ use Rattle.loom_lang.specs.Places.{Place, entry, back_edge, line_of_place}
 use Rattle.loom_lang.specs.Trace.{Item, Locals, Act, begin, end, trap, read, write, lock, unlock, down, up, spawn, join, print, made, begins, done, edge, enter, out}
 use Rattle.loom_trace.specs.declared.entry.Entry.{Entry}
 use Rattle.loom_trace.specs.declared.entry.Entry.TheVariants as e
-use Rattle.loom_event.specs.Event.{entry_by}
+use Rattle.loom_event.specs.TargetEvent.{entry_by}
 use Rattle.loom_law.specs.Walk.{tick_after}
 use Rattle.loom_law.specs.Filter.{statement, function}
 use Rattle.loom_trace.specs.declared.entry.What.{What}

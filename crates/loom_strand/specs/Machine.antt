@@ -6,8 +6,8 @@ use Rattle.loom_flow.specs.declared.code.Ask.{Ask}
 use Rattle.loom_flow.specs.declared.code.Ask.TheVariants.{Spawn}
 use Rattle.loom_flow.specs.declared.code.Control.{Control}
 use Rattle.loom_flow.specs.declared.code.Control.TheVariants.{Call}
-use Rattle.loom_flow.specs.declared.code.Step.{Step}
-use Rattle.loom_flow.specs.declared.code.Step.TheVariants as s
+use Rattle.loom_flow.specs.declared.code.CodeStep.{CodeStep}
+use Rattle.loom_flow.specs.declared.code.CodeStep.TheVariants as s
 use Rattle.loom_flow.specs.declared.code.Instr.{Instr}
 use Rattle.loom_flow.specs.declared.code.Site.{Site}
 use Rattle.loom_flow.specs.Flow.{Flow, resume}
@@ -65,7 +65,7 @@ abbrev pub HasNext : State → Type 0
 HasNext z = suc z.at < 2 ^ 64
 
 -- There is room for the values that a step of an instruction leaves.
-abbrev pub HasRoomFor : Machine → Step → Type 0
+abbrev pub HasRoomFor : Machine → CodeStep → Type 0
 HasRoomFor m x = length m.state.values - takes_off x + puts_on x ≤ m.most_values
 
 -- What an answer gives has its place: there is room for it, or it goes into a local of the frame.
@@ -100,11 +100,11 @@ HasFirstCall sites [] = Unit {0}
 HasFirstCall sites (f ∷ fs) = HasCall sites f.site
 
 -- The function that is called has an entrance, and few arguments.
-abbrev pub CallsFunction : Flow → Control → Type 0
-CallsFunction c (Call f n) = (f < length c.entrances) × (n ≤ param_limit)
-CallsFunction c _ = Unit {0}
+abbrev pub HasCallFor : Flow → Control → Type 0
+HasCallFor c (Call f n) = (f < length c.entrances) × (n ≤ param_limit)
+HasCallFor c _ = Unit {0}
 
-abbrev pub TakesFewArguments : Flow → Step → Type 0
+abbrev pub TakesFewArguments : Flow → CodeStep → Type 0
 TakesFewArguments c (s.Compute x) = Unit {0}
 TakesFewArguments c (s.Ask x) = AskHasFewArguments x
-TakesFewArguments c (s.Control x) = CallsFunction c x
+TakesFewArguments c (s.Control x) = HasCallFor c x

@@ -1,6 +1,6 @@
 //! What instructions ask for, and how they take the answer.
 ghost use Rattle.std.specs.Prelude.{ℕ, ◌+◌, ◌≡◌, ◌<◌, ◌≤◌, length};
-ghost use Rattle.loom_flow.specs.declared.code.Step.TheVariants as s;
+ghost use Rattle.loom_flow.specs.declared.code.CodeStep.TheVariants as s;
 ghost use Rattle.loom_lang.specs.Limits.{param_limit};
 ghost use Rattle.loom_flow.specs.Depth.{pops, takes_off};
 ghost use Rattle.loom_flow.specs.Laws.{HasLocal, HasLocals};

@@ -7,7 +7,7 @@ ghost use Rattle.loom_strand.specs.Reply.{reply_of, want_behind, IsAsking, CanFo
 use crate::ask::take;
 use crate::machine::Machine;
 use crate::stage::{Birth, Stage};
-use loom_flow::code::Step;
+use loom_flow::code::CodeStep;
 use loom_flow::flow::Flow;
 use loom_trace::entry::Entry;
 use loom_trace::request::Request;
@@ -88,9 +88,9 @@ fn give(machine: &mut Machine, flow: &Flow, v: i64)
     ensures { TakesAnswer machine.old machine.new v (progress flow.now (position machine.old)) }
 {
     match flow.code()[machine.at()].step {
-        Step::Compute(_) => unreachable!(),
-        Step::Ask(ask) => take(machine, ask, v),
-        Step::Control(_) => unreachable!(),
+        CodeStep::Compute(_) => unreachable!(),
+        CodeStep::Ask(ask) => take(machine, ask, v),
+        CodeStep::Control(_) => unreachable!(),
     }
 }
 

@@ -4,7 +4,7 @@ ghost use Rattle.loom_lang.specs.Values.{is_zero, negated, inverted};
 ghost use Rattle.loom_flow.specs.declared.code.Operand.TheVariants as o;
 ghost use Rattle.loom_flow.specs.declared.code.Compute.TheVariants as compute;
 ghost use Rattle.loom_flow.specs.declared.code.Control.TheVariants as control;
-ghost use Rattle.loom_flow.specs.declared.code.Step.TheVariants as s;
+ghost use Rattle.loom_flow.specs.declared.code.CodeStep.TheVariants as s;
 ghost use Rattle.loom_flow.specs.Code.{IsLowered};
 ghost use Rattle.loom_flow.specs.Flow.{Flow};
 ghost use Rattle.loom_lang.specs.Limits.{param_limit};
@@ -15,7 +15,7 @@ ghost use Rattle.loom_flow.specs.Progress.{goes, of_compute, of_control, of_step
 ghost use Rattle.loom_lang.specs.Trace.{out};
 ghost use Rattle.loom_strand.specs.declared.machine.Phase.TheVariants as phase;
 ghost use Rattle.loom_strand.specs.declared.step_result.StepResult.TheVariants as t;
-ghost use Rattle.loom_strand.specs.Machine.{position, frames_below, HasNext, HasRoomFor, CallsFunction, TakesFewArguments};
+ghost use Rattle.loom_strand.specs.Machine.{position, frames_below, HasNext, HasRoomFor, HasCallFor, TakesFewArguments};
 ghost use Rattle.loom_strand.specs.StepResult.{StepsTo, Advances};
 ghost use Rattle.loom_strand.specs.StrandInvariant.{IsSoundPosition, HasRoom, IsLeaving};
 
@@ -23,7 +23,7 @@ use crate::ask::request;
 use crate::machine::{FRAMES_BELOW, Machine, Phase};
 use crate::operator::{inverted, operator_value};
 use crate::step_result::{DIVISION, FRAMES, Mark, StepResult};
-use loom_flow::code::{Compute, Control, Instr, Operand, Step, Target};
+use loom_flow::code::{CodeStep, Compute, Control, Instr, Operand, Target};
 use loom_flow::flow::Flow;
 use loom_trace::request::Request;
 use loom_tree::expression::Op;
@@ -112,7 +112,7 @@ fn control(machine: &mut Machine, flow: &Flow, i: &Instr, x: Control) -> StepRes
     requires phase { machine.old.phase ≡ phase.Before }
     requires before { HasNext machine.old.state }
     requires frames { machine.old.most_frames ≡ frames_below }
-    requires calls { CallsFunction flow.now x }
+    requires calls { HasCallFor flow.now x }
     requires values { takes_off (s.Control x) ≤ length machine.old.state.values }
     requires locals { HasLocals (s.Control x) }
     ensures { StepsTo flow.now i.now.place machine.old machine.new result (of_control flow.now machine.old.state i.now.line i.now.place x) }
@@ -162,9 +162,9 @@ fn step(machine: &mut Machine, flow: &Flow, i: &Instr) -> StepResult
     ensures { StepsTo flow.now i.now.place machine.old machine.new result (of_step flow.now machine.old.state i.now i.now.step) }
 {
     match i.step {
-        Step::Compute(x) => compute(machine, i.line, x),
-        Step::Ask(x) => StepResult::Asks(request(machine, i.line, x)),
-        Step::Control(x) => control(machine, flow, i, x),
+        CodeStep::Compute(x) => compute(machine, i.line, x),
+        CodeStep::Ask(x) => StepResult::Asks(request(machine, i.line, x)),
+        CodeStep::Control(x) => control(machine, flow, i, x),
     }
 }
 

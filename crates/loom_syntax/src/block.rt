@@ -8,7 +8,7 @@ ghost use Rattle.loom_syntax.specs.BlockView.{around_of, block_of, next_if, next
 ghost use Rattle.loom_syntax.specs.FileReader as m;
 
 use crate::statement::{Part, PartNext, Simple, Test, begin_part, part_step};
-use crate::token::Spot;
+use crate::token::TokenSpot;
 use loom_tree::expression::Expr;
 use loom_tree::name::NoMemory;
 use loom_tree::statement::{Kind, Stmt, Stmts};
@@ -259,7 +259,7 @@ fn statement_step(
     alloc: Global,
     opened: Vec<OpenBlock>,
     before: Vec<Stmt>,
-    spot: Spot,
+    spot: TokenSpot,
 ) -> Result<Option<BlockNext>, NoMemory>
     ensures { IfOk result (λ r. next_if r ≡ m.statement_step plain (stack_of opened.items) (statements_of before.items) (spot_of spot.entry)) }
 {
@@ -281,7 +281,7 @@ fn after_if(
     opened: Vec<OpenBlock>,
     mut before: Vec<Stmt>,
     first: If,
-    spot: Spot,
+    spot: TokenSpot,
 ) -> Result<Option<BlockNext>, NoMemory>
     ensures { IfOk result (λ r. next_if r ≡ m.block_step plain (m.At (stack_of opened.items) (statements_of before.items) (m.AfterIf first.line (expression_of first.condition) (body_of first.body))) (spot_of spot.entry)) }
 {
@@ -304,7 +304,7 @@ fn else_brace(
     opened: Vec<OpenBlock>,
     before: Vec<Stmt>,
     first: If,
-    spot: Spot,
+    spot: TokenSpot,
 ) -> Result<Option<BlockNext>, NoMemory>
     ensures { IfOk result (λ r. next_if r ≡ m.block_step plain (m.At (stack_of opened.items) (statements_of before.items) (m.ElseBrace first.line (expression_of first.condition) (body_of first.body))) (spot_of spot.entry)) }
 {
@@ -324,7 +324,7 @@ fn within_step(
     before: Vec<Stmt>,
     line: u32,
     q: Box<Part>,
-    spot: Spot,
+    spot: TokenSpot,
 ) -> Result<Option<BlockNext>, NoMemory>
     ensures { IfOk result (λ r. next_if r ≡ m.block_step plain (m.At (stack_of opened.items) (statements_of before.items) (m.Within line (part.part_of q.value))) (spot_of spot.entry)) }
 {
@@ -348,7 +348,7 @@ pub fn begin_block(alloc: Global) -> BlockReader
 pub fn block_step(
     alloc: Global,
     inside: BlockReader,
-    spot: Spot,
+    spot: TokenSpot,
 ) -> Result<Option<BlockNext>, NoMemory>
     ensures { IfOk result (λ r. next_if r ≡ m.block_step plain (block_of inside) (spot_of spot.entry)) }
 {

@@ -13,7 +13,7 @@ ghost use Rattle.loom_syntax.specs.FileReader as m;
 
 use crate::block::{BlockNext, BlockReader, begin_block, block_step};
 use crate::item::{Declaration, Head, HeadNext, InitialValue, begin_item, head_step};
-use crate::token::Spot;
+use crate::token::TokenSpot;
 use loom_tree::item::{FileItem, FileItems};
 use loom_tree::name::{Name, NoMemory};
 use loom_tree::statement::{Func, Names};
@@ -132,7 +132,7 @@ fn insided(
 fn between_step(
     alloc: Global,
     items: Vec<FileItem>,
-    spot: Spot,
+    spot: TokenSpot,
 ) -> Result<Option<FileReader>, NoMemory>
     ensures { IfOk result (λ r. reader_if r ≡ m.feed plain (m.Between (items_of items.items)) (spot_of spot.entry)) }
 {
@@ -147,7 +147,7 @@ fn heading_step(
     items: Vec<FileItem>,
     line: u32,
     h: Box<Head>,
-    spot: Spot,
+    spot: TokenSpot,
 ) -> Result<Option<FileReader>, NoMemory>
     ensures { IfOk result (λ r. reader_if r ≡ m.feed plain (m.Heading (items_of items.items) line (head_of h.value)) (spot_of spot.entry)) }
 {
@@ -162,7 +162,7 @@ fn function_step(
     items: Vec<FileItem>,
     header: Header,
     inside: BlockReader,
-    spot: Spot,
+    spot: TokenSpot,
 ) -> Result<Option<FileReader>, NoMemory>
     ensures { IfOk result (λ r. reader_if r ≡ m.feed plain (m.InFunction (items_of items.items) (header_of header) (block_of inside)) (spot_of spot.entry)) }
 {
@@ -173,7 +173,11 @@ fn function_step(
 }
 
 /// What is behind a token; `None` where it can't follow. An `Err` is want of memory.
-pub fn feed(alloc: Global, reader: FileReader, spot: Spot) -> Result<Option<FileReader>, NoMemory>
+pub fn feed(
+    alloc: Global,
+    reader: FileReader,
+    spot: TokenSpot,
+) -> Result<Option<FileReader>, NoMemory>
     ensures { IfOk result (λ r. reader_if r ≡ m.feed plain (reader_of reader) (spot_of spot.entry)) }
 {
     match reader {

@@ -4,7 +4,7 @@ ghost use Rattle.loom_syntax.specs.TokenView.{token_of};
 ghost use Rattle.loom_syntax.specs.HeadView.{head_if, head_of, next_if, next_of};
 ghost use Rattle.loom_syntax.specs.Head as m;
 
-use crate::token::{Number, Spot};
+use crate::token::{Number, TokenSpot};
 use loom_tree::name::{Name, NoMemory};
 use loom_tree::token::{Keyword, Sign};
 use std::alloc::Global;
@@ -87,7 +87,7 @@ pub enum HeadNext {
 }
 
 /// The first token of an item; `None` where no item begins with it.
-pub fn begin_item(spot: Spot) -> Option<Head>
+pub fn begin_item(spot: TokenSpot) -> Option<Head>
     ensures { head_if result ≡ m.begin_item (token_of spot.entry) }
 {
     if spot.is_keyword(Keyword::Shared) {
@@ -110,7 +110,7 @@ fn next_where(follows: bool, next: HeadNext) -> Option<HeadNext>
     if follows { Some(next) } else { None }
 }
 
-fn shared_name(alloc: Global, spot: Spot) -> Result<Option<HeadNext>, NoMemory>
+fn shared_name(alloc: Global, spot: TokenSpot) -> Result<Option<HeadNext>, NoMemory>
     ensures { IfOk result (λ r. next_if r ≡ m.head_step m.SharedName (token_of spot.entry)) }
 {
     match spot.name(alloc)? {
@@ -119,7 +119,7 @@ fn shared_name(alloc: Global, spot: Spot) -> Result<Option<HeadNext>, NoMemory>
     }
 }
 
-fn shared_named(x: Name, spot: Spot) -> Option<HeadNext>
+fn shared_named(x: Name, spot: TokenSpot) -> Option<HeadNext>
     ensures { next_if result ≡ m.shared_named x (token_of spot.entry) }
 {
     if spot.is_sign(Sign::Semicolon) {
@@ -133,7 +133,7 @@ fn shared_named(x: Name, spot: Spot) -> Option<HeadNext>
     }
 }
 
-fn shared_value(x: Name, spot: Spot) -> Option<HeadNext>
+fn shared_value(x: Name, spot: TokenSpot) -> Option<HeadNext>
     ensures { next_if result ≡ m.shared_value x (token_of spot.entry) }
 {
     if spot.is_minus() {
@@ -145,7 +145,7 @@ fn shared_value(x: Name, spot: Spot) -> Option<HeadNext>
     }
 }
 
-fn shared_minus(x: Name, spot: Spot) -> Option<HeadNext>
+fn shared_minus(x: Name, spot: TokenSpot) -> Option<HeadNext>
     ensures { next_if result ≡ m.head_step (m.SharedMinus x) (token_of spot.entry) }
 {
     match spot.number() {
@@ -154,7 +154,7 @@ fn shared_minus(x: Name, spot: Spot) -> Option<HeadNext>
     }
 }
 
-fn shared_cells(x: Name, spot: Spot) -> Option<HeadNext>
+fn shared_cells(x: Name, spot: TokenSpot) -> Option<HeadNext>
     ensures { next_if result ≡ m.head_step (m.SharedCells x) (token_of spot.entry) }
 {
     match spot.number() {
@@ -163,7 +163,7 @@ fn shared_cells(x: Name, spot: Spot) -> Option<HeadNext>
     }
 }
 
-fn mutex_name(alloc: Global, spot: Spot) -> Result<Option<HeadNext>, NoMemory>
+fn mutex_name(alloc: Global, spot: TokenSpot) -> Result<Option<HeadNext>, NoMemory>
     ensures { IfOk result (λ r. next_if r ≡ m.head_step m.MutexName (token_of spot.entry)) }
 {
     match spot.name(alloc)? {
@@ -172,7 +172,7 @@ fn mutex_name(alloc: Global, spot: Spot) -> Result<Option<HeadNext>, NoMemory>
     }
 }
 
-fn sema_name(alloc: Global, spot: Spot) -> Result<Option<HeadNext>, NoMemory>
+fn sema_name(alloc: Global, spot: TokenSpot) -> Result<Option<HeadNext>, NoMemory>
     ensures { IfOk result (λ r. next_if r ≡ m.head_step m.SemaName (token_of spot.entry)) }
 {
     match spot.name(alloc)? {
@@ -181,7 +181,7 @@ fn sema_name(alloc: Global, spot: Spot) -> Result<Option<HeadNext>, NoMemory>
     }
 }
 
-fn sema_named(x: Name, spot: Spot) -> Option<HeadNext>
+fn sema_named(x: Name, spot: TokenSpot) -> Option<HeadNext>
     ensures { next_if result ≡ m.sema_named x (token_of spot.entry) }
 {
     if spot.is_sign(Sign::Semicolon) {
@@ -193,7 +193,7 @@ fn sema_named(x: Name, spot: Spot) -> Option<HeadNext>
     }
 }
 
-fn sema_value(x: Name, spot: Spot) -> Option<HeadNext>
+fn sema_value(x: Name, spot: TokenSpot) -> Option<HeadNext>
     ensures { next_if result ≡ m.head_step (m.SemaValue x) (token_of spot.entry) }
 {
     let n = spot.number()?.value;
@@ -204,7 +204,7 @@ fn sema_value(x: Name, spot: Spot) -> Option<HeadNext>
     }
 }
 
-fn function_name(alloc: Global, spot: Spot) -> Result<Option<HeadNext>, NoMemory>
+fn function_name(alloc: Global, spot: TokenSpot) -> Result<Option<HeadNext>, NoMemory>
     ensures { IfOk result (λ r. next_if r ≡ m.head_step m.FnName (token_of spot.entry)) }
 {
     match spot.name(alloc)? {
@@ -213,7 +213,7 @@ fn function_name(alloc: Global, spot: Spot) -> Result<Option<HeadNext>, NoMemory
     }
 }
 
-fn function_first(alloc: Global, f: Name, spot: Spot) -> Result<Option<HeadNext>, NoMemory>
+fn function_first(alloc: Global, f: Name, spot: TokenSpot) -> Result<Option<HeadNext>, NoMemory>
     ensures { IfOk result (λ r. next_if r ≡ m.function_first f (token_of spot.entry)) }
 {
     if spot.is_sign(Sign::ParenClose) {
@@ -227,7 +227,7 @@ fn function_param(
     alloc: Global,
     f: Name,
     mut params: Vec<Name>,
-    spot: Spot,
+    spot: TokenSpot,
 ) -> Result<Option<HeadNext>, NoMemory>
     ensures { IfOk result (λ r. next_if r ≡ m.head_step (m.FnParam f params.items) (token_of spot.entry)) }
 {
@@ -240,7 +240,7 @@ fn function_param(
     }
 }
 
-fn function_next(f: Name, params: Vec<Name>, spot: Spot) -> Option<HeadNext>
+fn function_next(f: Name, params: Vec<Name>, spot: TokenSpot) -> Option<HeadNext>
     ensures { next_if result ≡ m.function_next f params.items (token_of spot.entry) }
 {
     if spot.is_sign(Sign::Comma) {
@@ -253,7 +253,7 @@ fn function_next(f: Name, params: Vec<Name>, spot: Spot) -> Option<HeadNext>
 }
 
 /// What is behind a token; `None` where it can't follow. An `Err` is want of memory.
-pub fn head_step(alloc: Global, head: Head, spot: Spot) -> Result<Option<HeadNext>, NoMemory>
+pub fn head_step(alloc: Global, head: Head, spot: TokenSpot) -> Result<Option<HeadNext>, NoMemory>
     ensures { IfOk result (λ r. next_if r ≡ m.head_step (head_of head) (token_of spot.entry)) }
 {
     Ok(match head {

@@ -6,7 +6,7 @@ ghost use Rattle.loom_syntax.specs.View.{line_tokens};
 ghost use Rattle.loom_syntax.specs.SyntaxError.{TellsFile};
 
 use crate::file::{FileReader, feed, finish};
-use crate::token::Spot;
+use crate::token::TokenSpot;
 use loom_tree::item::FileItems;
 use loom_tree::name::NoMemory;
 use loom_tree::token::Token;
@@ -40,7 +40,7 @@ pub fn read_items(alloc: Global, bytes: &[u8], tokens: &[Token]) -> Result<FileI
 {
     let mut reader = FileReader::Between(Vec::new(alloc));
     'read: for (i, token) in tokens.iter().enumerate() {
-        match feed(alloc, reader, Spot::new(bytes, *token))? {
+        match feed(alloc, reader, TokenSpot::new(bytes, *token))? {
             Some(next) => reader = next,
             None => return Err(SyntaxError::Syntax(i)),
         }

@@ -8,7 +8,7 @@ ghost use Rattle.loom_syntax.specs.TokenView.{token_of};
 ghost use Rattle.loom_syntax.specs.StatementView.{goal_of, next_if, next_of, part_if, part_of, purpose_of, simple_of, sync_of, assignee_of, test_of};
 ghost use Rattle.loom_syntax.specs.Part as m;
 
-use crate::token::Spot;
+use crate::token::TokenSpot;
 use loom_expression::part::Size;
 use loom_expression::reader::Reader;
 use loom_tree::expression::{Expr, Exprs};
@@ -221,7 +221,7 @@ fn ends(alloc: Global, s: Simple) -> Result<PartNext, NoMemory>
 }
 
 /// Whether the token ends an expression of this purpose, where it is whole.
-fn closes(purpose: &Purpose, spot: Spot) -> bool
+fn closes(purpose: &Purpose, spot: TokenSpot) -> bool
     ensures { result ≡ m.closes (purpose_of purpose.now) (token_of spot.entry) }
 {
     match purpose {
@@ -237,7 +237,7 @@ fn closes(purpose: &Purpose, spot: Spot) -> bool
 }
 
 /// What is behind an argument and the `,` or `)` that ends it. An `Err` is want of memory.
-fn argued(alloc: Global, goal: Goal, es: Vec<Expr>, spot: Spot) -> Result<PartNext, NoMemory>
+fn argued(alloc: Global, goal: Goal, es: Vec<Expr>, spot: TokenSpot) -> Result<PartNext, NoMemory>
     ensures { IfOk result (λ n. next_of n ≡ m.behind_argument (goal_of goal) (expressions_of es.items) (token_of spot.entry)) }
 {
     if spot.is_sign(Sign::Comma) {
@@ -248,7 +248,7 @@ fn argued(alloc: Global, goal: Goal, es: Vec<Expr>, spot: Spot) -> Result<PartNe
 }
 
 /// What is behind an expression and the token that ends it. An `Err` is want of memory.
-fn closed(alloc: Global, purpose: Purpose, e: Expr, spot: Spot) -> Result<PartNext, NoMemory>
+fn closed(alloc: Global, purpose: Purpose, e: Expr, spot: TokenSpot) -> Result<PartNext, NoMemory>
     ensures { IfOk result (λ n. next_of n ≡ m.behind_expression (purpose_of purpose) (expression_of e) (token_of spot.entry)) }
 {
     match purpose {
@@ -267,7 +267,7 @@ fn closed(alloc: Global, purpose: Purpose, e: Expr, spot: Spot) -> Result<PartNe
 }
 
 /// Whether the token ends the expression.
-fn ends_here(purpose: &Purpose, reader: &Reader, spot: Spot) -> bool
+fn ends_here(purpose: &Purpose, reader: &Reader, spot: TokenSpot) -> bool
     ensures { result ≡ m.ends_here (purpose_of purpose.now) (reader_of reader.now) (token_of spot.entry) }
 {
     reader.is_whole() && closes(purpose, spot)
@@ -278,7 +278,7 @@ fn close(
     alloc: Global,
     purpose: Purpose,
     reader: Reader,
-    spot: Spot,
+    spot: TokenSpot,
 ) -> Result<Option<PartNext>, NoMemory>
     ensures { IfOk result (λ r. next_if r ≡ expression.after (expression.finish expression.plain (reader_of reader)) (λ e. Some (m.behind_expression (purpose_of purpose) e (token_of spot.entry)))) }
 {
@@ -293,7 +293,7 @@ fn feed(
     alloc: Global,
     purpose: Box<Purpose>,
     reader: Reader,
-    spot: Spot,
+    spot: TokenSpot,
 ) -> Result<Option<PartNext>, NoMemory>
     ensures { IfOk result (λ r. next_if r ≡ expression.after (expression.feed expression.plain (reader_of reader) (token_of spot.entry)) (λ s. Some (m.PartNext.Goes (m.Reading (purpose_of purpose.value) s)))) }
 {
@@ -308,7 +308,7 @@ fn read_step(
     alloc: Global,
     purpose: Box<Purpose>,
     reader: Reader,
-    spot: Spot,
+    spot: TokenSpot,
 ) -> Result<Option<PartNext>, NoMemory>
     ensures { IfOk result (λ r. next_if r ≡ m.read_step expression.plain (purpose_of purpose.value) (reader_of reader) (token_of spot.entry)) }
 {
@@ -320,7 +320,11 @@ fn read_step(
 }
 
 /// The first token of an expression. An `Err` is want of memory.
-fn read_first(alloc: Global, purpose: Purpose, spot: Spot) -> Result<Option<PartNext>, NoMemory>
+fn read_first(
+    alloc: Global,
+    purpose: Purpose,
+    spot: TokenSpot,
+) -> Result<Option<PartNext>, NoMemory>
     ensures { IfOk result (λ r. next_if r ≡ m.read_step expression.plain (purpose_of purpose) expression.fresh (token_of spot.entry)) }
 {
     read_step(alloc, Box::new(alloc, purpose)?, Reader::new(alloc), spot)
@@ -363,7 +367,7 @@ fn begin_keyword(alloc: Global, room: bool, keyword: Keyword) -> Result<Option<P
 
 /// The first token of a statement, where a block may open or where none may. `None` where no statement begins with it. An
 /// `Err` is want of memory.
-pub fn begin_part(alloc: Global, room: bool, spot: Spot) -> Result<Option<Part>, NoMemory>
+pub fn begin_part(alloc: Global, room: bool, spot: TokenSpot) -> Result<Option<Part>, NoMemory>
     ensures { IfOk result (λ r. part_if r ≡ m.begin_part room (token_of spot.entry)) }
 {
     if let TokenKind::Keyword(keyword) = spot.token.kind {
@@ -375,7 +379,7 @@ pub fn begin_part(alloc: Global, room: bool, spot: Spot) -> Result<Option<Part>,
     }
 }
 
-fn let_name(alloc: Global, spot: Spot) -> Result<Option<PartNext>, NoMemory>
+fn let_name(alloc: Global, spot: TokenSpot) -> Result<Option<PartNext>, NoMemory>
     ensures { IfOk result (λ r. next_if r ≡ m.part_step expression.plain m.LetName (token_of spot.entry)) }
 {
     match spot.name(alloc)? {
@@ -384,7 +388,7 @@ fn let_name(alloc: Global, spot: Spot) -> Result<Option<PartNext>, NoMemory>
     }
 }
 
-fn let_assign(name: Name, spot: Spot) -> Option<PartNext>
+fn let_assign(name: Name, spot: TokenSpot) -> Option<PartNext>
     ensures { next_if result ≡ m.part_step expression.plain (m.LetAssign name) (token_of spot.entry) }
 {
     if spot.is_sign(Sign::Assign) {
@@ -395,7 +399,7 @@ fn let_assign(name: Name, spot: Spot) -> Option<PartNext>
     }
 }
 
-fn started(alloc: Global, name: Name, spot: Spot) -> Result<Option<PartNext>, NoMemory>
+fn started(alloc: Global, name: Name, spot: TokenSpot) -> Result<Option<PartNext>, NoMemory>
     ensures { IfOk result (λ r. next_if r ≡ m.behind_name name (token_of spot.entry)) }
 {
     if spot.is_sign(Sign::Assign) {
@@ -410,7 +414,7 @@ fn started(alloc: Global, name: Name, spot: Spot) -> Result<Option<PartNext>, No
     }
 }
 
-fn right_of(alloc: Global, target: Assignee, spot: Spot) -> Result<Option<PartNext>, NoMemory>
+fn right_of(alloc: Global, target: Assignee, spot: TokenSpot) -> Result<Option<PartNext>, NoMemory>
     ensures { IfOk result (λ r. next_if r ≡ m.right_of expression.plain (assignee_of target) (token_of spot.entry)) }
 {
     if spot.is_keyword(Keyword::Spawn) {
@@ -426,7 +430,7 @@ fn right_named(
     alloc: Global,
     target: Assignee,
     f: Name,
-    spot: Spot,
+    spot: TokenSpot,
 ) -> Result<Option<PartNext>, NoMemory>
     ensures { IfOk result (λ r. next_if r ≡ m.right_named expression.plain (assignee_of target) f (token_of spot.entry)) }
 {
@@ -444,7 +448,11 @@ fn right_named(
     }
 }
 
-fn spawn_name(alloc: Global, target: Assignee, spot: Spot) -> Result<Option<PartNext>, NoMemory>
+fn spawn_name(
+    alloc: Global,
+    target: Assignee,
+    spot: TokenSpot,
+) -> Result<Option<PartNext>, NoMemory>
     ensures { IfOk result (λ r. next_if r ≡ m.part_step expression.plain (m.SpawnName (assignee_of target)) (token_of spot.entry)) }
 {
     match spot.name(alloc)? {
@@ -453,7 +461,7 @@ fn spawn_name(alloc: Global, target: Assignee, spot: Spot) -> Result<Option<Part
     }
 }
 
-fn spawn_open(target: Assignee, f: Name, spot: Spot) -> Option<PartNext>
+fn spawn_open(target: Assignee, f: Name, spot: TokenSpot) -> Option<PartNext>
     ensures { next_if result ≡ m.part_step expression.plain (m.SpawnOpen (assignee_of target) f) (token_of spot.entry) }
 {
     if spot.is_sign(Sign::ParenOpen) {
@@ -464,7 +472,7 @@ fn spawn_open(target: Assignee, f: Name, spot: Spot) -> Option<PartNext>
     }
 }
 
-fn sync_name(alloc: Global, sync: SyncKind, spot: Spot) -> Result<Option<PartNext>, NoMemory>
+fn sync_name(alloc: Global, sync: SyncKind, spot: TokenSpot) -> Result<Option<PartNext>, NoMemory>
     ensures { IfOk result (λ r. next_if r ≡ m.part_step expression.plain (m.SyncName (sync_of sync)) (token_of spot.entry)) }
 {
     match spot.name(alloc)? {
@@ -473,7 +481,7 @@ fn sync_name(alloc: Global, sync: SyncKind, spot: Spot) -> Result<Option<PartNex
     }
 }
 
-fn test_open(alloc: Global, test: Test, spot: Spot) -> Result<Option<PartNext>, NoMemory>
+fn test_open(alloc: Global, test: Test, spot: TokenSpot) -> Result<Option<PartNext>, NoMemory>
     ensures { IfOk result (λ r. next_if r ≡ m.part_step expression.plain (m.TestOpen (test_of test)) (token_of spot.entry)) }
 {
     if spot.is_sign(Sign::ParenOpen) {
@@ -483,7 +491,7 @@ fn test_open(alloc: Global, test: Test, spot: Spot) -> Result<Option<PartNext>, 
     }
 }
 
-fn arguments_step(alloc: Global, goal: Goal, spot: Spot) -> Result<Option<PartNext>, NoMemory>
+fn arguments_step(alloc: Global, goal: Goal, spot: TokenSpot) -> Result<Option<PartNext>, NoMemory>
     ensures { IfOk result (λ r. next_if r ≡ m.arguments_step expression.plain (goal_of goal) (token_of spot.entry)) }
 {
     if spot.is_sign(Sign::ParenClose) {
@@ -494,7 +502,7 @@ fn arguments_step(alloc: Global, goal: Goal, spot: Spot) -> Result<Option<PartNe
     }
 }
 
-fn return_step(alloc: Global, spot: Spot) -> Result<Option<PartNext>, NoMemory>
+fn return_step(alloc: Global, spot: TokenSpot) -> Result<Option<PartNext>, NoMemory>
     ensures { IfOk result (λ r. next_if r ≡ m.return_step expression.plain (token_of spot.entry)) }
 {
     if spot.is_sign(Sign::Semicolon) {
@@ -504,7 +512,12 @@ fn return_step(alloc: Global, spot: Spot) -> Result<Option<PartNext>, NoMemory>
     }
 }
 
-fn set_assign(alloc: Global, x: Name, i: Expr, spot: Spot) -> Result<Option<PartNext>, NoMemory>
+fn set_assign(
+    alloc: Global,
+    x: Name,
+    i: Expr,
+    spot: TokenSpot,
+) -> Result<Option<PartNext>, NoMemory>
     ensures { IfOk result (λ r. next_if r ≡ m.part_step expression.plain (m.SetAssign x (expression_of i)) (token_of spot.entry)) }
 {
     if spot.is_sign(Sign::Assign) {
@@ -514,7 +527,7 @@ fn set_assign(alloc: Global, x: Name, i: Expr, spot: Spot) -> Result<Option<Part
     }
 }
 
-fn end_step(s: Box<Simple>, spot: Spot) -> Option<PartNext>
+fn end_step(s: Box<Simple>, spot: TokenSpot) -> Option<PartNext>
     ensures { next_if result ≡ m.part_step expression.plain (m.Ending (simple_of s.value)) (token_of spot.entry) }
 {
     if spot.is_sign(Sign::Semicolon) {
@@ -524,7 +537,7 @@ fn end_step(s: Box<Simple>, spot: Spot) -> Option<PartNext>
     }
 }
 
-fn test_brace(test: Test, e: Expr, spot: Spot) -> Option<PartNext>
+fn test_brace(test: Test, e: Expr, spot: TokenSpot) -> Option<PartNext>
     ensures { next_if result ≡ m.part_step expression.plain (m.TestBrace (test_of test) (expression_of e)) (token_of spot.entry) }
 {
     if spot.is_sign(Sign::BraceOpen) {
@@ -535,7 +548,7 @@ fn test_brace(test: Test, e: Expr, spot: Spot) -> Option<PartNext>
 }
 
 /// What is behind a token; `None` where it can't follow. An `Err` is want of memory.
-pub fn part_step(alloc: Global, part: Part, spot: Spot) -> Result<Option<PartNext>, NoMemory>
+pub fn part_step(alloc: Global, part: Part, spot: TokenSpot) -> Result<Option<PartNext>, NoMemory>
     ensures { IfOk result (λ r. next_if r ≡ m.part_step expression.plain (part_of part) (token_of spot.entry)) }
 {
     match part {

@@ -18,7 +18,7 @@ pub struct Number {
 
 /// A token, and the bytes of its text.
 #[derive(Clone, Copy, Drop)]
-pub struct Spot<'a> {
+pub struct TokenSpot<'a> {
     /// The bytes of the text.
     pub bytes: &'a [u8],
     /// The token, with its places in them.
@@ -28,19 +28,19 @@ pub struct Spot<'a> {
     ghost within: { token.end ≤ length bytes.now },
 }
 
-impl<'a> Spot<'a> {
+impl<'a> TokenSpot<'a> {
     ghost use Rattle.loom_tree.specs.Token.{line_token_of};
     ghost use Rattle.loom_tree.specs.Token.{IsWithin};
     ghost use Rattle.loom_syntax.specs.Tests.{is_keyword, is_minus, is_sign, name_of, number_of};
     ghost use Rattle.loom_syntax.specs.TokenView.{number_if, spot_of, token_of};
 
     /// A token whose places lie within the text with these bytes.
-    pub fn new(bytes: &'a [u8], token: Token) -> Spot<'a>
+    pub fn new(bytes: &'a [u8], token: Token) -> TokenSpot<'a>
         requires small { IsSmall token.kind }
         requires within { IsWithin bytes.now token }
         ensures { spot_of result ≡ line_token_of bytes.now token }
     {
-        Spot { bytes, token }
+        TokenSpot { bytes, token }
     }
 
     /// Whether it is this keyword.

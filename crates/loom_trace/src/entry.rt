@@ -1,7 +1,7 @@
 //! The entries of a journal.
 ghost use Rattle.std.specs.Prelude.{◌≡◌};
 
-use crate::row::{Args, Events, PlaceRow};
+use crate::row::{Args, EventNumbers, PlaceRow};
 
 /// How a run ends.
 #[derive(Clone, Copy, Debug, Drop, PartialEq, Eq)]
@@ -126,14 +126,14 @@ pub enum Entry {
         thread: u8,
         line: u32,
         k: u8,
-        events: Events,
+        events: EventNumbers,
     },
     /// Has done what these events name.
     Past {
         thread: u8,
         line: u32,
         k: u8,
-        events: Events,
+        events: EventNumbers,
     },
     /// Returns from a function that has a region.
     Back {

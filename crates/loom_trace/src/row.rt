@@ -70,12 +70,12 @@ impl Args {
 
 /// The numbers of events: 32 at most.
 #[derive(Clone, Copy, Debug, Drop)]
-pub struct Events {
+pub struct EventNumbers {
     cells: [u8; EVENT_LIMIT],
     len: usize,
 }
 
-impl Model for Events {
+impl Model for EventNumbers {
     ghost use Rattle.std.specs.Prelude.{List, ℕ, length, take};
     ghost use Rattle.loom_trace.specs.Limits.{event_limit};
     ghost use Rattle.loom_trace.specs.Rows.{IsRow, cells_of, used_length, cells_back};
@@ -94,12 +94,12 @@ impl Model for Events {
     } };
 }
 
-impl Events {
+impl EventNumbers {
     /// No event.
-    pub fn none() -> Events
+    pub fn none() -> EventNumbers
         ensures { result ≡ [] }
     {
-        Events {
+        EventNumbers {
             cells: [0; EVENT_LIMIT],
             len: 0,
         }

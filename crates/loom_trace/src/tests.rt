@@ -7,7 +7,7 @@ use crate::journal::Journal;
 use crate::limits::ENTRY_LIMIT;
 use crate::line::Line;
 use crate::places::Places;
-use crate::row::{Args, Events, PlaceRow};
+use crate::row::{Args, EventNumbers, PlaceRow};
 use crate::text::put_entry;
 use rows::{ACTS, OPERATIONS};
 
@@ -20,8 +20,8 @@ fn most_args() -> Args {
     args
 }
 
-fn three_events() -> Events {
-    let mut events = Events::none();
+fn three_events() -> EventNumbers {
+    let mut events = EventNumbers::none();
     events.push(1);
     events.push(9);
     events.push(32);

@@ -8,7 +8,7 @@ ghost use Rattle.loom_trace.specs.Parts.{thread_before, thread_and_line, place_p
 use crate::entry::{Ending, Entry, What};
 use crate::line::Line;
 use crate::number::{Number, put_numbers};
-use crate::row::{Args, Events, PlaceRow};
+use crate::row::{Args, EventNumbers, PlaceRow};
 
 // The thread and the line of what a thread does, and a space.
 fn put_thread(thread: u8, at: u32, out: &mut Line)
@@ -91,7 +91,7 @@ fn put_spawn(child: u8, func: u8, args: &Args, out: &mut Line)
     put_numbers(args.as_slice(), out);
 }
 
-fn put_events(k: u8, events: &Events, out: &mut Line)
+fn put_events(k: u8, events: &EventNumbers, out: &mut Line)
     requires { length out.old ≤ front_limit }
     ensures { out.new ≡ out.old ++ spaced (decimal k ∷ map decimal events.now) }
 {

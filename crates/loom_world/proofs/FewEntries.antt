@@ -4,7 +4,7 @@ use Rattle.loom_trace.specs.Limits.{thread_limit}
 use Rattle.loom_trace.specs.declared.entry.Entry.{Entry}
 use Rattle.loom_trace.specs.declared.entry.Entry.TheVariants as e
 use Rattle.loom_lang.specs.Numbers.{function_number}
-use Rattle.loom_event.specs.Event.{Event}
+use Rattle.loom_event.specs.TargetEvent.{TargetEvent}
 use Rattle.loom_event.specs.Entries.{thread_of, is_some_thread, thread_entries, is_stopped}
 use Rattle.loom_event.specs.Replay.{Store, main_thread, start, after_event, replay, AreAllowed}
 use Rattle.loom_law.specs.Control.{Command, command_at, Control, first_control}
@@ -89,7 +89,7 @@ few_entries b h = let least : 0 ≤ b.limit = omega arith in few_from (setting b
 
 -- Threads
 
-few_along : (s : Store) (xs : List Event) → s.most ≤ thread_limit → AreAllowed s xs → length s.spawned ≤ thread_limit → length (Store.spawned (replay s xs)) ≤ thread_limit
+few_along : (s : Store) (xs : List TargetEvent) → s.most ≤ thread_limit → AreAllowed s xs → length s.spawned ≤ thread_limit → length (Store.spawned (replay s xs)) ≤ thread_limit
 few_along s [] small ok few = few
 few_along s (x ∷ xs) small ok few =
     let same : Store.most (after_event s x) ≡ s.most = replay_most s (x ∷ []) in

@@ -7,7 +7,7 @@ use Rattle.loom_trace.specs.declared.entry.Entry.{Entry}
 use Rattle.loom_trace.specs.declared.entry.Entry.TheVariants as e
 use Rattle.loom_trace.specs.declared.entry.What.{What}
 use Rattle.loom_trace.specs.declared.request.Request.{Request}
-use Rattle.loom_event.specs.Event.{Event, entry_by, event_of_deed}
+use Rattle.loom_event.specs.TargetEvent.{TargetEvent, entry_by, event_of_deed}
 use Rattle.loom_event.specs.Entries.{thread_of, is_thread}
 use Rattle.loom_trace.specs.Limits.{thread_limit}
 use Rattle.loom_event.specs.Replay.{ThreadState, Store, start, thread_at, after_event, after_act, replay, IsAllowed, IsAllowedAct, IsRunning, AwaitsBegin}
@@ -178,7 +178,7 @@ pub event_goes : {p : Source} {limit : ℕ} {es : List Entry} {st : Store} → (
 event_goes {p} {limit} {es} {st} g runs t z there lives q d asks answer allowed =
     let s : Setting = plain_setting p limit in
     let x : Entry = entry_by t d.line d.act in
-    let y : Event = event_of_deed t d in
+    let y : TargetEvent = event_of_deed t d in
     let of : thread_of x ≡ Some t = entry_thread t d.line d.act in
     let theirs = subst (λ (w : Own). AsksToAct p (plans s) w q) (own_is g t z) asks in
     let there_so : thread_at (replay (start p thread_limit) g.lawful.events) t ≡ Some z = ap (λ w. thread_at w t) g.store ∙ there in

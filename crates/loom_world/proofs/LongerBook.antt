@@ -12,7 +12,7 @@ use Rattle.loom_trace.specs.declared.entry.What.{What}
 use Rattle.loom_trace.specs.declared.entry.What.TheVariants as w
 use Rattle.loom_trace.specs.declared.request.Request.{Request}
 use Rattle.loom_trace.specs.declared.request.Request.TheVariants as r
-use Rattle.loom_event.specs.Event.{entry_by, event_of_deed}
+use Rattle.loom_event.specs.TargetEvent.{entry_by, event_of_deed}
 use Rattle.loom_event.specs.Answer.{grant_deed, trap_deed, trap_at, cause_of, request_for, IsEntryOf, IsAnswerTo, IsBlockedFor, IsFunctionWith, HasNumbers}
 use Rattle.loom_event.specs.Answer as event
 use Rattle.loom_event.specs.Entries.{thread_of, is_thread, thread_entries, is_some_thread, last_of_thread}
@@ -33,7 +33,7 @@ use Rattle.loom_store.proofs.Deeds.{deeds}
 use Rattle.loom_store.proofs.Sizes.{all_wait, lasting_waits}
 use Rattle.loom_world.specs.Book.{Book, plain_setting, setting, front}
 use Rattle.loom_world.specs.Idle.{IsClosed}
-use Rattle.loom_world.specs.Threads.{IsSameThread, KeepsThreads}
+use Rattle.loom_world.specs.Threads.{HasSameCall, KeepsThreads}
 use Rattle.loom_world.specs.Asking.{Asks, MakesAnswer}
 use Rattle.loom_world.specs.BookInvariant.{Notes, wait_in, wait_of, IsAtEnd, BookInvariant}
 use Rattle.loom_world.specs.Entry.{line_in, IsGrantWith, IsEntryFor}
@@ -242,7 +242,7 @@ keeps_deed st new t q (Some d) h u x is = found (thread_at new u) refl
     kept : IsOf (Some x) (thread_at new u)
     kept = subst (λ z. IsOf (Some x) (thread_at z u)) (sym h.1.1) (subst (λ z. IsOf z (thread_at (after_event st (event_of_deed t d)) u)) is (act_keeps st t d.act u))
 
-    found : (o : Option ThreadState) → thread_at new u ≡ o → (y : ThreadState) × (thread_at new u ≡ Some y) × IsSameThread x y
+    found : (o : Option ThreadState) → thread_at new u ≡ o → (y : ThreadState) × (thread_at new u ≡ Some y) × HasSameCall x y
     found None e = absurd (subst (IsOf (Some x)) e kept)
     found (Some y) e = let k = subst (IsOf (Some x)) e kept in (y, e, record { func = sym k.0; args = sym k.1 })
 

@@ -10,7 +10,7 @@ use Rattle.loom_trace.specs.declared.entry.What.{What}
 use Rattle.loom_trace.specs.declared.entry.What.TheVariants as w
 use Rattle.loom_trace.specs.declared.request.Request.{Request}
 use Rattle.loom_trace.specs.declared.request.Request.TheVariants as r
-use Rattle.loom_event.specs.Event.{entry_by, event_of_deed}
+use Rattle.loom_event.specs.TargetEvent.{entry_by, event_of_deed}
 use Rattle.loom_event.specs.Answer.{asks_begin, grant_deed, trap_deed, IsEntryOf, IsBlockedFor, request_for}
 use Rattle.loom_event.specs.Replay.{ThreadState, Store, thread_at, after_event, replay, start, IsDisabled}
 use Rattle.loom_law.specs.Walk.{Plans, tick, blocked}

@@ -10,7 +10,7 @@ use Rattle.loom_trace.specs.declared.entry.Entry.TheVariants as e
 use Rattle.loom_trace.specs.declared.entry.What.{What}
 use Rattle.loom_trace.specs.declared.request.Request.{Request}
 use Rattle.loom_trace.specs.declared.request.Request.TheVariants as r
-use Rattle.loom_event.specs.Event.{entry_by}
+use Rattle.loom_event.specs.TargetEvent.{entry_by}
 use Rattle.loom_event.specs.Answer.{trap_deed, IsEntryOf}
 use Rattle.loom_event.specs.Entries.{thread_of, is_thread, last_of_thread}
 use Rattle.loom_trace.specs.Limits.{thread_limit}

@@ -4,7 +4,7 @@ use Rattle.std.proofs.lemmas.List.{length-append}
 use Rattle.loom_lang.specs.Trace.{Act, begin, end, trap, read, write, lock, unlock, down, up, spawn, join, print}
 use Rattle.loom_trace.specs.Limits.{thread_limit}
 use Rattle.loom_tree.specs.Tree.{Source}
-use Rattle.loom_event.specs.Event.{Event}
+use Rattle.loom_event.specs.TargetEvent.{TargetEvent}
 use Rattle.loom_event.specs.Replay.{ThreadState, Store, start, new_thread, thread_at, with_thread, after_act, replay, IsAllowedAct}
 use Rattle.loom_law.proofs.Turns.{replay_most}
 
@@ -113,7 +113,7 @@ own_state s t (join c) x y h g = as_before _ x y h g
 own_state s t (print v) x y h g = as_before _ x y h g
 
 -- how many threads there may be
-pub most_threads : (p : Source) (xs : List Event) (st : Store) → replay (start p thread_limit) xs ≡ st → st.most ≡ thread_limit
+pub most_threads : (p : Source) (xs : List TargetEvent) (st : Store) → replay (start p thread_limit) xs ≡ st → st.most ≡ thread_limit
 most_threads p xs st h = ap Store.most (sym h) ∙ replay_most (start p thread_limit) xs
 
 -- there are no more than that

@@ -16,7 +16,7 @@ use Rattle.loom_world.specs.declared.choice.Turned.{Turned}
 use Rattle.loom_world.specs.declared.choice.Turned.TheVariants as r
 use Rattle.loom_world.specs.Book.{Book, IsOfSameRun}
 use Rattle.loom_world.specs.Turned.{maker, Turns}
-use Rattle.loom_world.specs.Threads.{IsBirthOf, IsStrandOf, HasStrands, IsSameThread, KeepsThreads, AreNew}
+use Rattle.loom_world.specs.Threads.{IsBirthOf, IsStrandOf, HasStrands, HasSameCall, KeepsThreads, AreNew}
 
 -- Each of a list
 
@@ -55,7 +55,7 @@ entries_few t (x ∷ es) = count_more t (thread_of x) x (entries_of t es) (threa
 
 -- Births
 
-birth_kept : (o n : Option ThreadState) (b : Option Birth) → ((x : ThreadState) → o ≡ Some x → (y : ThreadState) × (n ≡ Some y) × IsSameThread x y) → IsBirthOf o b → IsBirthOf n b
+birth_kept : (o n : Option ThreadState) (b : Option Birth) → ((x : ThreadState) → o ≡ Some x → (y : ThreadState) × (n ≡ Some y) × HasSameCall x y) → IsBirthOf o b → IsBirthOf n b
 birth_kept o n None k h = tt
 birth_kept None n (Some b) k h = absurd h
 birth_kept (Some x) n (Some b) k h =

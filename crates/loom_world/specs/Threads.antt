@@ -30,12 +30,12 @@ pub record HasStrands (b : Book) (ss : List Strand) : Type 0 where
   pub each : (i : ℕ) (s : Strand) → slice_get ss i ≡ Some s → IsStrandOf b (suc i) s
 
 -- A thread that was spawned keeps its function and its arguments.
-pub record IsSameThread (x y : ThreadState) : Type 0 where
+pub record HasSameCall (x y : ThreadState) : Type 0 where
   pub func : y.func ≡ x.func
   pub args : y.args ≡ x.args
 
 abbrev pub KeepsThreads : Store → Store → Type 0
-KeepsThreads old new = (t : ℕ) (x : ThreadState) → thread_at old t ≡ Some x → (y : ThreadState) × (thread_at new t ≡ Some y) × IsSameThread x y
+KeepsThreads old new = (t : ℕ) (x : ThreadState) → thread_at old t ≡ Some x → (y : ThreadState) × (thread_at new t ≡ Some y) × HasSameCall x y
 
 -- There is a strand for each thread that there may be, none of them started.
 pub record AreNew (p : Source) (n : ℕ) (ss : List Strand) : Type 0 where

@@ -1,8 +1,8 @@
 use Rattle.std.proofs.Common.{suc, ◌≡◌, ◌∷◌, ◌++◌, [], length, rules, ap, ◌∙◌, arith, None}
 use Rattle.loom_tree.specs.declared.statement.Stmts.{the_lemmas}
 use Rattle.loom_tree.specs.Tree.{end, body_of, behind, expression_of}
-use Rattle.loom_flow.specs.declared.expression.Spot.{Spot}
-use Rattle.loom_flow.specs.declared.code.Step.TheVariants as s
+use Rattle.loom_flow.specs.declared.expression.InstrSpot.{InstrSpot}
+use Rattle.loom_flow.specs.declared.code.CodeStep.TheVariants as s
 use Rattle.loom_flow.specs.declared.code.Control.TheVariants.{Edge}
 use Rattle.loom_flow.specs.FlatCode.{flat_body, site, instr, operand_steps}
 use Rattle.loom_flow.proofs.Bodies.{if_count, while_count, known_then, known_else, known_again, known_first, known_rest, counted_then, counted_else, counted_again, counted_first, counted_rest, count_first, some_first, sites_more, code_step, sites_step, if_sites, while_sites}
@@ -66,7 +66,7 @@ repeat-returns-clause-code t c =
     let back : c.spot_of-back.result ≡ record { line = c.args.spot.line; place = suc c.args.spot.place } = c.spot_of-back.ensures ∙ ap (λ n. record { line = c.args.spot.line; place = n }) behind in
     while_code c.args.scope.now.program c.args.scope.now.locals c.args.spot.line c.args.spot.place (expression_of c.args.e.now) (body_of c.args.a.now) _ _ _ _ _ _ _ _ _ _ _ _
     c.in_ok-push.ensures (c.in_ok-head.ensures ∙ ap length c.deref-2.ensures.value) c.in_ok-test.ensures.code c.in_ok-test.ensures.at c.in_ok-test.ensures.operand c.in_ok-body.ensures.code
-    (c.in_ok-push-2.ensures ∙ ap (λ (z : Spot). c.body.new.code.items ++ instr z.line z.place (s.Control (Edge c.in_ok-head.head)) ∷ []) back) (c.in_ok-done.ensures ∙ ap length c.deref-3.ensures.value) c.patch.ensures c.in_ok-push-3.ensures (omega arith)
+    (c.in_ok-push-2.ensures ∙ ap (λ (z : InstrSpot). c.body.new.code.items ++ instr z.line z.place (s.Control (Edge c.in_ok-head.head)) ∷ []) back) (c.in_ok-done.ensures ∙ ap length c.deref-3.ensures.value) c.patch.ensures c.in_ok-push-3.ensures (omega arith)
 
 pub repeat-returns-clause-sites : goal.repeat-returns-clause-sites
 repeat-returns-clause-sites t c =
@@ -93,14 +93,14 @@ pub body-statement-requires : goal.body-statement-requires
 body-statement-requires t c =
     let is : body_of c.walk.at.now ≡ behind c.spot_of-spot.result.line c.deref-in-More-2.result.now.kind (body_of c.in-More.rest.value) = rw (c.spot_of-spot.ensures, c.deref-in-More.ensures, c.deref-in-More-2.ensures) (ap body_of c.in-More.is) in
     let many = count_first c.args.scope.now.program c.args.scope.now.locals c.spot_of-spot.result.line c.deref-in-More-2.result.now.kind _ _ is in
-    let place : c.spot_of-spot.result.place ≡ length c.walk.sites.items = ap (λ (z : Spot). z.place) c.spot_of-spot.ensures ∙ ap length c.deref.ensures.value in
+    let place : c.spot_of-spot.result.place ≡ length c.walk.sites.items = ap (λ (z : InstrSpot). z.place) c.spot_of-spot.ensures ∙ ap length c.deref.ensures.value in
     let room = c.walk.invariant.room in
     (search (rules, the_lemmas), (known_first c.args.scope.now.program c.args.scope.now.locals _ _ _ _ is c.walk.invariant.known, (counted_first c.args.scope.now.program c.args.scope.now.locals _ _ _ _ is c.walk.invariant.counted, (place, omega arith))))
 
 pub body-walk-preserved : goal.body-walk-preserved
 body-walk-preserved t c =
     let is : body_of c.walk.at.now ≡ behind c.spot_of-spot.result.line c.deref-in-More-2.result.now.kind (body_of c.deref-at.result.now) = rw (c.spot_of-spot.ensures, c.deref-in-More.ensures, c.deref-in-More-2.ensures, c.deref-at.ensures) (ap body_of c.in-More.is) in
-    let place : c.spot_of-spot.result.place ≡ length c.walk.sites.items = ap (λ (z : Spot). z.place) c.spot_of-spot.ensures ∙ ap length c.deref.ensures.value in
+    let place : c.spot_of-spot.result.place ≡ length c.walk.sites.items = ap (λ (z : InstrSpot). z.place) c.spot_of-spot.ensures ∙ ap length c.deref.ensures.value in
     let many = count_first c.args.scope.now.program c.args.scope.now.locals c.spot_of-spot.result.line c.deref-in-More-2.result.now.kind _ _ is in
     let more = sites_more c.args.scope.now.program c.args.scope.now.locals (behind c.spot_of-spot.result.line c.deref-in-More-2.result.now.kind end) _ _ _ c.in_ok-statement.ensures.sites in
     let room = c.walk.invariant.room in

@@ -1,6 +1,6 @@
 use Rattle.std.proofs.Common.{◌≡◌, ◌+◌, drop}
 use Rattle.loom_filter.specs.View.{regions_of}
-use Rattle.loom_plan.specs.Counts.{regions_events}
+use Rattle.loom_filter.specs.Fault.{regions_events}
 use Rattle.loom_plan.proofs.clauses.regions_events.Given as goal
 
 abbrev pub invariant-add : goal.invariant-add

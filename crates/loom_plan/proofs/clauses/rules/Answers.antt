@@ -3,7 +3,7 @@ use Rattle.loom_filter.specs.declared.filter.Clause.{Clause}
 use Rattle.loom_filter.specs.View.{clause_of, clauses_of}
 use Rattle.loom_law.specs.Filter.{ruling_from, rulings_from}
 use Rattle.loom_plan.specs.declared.plan.Rule.{Rule}
-use Rattle.loom_plan.specs.Counts.{clause_events}
+use Rattle.loom_filter.specs.Fault.{clause_events}
 use Rattle.loom_plan.specs.PlanView.{rulings_of}
 use Rattle.loom_plan.proofs.Steps.{rules_more, clause_fits}
 use Rattle.loom_plan.proofs.clauses.rules.Goals as goal

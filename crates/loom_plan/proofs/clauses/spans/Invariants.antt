@@ -2,7 +2,7 @@ use Rattle.std.proofs.Common.{◌≡◌, ◌<◌, ◌≤◌, ◌+◌, ◌++◌, 
 use Rattle.loom_tree.specs.Tree.{Source}
 use Rattle.loom_law.specs.Filter.{ranges_from}
 use Rattle.loom_filter.specs.View.{regions_of}
-use Rattle.loom_plan.specs.Counts.{regions_events}
+use Rattle.loom_filter.specs.Fault.{regions_events}
 use Rattle.loom_plan.specs.PlanView.{span_ranges}
 use Rattle.loom_plan.proofs.clauses.spans.Given as goal
 

@@ -2,7 +2,7 @@ use Rattle.std.proofs.Common.{length, ◌≡◌, ◌<◌, sym, ap, ◌∙◌, ar
 use Rattle.loom_trace.specs.Limits.{event_limit}
 use Rattle.loom_trace.specs.Rows.{used_length}
 use Rattle.loom_trace.proofs.Cells.{row_push}
-use Rattle.loom_trace.proofs.row.Events.push.Goals as goal
+use Rattle.loom_trace.proofs.row.EventNumbers.push.Goals as goal
 
 pub invariant_of-self : goal.invariant_of-self
 invariant_of-self c =

@@ -6,12 +6,12 @@ use Rattle.loom_lang.specs.Trace.{Act, begin, end, trap, read, write, lock, unlo
 use Rattle.loom_lang.specs.Acts.{Deed}
 
 -- an act of a thread at a line
-pub record Event : Type 0 where
+pub record TargetEvent : Type 0 where
   pub thread : ℕ
   pub line : ℕ
   pub act : Act
 
-abbrev pub event_of_deed : ℕ → Deed → Event
+abbrev pub event_of_deed : ℕ → Deed → TargetEvent
 event_of_deed t d = record { thread = t; line = d.line; act = d.act }
 
 -- The entry of an event. Of a trap it tells the reason's number alone.
@@ -29,7 +29,7 @@ entry_by t l (spawn c f vs) = e.Spawn t l c f vs
 entry_by t l (join c) = e.Join t l c
 entry_by t l (print v) = e.Print t l v
 
-abbrev pub entry_of : Event → Entry
+abbrev pub entry_of : TargetEvent → Entry
 entry_of x = entry_by x.thread x.line x.act
 
 -- the target entries: those of a run of the program
@@ -53,6 +53,6 @@ targets [] = []
 targets (x ∷ xs) = if is_target x then x ∷ targets xs else targets xs
 
 -- what one thread did, in its order
-abbrev pub deeds : ℕ → List Event → List Deed
+abbrev pub deeds : ℕ → List TargetEvent → List Deed
 deeds t [] = []
 deeds t (x ∷ xs) = if x.thread == t then record { line = x.line; act = x.act } ∷ deeds t xs else deeds t xs

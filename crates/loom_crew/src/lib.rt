@@ -6,5 +6,3 @@
 
 pub mod alone;
 pub mod laws;
-#[cfg(test)]
-mod tests;

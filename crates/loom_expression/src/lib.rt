@@ -4,5 +4,3 @@
 pub mod expression;
 pub mod part;
 pub mod reader;
-#[cfg(test)]
-mod tests;

@@ -10,6 +10,4 @@ mod reader;
 mod region;
 mod scan;
 mod step;
-#[cfg(test)]
-mod tests;
 mod word;

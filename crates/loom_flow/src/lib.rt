@@ -13,5 +13,3 @@ pub mod laws;
 pub mod lower;
 mod numbers;
 mod statement;
-#[cfg(test)]
-mod tests;

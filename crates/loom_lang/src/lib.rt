@@ -19,6 +19,4 @@ pub mod parse;
 pub mod program;
 pub mod refusal;
 mod resolve;
-#[cfg(test)]
-mod tests;
 mod walk;

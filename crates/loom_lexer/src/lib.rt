@@ -2,7 +2,5 @@
 #![tactic(auto)]
 
 mod lexeme;
-#[cfg(test)]
-mod tests;
 pub mod text;
 mod token;

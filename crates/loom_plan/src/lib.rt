@@ -19,6 +19,4 @@ pub mod sets;
 mod statements;
 mod table;
 mod test;
-#[cfg(test)]
-mod tests;
 mod value;

@@ -13,5 +13,3 @@ pub mod stage;
 mod step;
 mod step_result;
 pub mod strand;
-#[cfg(test)]
-mod tests;

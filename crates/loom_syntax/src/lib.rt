@@ -5,8 +5,6 @@
 #![tactic(auto)]
 
 mod block;
-#[cfg(test)]
-mod examples;
 mod file;
 pub mod item;
 pub mod items;

@@ -10,6 +10,4 @@ mod number;
 pub mod places;
 pub mod request;
 pub mod row;
-#[cfg(test)]
-mod tests;
 pub mod text;

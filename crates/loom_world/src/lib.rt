@@ -5,6 +5,4 @@ mod book;
 pub mod choice;
 mod entry;
 pub mod laws;
-#[cfg(test)]
-mod tests;
 pub mod world;

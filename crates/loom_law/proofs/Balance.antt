@@ -96,7 +96,7 @@ by_some (x ∷ hs) k n t h =
     or_left ((x.filter == k) && (x.clause == n)) (is_held hs k n) (and_both (x.filter == k) (x.clause == n) one.0 (and_parts (x.clause == n) (x.thread == t) one.1).0))
     (λ m. or_right ((x.filter == k) && (x.clause == n)) (is_held hs k n) (by_some hs k n t m))
 
-has_more : (ks : List ℕ) (k j : ℕ) → has (ks ++ k ∷ []) j ≡ true → (has ks j ≡ true) ⊎ (k ≡ j)
+pub has_more : (ks : List ℕ) (k j : ℕ) → has (ks ++ k ∷ []) j ≡ true → (has ks j ≡ true) ⊎ (k ≡ j)
 has_more ks k j h =
     either_of (or_cases (has ks j) (has (k ∷ []) j) (sym (list_any-append (λ (m : ℕ). m == j) ks (k ∷ [])) ∙ h)) (λ m. inl m)
     (λ m. either_of (or_cases (k == j) false m) (λ g. inr (same_number k j g)) (λ g. cc))
@@ -104,7 +104,7 @@ has_more ks k j h =
 more_has : (ks : List ℕ) (k j : ℕ) → has ks j ≡ true → has (ks ++ k ∷ []) j ≡ true
 more_has ks k j h = list_any-append (λ (m : ℕ). m == j) ks (k ∷ []) ∙ or_left (has ks j) (has (k ∷ []) j) h
 
-has_left : (cs : List Command) (k : ℕ) (ks : List ℕ) (j : ℕ) → has (left_by cs k ks) j ≡ true → has ks j ≡ true
+pub has_left : (cs : List Command) (k : ℕ) (ks : List ℕ) (j : ℕ) → has (left_by cs k ks) j ≡ true → has ks j ≡ true
 has_left cs k ks j h =
     let same = any-filter_same (λ (m : ℕ). m == j) (λ (i : ℕ). not (have_one_name cs i k)) (not (have_one_name cs j k))
     (λ i g. ap (λ z. not (have_one_name cs z k)) (same_number i j g)) ks in

@@ -227,7 +227,7 @@ nested_one : (os : List Body) (x : Body) (xs : List Body) → Contains xs x → 
 nested_one [] x xs c h = tt
 nested_one (o ∷ os) x xs c h = (h.0 x c, nested_one os x xs c h.1)
 
-not_return : (s : Simple Expression) (n : Node) → path.is_simple_return s ≡ false → behind_simple s n ≡ n
+pub not_return : (s : Simple Expression) (n : Node) → path.is_simple_return s ≡ false → behind_simple s n ≡ n
 not_return (let_ x r) n e = refl
 not_return (set x r) n e = refl
 not_return (set_cell x i v) n e = refl
@@ -241,7 +241,7 @@ not_return (tree.join v) n e = refl
 not_return (tree.print v) n e = refl
 not_return tree.skip n e = refl
 
-is_returning : (s : Simple Expression) (n : Node) → path.is_simple_return s ≡ true → behind_simple s n ≡ path.leaves
+pub is_returning : (s : Simple Expression) (n : Node) → path.is_simple_return s ≡ true → behind_simple s n ≡ path.leaves
 is_returning (let_ x r) n e = cc
 is_returning (set x r) n e = cc
 is_returning (set_cell x i v) n e = cc

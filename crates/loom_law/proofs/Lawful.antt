@@ -7,6 +7,7 @@ use Rattle.loom_event.specs.Replay.{start, replay, IsAllowed}
 use Rattle.loom_law.specs.Walk.{goes, makes, entry_of_operation}
 use Rattle.loom_law.specs.Lawful.{Setting, front_of, front_at, MayFollow, IsObeyed, IsLawful}
 use Rattle.loom_law.specs.Laws.{Balances, MayTurn, HasBalance, IsAlwaysBalanced, HasNewInstalls, HasExclusion, IsAlwaysObeyed, HasNewest, HasOwedInstalled, HasRightLeaves, HasFronts, HasBeginning, HasEventTurns, HasOperationTurns, HasControlTurns}
+use Rattle.loom_law.specs.OneRegion.{IsAlwaysInOneRegion, HasOneRegionUnderScript}
 use Rattle.loom_law.proofs.Strict.{IsStrict, lawful, balances}
 use Rattle.loom_law.proofs.Enough.{strict}
 use Rattle.loom_law.proofs.Anew.{anew}
@@ -15,6 +16,8 @@ use Rattle.loom_law.proofs.Obedience as obeyed
 use Rattle.loom_law.proofs.Newest as newest
 use Rattle.loom_law.proofs.ActiveFilters as named
 use Rattle.loom_law.proofs.Leaves as leaving
+use Rattle.loom_law.proofs.SafeCrossings as crossings
+use Rattle.loom_law.proofs.ScriptRegions as regions
 use Rattle.loom_law.proofs.Turns as turns
 use Rattle.loom_law.proofs.Longer as more
 
@@ -45,6 +48,12 @@ owed_installed s front rest h = named.owed_installed s front rest (strict s (fro
 
 pub right_leaves : HasRightLeaves
 right_leaves s front rest h = leaving.right_leaves s front rest (strict s (front ++ rest) h).0
+
+pub always_in_one_region : IsAlwaysInOneRegion
+always_in_one_region s front rest h = crossings.in_one_region s front rest (strict s (front ++ rest) h).0
+
+pub one_region_under_script : HasOneRegionUnderScript
+one_region_under_script s front rest h = regions.under_script s front rest (strict s (front ++ rest) h).0
 
 pub fronts : HasFronts
 fronts s front rest h = (lawful s front (earlier.fronts s front rest (strict s (front ++ rest) h).0)).0

@@ -16,11 +16,11 @@ use Rattle.loom_law.proofs.Earlier.{IsBegin, first_begins}
 
 -- The filters of a thread's version are told by its entries and the versions that it takes
 
-abbrev taken_active : List Version → List ℕ → List ℕ
+abbrev pub taken_active : List Version → List ℕ → List ℕ
 taken_active [] ks = ks
 taken_active (v ∷ vs) ks = v.active
 
-abbrev active_with : List Version → List ℕ → List Entry → List ℕ
+abbrev pub active_with : List Version → List ℕ → List Entry → List ℕ
 active_with vs ks [] = ks
 active_with vs ks (e.Begin t l ∷ es) = active_with (without_first vs) (taken_active vs ks) es
 active_with vs ks (e.Cross t l x v n ∷ es) = active_with (without_first vs) (taken_active vs ks) es
@@ -45,7 +45,7 @@ crossing_coming p plans z (v ∷ vs) is = refl
 both_with : (vs vs' : List Version) (ks ks' : List ℕ) (es : List Entry) → vs ≡ vs' → ks ≡ ks' → active_with vs ks es ≡ active_with vs' ks' es
 both_with vs vs' ks ks' es v h = ap (λ x. active_with x ks es) v ∙ ap (λ x. active_with vs' x es) h
 
-walk_active : (p : Source) (plans : Plans) (t : ℕ) (z : Walk) (ss : List PartStep) → Walk.active (walk_from p plans z ss) ≡ active_with z.coming z.active (filter_entries t ss)
+pub walk_active : (p : Source) (plans : Plans) (t : ℕ) (z : Walk) (ss : List PartStep) → Walk.active (walk_from p plans z ss) ≡ active_with z.coming z.active (filter_entries t ss)
 walk_active p plans t z [] = refl
 walk_active p plans t z (goes (made l begin) ∷ ss) =
     walk_active p plans t (taking (behind_entry z) z.coming) ss
@@ -81,12 +81,12 @@ walk_active p plans t z (makes l (blocked what) ∷ ss) = walk_active p plans t 
 
 -- The same, read off the journal
 
-abbrev active_behind : ℕ → Control → List ℕ → Entry → List ℕ
+abbrev pub active_behind : ℕ → Control → List ℕ → Entry → List ℕ
 active_behind t c ks (e.Begin u l) = if u == t then Version.active c.version else ks
 active_behind t c ks (e.Cross u l x v n) = if u == t then Version.active c.version else ks
 active_behind t c ks _ = ks
 
-abbrev active_from : List Command → ℕ → Control → List ℕ → List Entry → List ℕ
+abbrev pub active_from : List Command → ℕ → Control → List ℕ → List Entry → List ℕ
 active_from cs t c ks [] = ks
 active_from cs t c ks (x ∷ xs) = active_from cs t (after_entry cs c x) (active_behind t c ks x) xs
 
@@ -101,7 +101,7 @@ takes_over : (f : List ℕ → List ℕ) (b : Bool) (v : Version) (vs : List Ver
 takes_over f true v vs ks x es steps h = steps ∙ h v.active
 takes_over f false v vs ks x es steps h = h ks
 
-told_active : (cs : List Command) (t : ℕ) (c : Control) (ks : List ℕ) (es : List Entry) → active_with (versions_from cs t c es) ks (entries_of t es) ≡ active_from cs t c ks es
+pub told_active : (cs : List Command) (t : ℕ) (c : Control) (ks : List ℕ) (es : List Entry) → active_with (versions_from cs t c es) ks (entries_of t es) ≡ active_from cs t c ks es
 told_active cs t c ks [] = refl
 told_active cs t c ks (e.Begin u l ∷ es) =
     takes_over (λ js. active_from cs t c js es) (u == t) c.version (versions_from cs t c es) ks (e.Begin u l) (entries_of t es) refl (λ js. told_active cs t c js es)
@@ -184,15 +184,15 @@ active_told s front t x h =
 
 -- A thread crosses where a new version was listed for it, and each is listed for it
 
-abbrev RowOf : ℕ → Entry → Type 0
+abbrev pub RowOf : ℕ → Entry → Type 0
 RowOf size (e.Installed k v ps) = length ps ≡ size
 RowOf size (e.Removed k v ps) = length ps ≡ size
 RowOf size _ = Unit {0}
 
-abbrev Moves : ℕ → ℕ → List ℕ → Entry → Type 0
+abbrev pub Moves : ℕ → ℕ → List ℕ → Entry → Type 0
 Moves size t ls x = (is_thread t (thread_of x) ≡ true → is_cross x ≡ owes_cross x ls) × RowOf size x
 
-abbrev AreMoves : ℕ → ℕ → List ℕ → List Entry → Type 0
+abbrev pub AreMoves : ℕ → ℕ → List ℕ → List Entry → Type 0
 AreMoves size t ls [] = Unit {0}
 AreMoves size t ls (x ∷ xs) = Moves size t ls x × AreMoves size t (listed_places_after t ls x) xs
 
@@ -226,7 +226,7 @@ stays_newest : (c : Control) (d b : Bool) (ls ks : List ℕ) → (d ≡ true →
 stays_newest c true b ls ks owes h g n = h g (not_owing ls (owes refl))
 stays_newest c false b ls ks owes h g n = h g n
 
-row_there : (ps : List ℕ) (i : ℕ) → i < length ps → row_at ps (suc i) ≡ [] → ⊥
+pub row_there : (ps : List ℕ) (i : ℕ) → i < length ps → row_at ps (suc i) ≡ [] → ⊥
 row_there [] i h g = let no : ⊥ = omega arith in no
 row_there (x ∷ ps) zero h g = cc
 row_there (x ∷ ps) (suc i) h g = row_there ps i (omega arith) g
@@ -293,21 +293,21 @@ crosses_of : (s : Setting) (f : Front) (t : ℕ) (x : Entry) (o : Option ℕ) �
 crosses_of s f t x None is m h = cc
 crosses_of s f t x (Some u) is m h = subst (λ v. is_cross x ≡ owes_cross x (listed_places v f.entries)) (same_number u t h) ((m u refl).crosses)
 
-moves_of : (s : Setting) (f : Front) (t : ℕ) (x : Entry) (rest : List Entry) → Stands s f x rest → Moves s.threads t (listed_places t f.entries) x
+pub moves_of : (s : Setting) (f : Front) (t : ℕ) (x : Entry) (rest : List Entry) → Stands s f x rest → Moves s.threads t (listed_places t f.entries) x
 moves_of s f t x rest h = (
   (λ g. crosses_of s f t x (thread_of x) refl (λ u is. stands_moves s f x rest u h is) g),
   row_of s f x rest h,
 )
 
-listed_last : (t : ℕ) (ls : List ℕ) (xs : List Entry) (y : Entry) → listed_places_from t ls (xs ++ y ∷ []) ≡ listed_places_after t (listed_places_from t ls xs) y
+pub listed_last : (t : ℕ) (ls : List ℕ) (xs : List Entry) (y : Entry) → listed_places_from t ls (xs ++ y ∷ []) ≡ listed_places_after t (listed_places_from t ls xs) y
 listed_last t ls [] y = refl
 listed_last t ls (x ∷ xs) y = listed_last t (listed_places_after t ls x) xs y
 
-append_one : (xs : List Entry) (y : Entry) (ys : List Entry) → (xs ++ y ∷ []) ++ ys ≡ xs ++ y ∷ ys
+pub append_one : (xs : List Entry) (y : Entry) (ys : List Entry) → (xs ++ y ∷ []) ++ ys ≡ xs ++ y ∷ ys
 append_one [] y ys = refl
 append_one (x ∷ xs) y ys = ap (◌∷◌ x) (append_one xs y ys)
 
-moves_from : (s : Setting) (es : List Entry) (h : IsStrict s es) (t : ℕ) (front todo rest : List Entry) → es ≡ front ++ (todo ++ rest) → AreMoves s.threads t (listed_places t front) todo
+pub moves_from : (s : Setting) (es : List Entry) (h : IsStrict s es) (t : ℕ) (front todo rest : List Entry) → es ≡ front ++ (todo ++ rest) → AreMoves s.threads t (listed_places t front) todo
 moves_from s es h t front [] rest is = tt
 moves_from s es h t front (x ∷ todo) rest is = (
   moves_of s (front_at s h.events front) t x (todo ++ rest) (h.stands front x (todo ++ rest) is),

@@ -188,7 +188,7 @@ same_member n j ms b (inl same) =
     subst P (sym same) b
 same_member n j ms b (inr none) = absurd (no_member j none)
 
-begun_range : (p : Source) (f : Plan) (g : ℕ) (fn : Function) (m : Option Node) (os : List Body) (ms : List ℕ) (r : Range) → IsWellSited f
+pub begun_range : (p : Source) (f : Plan) (g : ℕ) (fn : Function) (m : Option Node) (os : List Body) (ms : List ℕ) (r : Range) → IsWellSited f
     → AreOpened fn os → FitsNode fn m os → ((n : ℕ) → Contains ms n → MatchesAt f g m os n) → Contains (all_ranges f) r → share (entry_events r) ms ≡ true
     → FitsRange f (record { func = g; function = fn; node = m; opened = os }) r
 begun_range p f g fn m os ms (between es xs) well open_ k h c t =

@@ -635,7 +635,7 @@ gone_clear p f ls (x ∷ xs) ws lvs h well good g fit lea k safe =
         none_left [] e = tt
         none_left (u ∷ us) e = cc
 
-owed_clear : (p : Source) (f : Plan) (s : Course) (z : Walk) (w : FilterView) (y : Place) (o : ℕ × Operation) (os : Queue) (t : Spot) → IsWellSited f → Is p f s z w
+pub owed_clear : (p : Source) (f : Plan) (s : Course) (z : Walk) (w : FilterView) (y : Place) (o : ℕ × Operation) (os : Queue) (t : Spot) → IsWellSited f → Is p f s z w
     → FitsSpot s.levels s.gone t → place_of_request t (o ∷ os) z.frames ≡ y → (IsUnsafe p f y → ⊥) → AreClear w.frames × AreClear w.leaving
 owed_clear p f s z w y o os elsewhere well is k e safe = by_cases (top_cases p s.levels is.good k.1)
   where
@@ -662,7 +662,7 @@ owed_clear p f s z w y o os (trapped l) well is k e safe =
     (none_clear f s.levels w.frames k.0 is.sees.fits, none_leaving f s.gone w.leaving k.1 is.sees.leaving)
 
 -- nothing is owed
-item_clear : (p : Source) (f : Plan) (s : Course) (z : Walk) (w : FilterView) (y : Place) (i : Item) → IsWellSited f → Is p f s z w → Runs p s i (λ s'. Unit {0}) → z.owed ≡ []
+pub item_clear : (p : Source) (f : Plan) (s : Course) (z : Walk) (w : FilterView) (y : Place) (i : Item) → IsWellSited f → Is p f s z w → Runs p s i (λ s'. Unit {0}) → z.owed ≡ []
     → place_of_next z [] (i ∷ []) ≡ Some y → (IsUnsafe p f y → ⊥) → AreClear (now f w)
 item_clear p f s z w y (made l begin) well is r o e safe = over_clear p f s z w well is r.0
 item_clear p f s z w y (made l end) well is r o e safe = over_clear p f s z w well is r.0
@@ -697,7 +697,7 @@ point_clear p f s z w y i (o ∷ os) well is r q e safe =
     let both = owed_clear p f s z w y o os z.spot well is is.spot there safe in
     clear w.frames w.leaving w refl refl both.0 both.1
 
-start : (p : Source) (f : Plan) (vs : List Version) → Is p f no_frames (unborn vs) nothing_seen
+pub start : (p : Source) (f : Plan) (vs : List Version) → Is p f no_frames (unborn vs) nothing_seen
 start p f vs = record { good = tt; gone = tt; sees = nothing_sees f; frames = tt; spot = (tt, tt) }
 
 -- The unsafe places of a filter whose regions and events are of their kinds are sound.

@@ -154,7 +154,7 @@ append_none : {A : Type 0} (xs ys : List A) → xs ≡ [] → ys ≡ [] → xs +
 append_none [] ys a b = b
 append_none (x ∷ xs) ys a b = cc
 
-statement_in : (p : Source) (x : Level) (l : ℕ) (b : Body) → IsGood p x → Contains (statements (Function.body x.function)) b → Begins b l → IsStatement p x.func l b
+pub statement_in : (p : Source) (x : Level) (l : ℕ) (b : Body) → IsGood p x → Contains (statements (Function.body x.function)) b → Begins b l → IsStatement p x.func l b
 statement_in p x l b good there begun = record { function = x.function; is = good.is; there = there; line = begun }
 
 comes_to : (f : Plan) (x : Level) (xs : List ℕ) (start m n : Node) → x.node ≡ Some m → Comes (links_of x.function) f xs start m
@@ -254,7 +254,7 @@ ReachedFrom p h y = (xs : List Body) → CallsFunction p xs h → IsReached p xs
 pub reached_first : (p : Source) (h : ℕ) (y : Place) → Contains (places_of p h) y → ReachedFrom p h y
 reached_first p h y there xs c = record { function = h; reached = calls c; there = there }
 
-reaches_on : (p : Source) (xs : List Body) (g h : ℕ) → CallsFunction p xs g → Reaches p (statements_of p g) h → Reaches p xs h
+pub reaches_on : (p : Source) (xs : List Body) (g h : ℕ) → CallsFunction p xs g → Reaches p (statements_of p g) h → Reaches p xs h
 reaches_on p xs g h c (calls k) = through (calls c) k
 reaches_on p xs g h c (through r k) = through (reaches_on p xs g _ c r) k
 
@@ -282,15 +282,15 @@ calls_in_each p (q ∷ os) b name h is number n o c =
     by_cases ih (inr k) = ih k
 
 -- the calls that this frame's innermost statement makes: of each open statement, of the function, and alone
-record CallsFrom (p : Source) (g : ℕ) (fn : Function) (os : List Body) (line h : ℕ) : Type 0 where
-  each : (o : Body) → Contains os o → CallsFunction p (statements o) h
-  whole_function : CallsFunction p (statements_of p g) h
-  body : Body
-  there : Contains (statements fn.body) body
-  begun : Begins body line
-  alone : CallsFunction p (body ∷ []) h
+pub record CallsFrom (p : Source) (g : ℕ) (fn : Function) (os : List Body) (line h : ℕ) : Type 0 where
+  pub each : (o : Body) → Contains os o → CallsFunction p (statements o) h
+  pub whole_function : CallsFunction p (statements_of p g) h
+  pub body : Body
+  pub there : Contains (statements fn.body) body
+  pub begun : Begins body line
+  pub alone : CallsFunction p (body ∷ []) h
 
-calls_from : (p : Source) (g : ℕ) (fn : Function) (os : List Body) (line h : ℕ) → slice_get p.funcs g ≡ Some fn → AreOpened fn os
+pub calls_from : (p : Source) (g : ℕ) (fn : Function) (os : List Body) (line h : ℕ) → slice_get p.funcs g ≡ Some fn → AreOpened fn os
     → OnFirst os (λ b bs. Begins b line × ((name : List ℕ) × ((called_by b ≡ Some name) × (function_number p name ≡ Some h)))) → CallsFrom p g fn os line h
 calls_from p g fn [] line h is open_ c = absurd c
 calls_from p g fn (b ∷ bs) line h is open_ c =

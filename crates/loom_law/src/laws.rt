@@ -1,4 +1,6 @@
 //! Laws of full parts and of lawful journals, each the contract of a function that does nothing. Their statements stand in `specs/Laws.antt`.
+ghost use Rattle.loom_law.specs.InsideRegions.{HasRegionPlaces};
+ghost use Rattle.loom_law.specs.OneRegion.{HasOneRegion, IsAlwaysInOneRegion, HasOneRegionUnderScript};
 ghost use Rattle.loom_law.specs.Promises.{AlwaysPromises};
 ghost use Rattle.loom_law.specs.Laws.{HasHeldRegions, HasOnePart, HasOneMove, HasOneMade, HasBalance, IsAlwaysBalanced, HasNewInstalls, HasExclusion, IsAlwaysObeyed, HasNewest, HasOwedActive, HasOwedInstalled, HasHeldLeaves, HasRightLeaves, HasFronts, HasEmptyEnds, HasBeginning, HasEventTurns, HasOperationTurns, HasControlTurns, HasSoundPlaces, IsOutsideWhereFlagged, HasOneNumber, HasOneJudgement, HasOneCommandList};
 
@@ -134,4 +136,27 @@ pub fn one_command_list()
 /// installation, locks balance, and what is refused changes nothing.
 pub fn always_promises()
     ensures { AlwaysPromises }
+{}
+
+/// At each point of its full part a thread is inside at most one region of a clause, and in one of its open frames alone, where no path refuses the
+/// filter and it comes in at safe places. Other filters may be active beside it.
+pub fn one_region()
+    ensures { HasOneRegion }
+{}
+
+/// In each lawful journal a filter comes in where that is safe. So at each front of it, and at each point of a thread's full part, the thread is inside at
+/// most one region of a clause, of each filter that no path refuses.
+pub fn always_in_one_region()
+    ensures { IsAlwaysInOneRegion }
+{}
+
+/// Where the commands are those of a script, so it is with each filter: one that its paths refuse isn't installed.
+pub fn one_region_under_script()
+    ensures { HasOneRegionUnderScript }
+{}
+
+/// The places that are unsafe by a filter's regions are those inside them, and of functions that calls inside them reach, where 'inside' is what the
+/// refusals of regions that are entered again or nest mean by it.
+pub fn region_places()
+    ensures { HasRegionPlaces }
 {}

@@ -10,7 +10,7 @@ ghost use Rattle.loom_law.specs.Paths.{watch_at};
 ghost use Rattle.loom_law.specs.Walk.{OpenFrame, Inside, Queue, owed_by, owed_past, owed_leaves, completed, in_frame, all_inside, entered_regions, is_left_with, is_inside_clause};
 ghost use Rattle.loom_command.specs.FilterFault.{most_clauses, most_events};
 ghost use Rattle.loom_plan.specs.Sets.{event_numbers, clause_numbers, region_numbers};
-ghost use Rattle.loom_plan.specs.PlanView.{site_of, counted_of, plan_of_rows};
+ghost use Rattle.loom_plan.specs.PlanView.{site_of, counted_of, watches_of, regions_in, plan_of_rows};
 ghost use Rattle.loom_plan.specs.PlaceEvents.{site_at, watched, names_at, line_of_site};
 ghost use Rattle.loom_plan.specs.PlanParts.{IsSmallPlan, IsFitting, plan_regions};
 ghost use Rattle.loom_plan.specs.ElementNumbers.{numbers_where};
@@ -120,6 +120,22 @@ impl Compiled {
         ensures small { IsSmallPlan self.now.plan }
     {
         self.rules.len() as u8
+    }
+
+    /// The events, in the order of their numbers.
+    pub fn watches(&self) -> &[EventWatch]
+        ensures is { watches_of result.now ≡ self.now.plan.watches }
+        ensures small { IsSmallPlan self.now.plan }
+    {
+        &self.events
+    }
+
+    /// The regions with the numbers of their clauses, in the order of the text.
+    pub fn regions(&self) -> &[RegionRow]
+        ensures is { regions_in result.now ≡ plan_regions self.now.plan }
+        ensures small { IsSmallPlan self.now.plan }
+    {
+        &self.regions
     }
 
     /// The line of an event, from 1 to `events()`: that of its statement, or of the `fn` of its function.

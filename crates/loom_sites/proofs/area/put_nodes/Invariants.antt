@@ -1,0 +1,8 @@
+use Rattle.std.proofs.Common.{ℕ, ◌≡◌}
+use Rattle.loom_trace.specs.Places.{has_place}
+use Rattle.loom_sites.specs.Areas.{has_its_node}
+use Rattle.loom_sites.proofs.Passes.{so_far}
+use Rattle.loom_sites.proofs.area.put_nodes.Given as goal
+
+abbrev pub invariant-places : goal.invariant-places
+invariant-places l = (j : ℕ) → has_place l.places j ≡ so_far (has_place l.fn.places) (has_its_node l.reached) l.links l.k j

@@ -1,0 +1,9 @@
+pub mod Nodes
+pub mod Links
+pub mod Rows
+pub mod Reach
+pub mod Functions
+pub mod Events
+pub mod Areas
+pub mod Faults
+pub mod UnsafePlaces

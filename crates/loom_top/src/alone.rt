@@ -62,9 +62,9 @@ fn answer<F: Shelf, K: Sink>(alloc: Global, words: &[&str], shelf: &mut F, sink:
 /// All that the program does, but for its `main`. By the words `run PROG` or `run PROG --steps B` it runs the program that they name, and
 /// writes the text of its journal; B, from 1 to 1,000,000 in decimal, is how many entries threads make at most, and without it they are
 /// 100,000. By the words `show PROG` it writes the program's canonical text, and by `show PROG FILTER`, with a text of at most 65,536 bytes,
-/// what that filter is for it: that it is refused for its text or for what it names, or how many clauses it has and the lines of its events;
-/// whether its regions go well together isn't looked at yet. PROG isn't empty and doesn't begin with `-`. What it answers is the status with
-/// which the program ends:
+/// what that filter is for it: that it is refused for its text, for what it names or for its paths, or how many clauses it has, the lines of
+/// its events, and the places that are unsafe for it, with their lines. PROG isn't empty and doesn't begin with `-`. What it answers is the
+/// status with which the program ends:
 ///
 /// 0 the run is done, since all threads have ended, or the program or the filter was shown, and what was to be written was; 1 the words are no
 /// invocation; 2 the file is no program; 4 the shelf could not read the file; 5 the sink could not take the text, and took a front of it;

@@ -4,6 +4,7 @@
 pub mod alone;
 mod code;
 mod file_name;
+mod filter_lines;
 mod invocation;
 mod put;
 mod refusal;

@@ -1,24 +1,23 @@
 //! Shows what a filter is for a program.
-ghost use Rattle.std.specs.Prelude.{◌≡◌, ◌≤◌, ◌++◌, ℕ, List, [], ◌∷◌, length, IfOk, IfErr, OnOk};
+ghost use Rattle.std.specs.Prelude.{◌≡◌, ◌≤◌, ℕ, List, length, IfOk, IfErr};
 ghost use Rattle.loom_tree.specs.Tree.{Source};
-ghost use Rattle.loom_tree.specs.Lines.{ended};
 ghost use Rattle.loom_lang.specs.Limits.{file_limit};
 ghost use Rattle.loom_lang.specs.Program.{IsProgram};
 ghost use Rattle.loom_lang.specs.LangError.{TellsRefusal};
 ghost use Rattle.loom_command.specs.FilterFault.{IsFilter};
 ghost use Rattle.loom_law.specs.Judgement.{file_name};
 ghost use Rattle.loom_filter.specs.View.{filter_of};
-ghost use Rattle.loom_filter.specs.FilterError.{fault_of, text_limit};
+ghost use Rattle.loom_filter.specs.FilterError.{text_limit};
 ghost use Rattle.loom_top.specs.Invocation as task;
-ghost use Rattle.loom_top.specs.ShowText.{fault_line, clauses_line, event_line, plan_lines, IsFilterText};
+ghost use Rattle.loom_top.specs.ShowText.{IsPathText, IsFilterText};
 ghost use Rattle.loom_top.specs.TopCall.{IsShownText, FileEnds};
 
 use crate::file_name::file_name;
+use crate::filter_lines::{fault_text, plan_text};
 use crate::put::{put_refusal, put_text};
 use crate::status::Status;
-use loom_canonical::text::{put_bytes, put_number};
 use loom_filter::filter::Filter;
-use loom_filter::parse::{FilterError, FilterRefusal, parse_filter};
+use loom_filter::parse::{FilterError, parse_filter};
 use loom_flow::flow::Flow;
 use loom_flow::lower::lower;
 use loom_io::sink::Sink;
@@ -26,50 +25,20 @@ use loom_lang::parse::{LangError, parse_program};
 use loom_lang::refusal::LangRefusal;
 use loom_plan::compiled::Compiled;
 use loom_plan::resolve::resolve;
+use loom_sites::unsafe_places::unsafe_places;
 use loom_tree::name::{Name, NoMemory};
 use std::alloc::Global;
 
-// The line of a refusal.
-fn fault_text(alloc: Global, refusal: FilterRefusal) -> Result<Name, NoMemory>
-    ensures { IfOk result (λ out. out ≡ ended (fault_line (fault_of refusal) ∷ [])) }
+// What is written of a filter that names nothing else than what is in the program.
+fn path_text(alloc: Global, flow: &Flow, plan: &Compiled) -> Result<Name, NoMemory>
+    requires { plan.now.program ≡ flow.now.program }
+    ensures { IfOk result (λ out. IsPathText flow.now.program plan.now.plan out) }
 {
-    let mut out = Name(Vec::new(alloc));
-    put_bytes(&mut out, b"refused ")?;
-    put_number(&mut out, u32::from(refusal.number))?;
-    put_bytes(&mut out, b" ")?;
-    put_number(&mut out, u32::from(refusal.clause))?;
-    put_bytes(&mut out, b"\n")?;
-    Ok(out)
-}
-
-fn put_clauses(out: &mut Name, clauses: u32) -> Result<(), NoMemory>
-    ensures { OnOk result (out.new ≡ out.old ++ ended (clauses_line clauses ∷ [])) }
-{
-    put_bytes(out, b"clauses ")?;
-    put_number(out, clauses)?;
-    put_bytes(out, b"\n")
-}
-
-fn put_event(out: &mut Name, event: u32, line: u32) -> Result<(), NoMemory>
-    ensures { OnOk result (out.new ≡ out.old ++ ended (event_line event line ∷ [])) }
-{
-    put_bytes(out, b"event ")?;
-    put_number(out, event)?;
-    put_bytes(out, b" line ")?;
-    put_number(out, line)?;
-    put_bytes(out, b"\n")
-}
-
-// How many clauses there are, and the line of each event.
-fn plan_text(alloc: Global, plan: &Compiled) -> Result<Name, NoMemory>
-    ensures { IfOk result (λ out. out ≡ ended (plan_lines plan.now.program plan.now.plan)) }
-{
-    let mut out = Name(Vec::new(alloc));
-    put_clauses(&mut out, u32::from(plan.clauses()))?;
-    'events: for n in 0..plan.events() {
-        put_event(&mut out, u32::from(n) + 1, plan.event_line(n + 1))?;
+    match unsafe_places(alloc, flow, plan) {
+        Ok(places) => plan_text(alloc, flow, plan, &places),
+        Err(FilterError::Refused(fault)) => fault_text(alloc, fault),
+        Err(FilterError::NoMemory) => Err(NoMemory),
     }
-    Ok(out)
 }
 
 // What is written of a filter.
@@ -78,7 +47,7 @@ fn resolved_text(alloc: Global, flow: &Flow, name: &[u8], filter: &Filter) -> Re
     ensures { (text : List ℕ) → IsFilter text (filter_of filter.now) → IfOk result (λ out. IsFilterText flow.now.program name.now text out) }
 {
     match resolve(alloc, flow, name, filter) {
-        Ok(plan) => plan_text(alloc, &plan),
+        Ok(plan) => path_text(alloc, flow, &plan),
         Err(FilterError::Refused(refusal)) => fault_text(alloc, refusal),
         Err(FilterError::NoMemory) => Err(NoMemory),
     }

@@ -1,9 +1,0 @@
-use Rattle.std.proofs.Common.{◌≡◌, ◌++◌, suc, drop}
-use Rattle.loom_tree.specs.Lines.{ended}
-use Rattle.loom_top.specs.ShowText.{event_lines, plan_lines}
-use Rattle.loom_top.proofs.show_filter.plan_text.Given as goal
-
-abbrev pub invariant-events : goal.invariant-events
-invariant-events l = record {
-  left : l.out ++ ended (event_lines l.plan.program (suc l.n) (drop l.n l.plan.plan.watches)) ≡ ended (plan_lines l.plan.program l.plan.plan);
-}

@@ -1,0 +1,4 @@
+pub mod ActiveNumbers
+pub mod OwnNames
+pub mod PlanRows
+pub mod SlowTests

@@ -1,0 +1,4 @@
+pub mod Version
+pub mod Laws
+pub mod Plans
+pub mod SlowFunctions

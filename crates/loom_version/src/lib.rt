@@ -1,0 +1,9 @@
+//! Versions: which filters are installed, and what each is in the program.
+#![tactic(auto)]
+
+mod active;
+pub mod laws;
+pub mod limits;
+pub mod plans;
+mod slow;
+pub mod version;

@@ -1,0 +1,7 @@
+use Rattle.std.proofs.Common.{◌≡◌, drop}
+use Rattle.loom_ops.specs.Ops.{has_lock}
+use Rattle.loom_ops.specs.Rows.{filters_of_rows}
+use Rattle.loom_ops.proofs.rows.has_lock.Given as goal
+
+abbrev pub invariant-scan : goal.invariant-scan
+invariant-scan l = has_lock (filters_of_rows (drop l.row-index l.filters)) l.k l.clause ≡ has_lock (filters_of_rows l.filters) l.k l.clause

@@ -1,0 +1,4 @@
+pub mod Ops
+pub mod Rows
+pub mod Answer
+pub mod Laws

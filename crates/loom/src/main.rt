@@ -1,6 +1,13 @@
-//! Runs loom on the command words, the files of the system and standard output.
+//! Runs loom on the command words, the files of the system and standard output, and says on standard error why a call failed.
 #![tactic(auto)]
 
+mod copy;
+mod misfit;
+mod plain;
+mod report;
+
+use crate::copy::CopyShelf;
+use crate::report::{tell, tell_no_memory};
 use loom_io::adapters::{DirShelf, OutSink};
 use loom_top::alone::loom_alone;
 use loom_tree::name::NoMemory;
@@ -31,19 +38,44 @@ fn words_of<R: Env + AllocGlobal>(rt: &R) -> Result<Vec<String>, NoMemory> {
     Ok(words)
 }
 
-fn status_of<R: Files + Print + Env + AllocGlobal>(rt: &R) -> Result<u8, NoMemory> {
+fn status_of<R: Files + Print + Eprint + Env + AllocGlobal>(rt: &R) -> Result<u8, NoMemory> {
     let texts = words_of(rt)?;
     let mut words = Vec::new(rt.alloc());
     for text in &texts {
         words.push(text.as_str())?;
     }
-    let mut shelf = DirShelf { rt, faults: 0 };
-    let mut sink = OutSink { rt, faults: 0 };
-    Ok(loom_alone(rt.alloc(), &words, &mut shelf, &mut sink))
+    let mut shelf = CopyShelf {
+        shelf: DirShelf {
+            rt,
+            faults: 0,
+            cause: None,
+        },
+        copy: None,
+    };
+    let mut sink = OutSink {
+        rt,
+        faults: 0,
+        cause: None,
+    };
+    let status = loom_alone(rt.alloc(), &words, &mut shelf, &mut sink);
+    // Where standard error takes nothing, nothing can be said of it.
+    let _ = tell(rt, rt.alloc(), &words, status, &shelf, &sink);
+    Ok(status)
+}
+
+// The same where memory for the words is wanting.
+fn exit_status<R: Files + Print + Eprint + Env + AllocGlobal>(rt: &R) -> u8 {
+    match status_of(rt) {
+        Ok(status) => status,
+        Err(NoMemory) => {
+            let _ = tell_no_memory(rt);
+            NO_MEMORY
+        }
+    }
 }
 
 fn main(rt: HostRuntime) -> ExitCode {
-    ExitCode::from(status_of(&rt).unwrap_or(NO_MEMORY))
+    ExitCode::from(exit_status(&rt))
 }
 
 #[cfg(test)]

@@ -1,5 +1,5 @@
 //! The files of the system and standard output.
-ghost use Rattle.std.specs.Prelude.{◌≡◌, ◌≤◌, ◌<◌, ◌+◌, ◌↔◌, None, IfOk, IfSome, length, take};
+ghost use Rattle.std.specs.Prelude.{◌≡◌, ◌≤◌, ◌<◌, ◌+◌, ◌↔◌, None, IfOk, OnOk, OnErr, IfSome, IsSome, length, take};
 ghost use Rattle.std.specs.IoError.{error_kind};
 ghost use Rattle.loom_io.specs.Shelf.{Untold, faults_after_read};
 ghost use Rattle.loom_io.specs.Sink.{faults_after_put};
@@ -19,6 +19,8 @@ pub struct DirShelf<'a, R> {
     pub rt: &'a R,
     /// The number of faults, up to 18446744073709551615. It is the count of every name.
     pub faults: u64,
+    /// What the system said at the last fault.
+    pub cause: Option<io::Error>,
 }
 
 // All that the source gives, or, where that is more than `limit` bytes, the front of them that is one longer.
@@ -62,6 +64,8 @@ impl<R: Files> Shelf for DirShelf<'_, R> {
         ensures short { IfOk result (λ bytes. length bytes ≤ limit + 1) }
         ensures faults { self.new.faults ≡ faults_after_read self.old.faults result }
         ensures later { self.old.faults ≤ self.new.faults }
+        ensures cause { result ≡ Err ShelfError.Failed → IsSome self.new.cause }
+        ensures calm { OnOk result (self.new.cause ≡ self.old.cause) }
     {
         match load(self.rt, alloc, name, limit) {
             Ok(bytes) => Ok(bytes),
@@ -69,6 +73,7 @@ impl<R: Files> Shelf for DirShelf<'_, R> {
                 ShelfError::NoMemory => Err(ShelfError::NoMemory),
                 ShelfError::Failed => {
                     self.faults = self.faults.saturating_add(1);
+                    self.cause = Some(error);
                     Err(ShelfError::Failed)
                 }
             },
@@ -83,6 +88,21 @@ pub struct OutSink<'a, P> {
     pub rt: &'a P,
     /// The number of faults, up to 18446744073709551615.
     pub faults: u64,
+    /// What the system said at the last fault.
+    pub cause: Option<io::Error>,
+}
+
+// How many of the first bytes of the piece were printed: none is an error.
+fn taken_of<P: Print>(rt: &P, piece: &[u8]) -> io::Result<usize>
+    ensures some { IfOk result (λ n. 0 < n) }
+    ensures within { IfOk result (λ n. n ≤ length piece.now) }
+{
+    let n = rt.write_some(piece)?;
+    if n > 0 {
+        Ok(n)
+    } else {
+        Err(io::Error::from(ErrorKind::WriteZero))
+    }
 }
 
 impl<P: Print> Sink for OutSink<'_, P> {
@@ -97,11 +117,14 @@ impl<P: Print> Sink for OutSink<'_, P> {
         ensures within { IfOk result (λ n. n ≤ length piece.now) }
         ensures faults { self.new.faults ≡ faults_after_put self.old.faults result }
         ensures later { self.old.faults ≤ self.new.faults }
+        ensures cause { OnErr result (IsSome self.new.cause) }
+        ensures calm { OnOk result (self.new.cause ≡ self.old.cause) }
     {
-        match self.rt.write_some(piece) {
-            Ok(n) if n > 0 => Ok(n),
-            _ => {
+        match taken_of(self.rt, piece) {
+            Ok(n) => Ok(n),
+            Err(error) => {
                 self.faults = self.faults.saturating_add(1);
+                self.cause = Some(error);
                 Err(SinkFailed)
             }
         }
@@ -118,7 +141,11 @@ mod tests {
     fn reads_files_of_the_system(rt: HostRuntime) -> Result<(), Fail> {
         let name = "loom_io_test.lm";
         fs::write(&rt, name, "fn main() {}\n")?;
-        let mut shelf = DirShelf { rt: &rt, faults: 0 };
+        let mut shelf = DirShelf {
+            rt: &rt,
+            faults: 0,
+            cause: None,
+        };
         let whole = shelf.read(rt.alloc(), name, 100);
         let front = shelf.read(rt.alloc(), name, 6);
         let most = shelf.read(rt.alloc(), name, LARGEST_LIMIT);
@@ -127,16 +154,26 @@ mod tests {
         assert_eq!(rt; most?.bytes(), "fn main() {}\n".as_bytes());
         assert_eq!(rt; front?.bytes(), "fn main".as_bytes());
         assert_eq!(rt; shelf.faults, 0);
+        assert!(rt; shelf.cause.is_none());
         let missing = shelf.read(rt.alloc(), name, 100).err();
         assert_eq!(rt; missing, Some(ShelfError::Failed));
         assert_eq!(rt; shelf.faults, 1);
+        assert!(rt;
+            shelf
+                .cause
+                .is_some_and(|cause| cause.kind() == ErrorKind::NotFound)
+        );
         Ok(())
     }
 
     // A directory is opened, and its read fails.
     #[test]
     fn fails_where_a_read_fails(rt: HostRuntime) -> Result<(), Fail> {
-        let mut shelf = DirShelf { rt: &rt, faults: 0 };
+        let mut shelf = DirShelf {
+            rt: &rt,
+            faults: 0,
+            cause: None,
+        };
         let cause = shelf.read(rt.alloc(), ".", 100).err();
         assert_eq!(rt; cause, Some(ShelfError::Failed));
         assert_eq!(rt; shelf.faults, 1);
@@ -145,7 +182,11 @@ mod tests {
 
     #[test]
     fn writes_a_line(rt: HostRuntime) -> Result<(), Fail> {
-        let mut sink = OutSink { rt: &rt, faults: 0 };
+        let mut sink = OutSink {
+            rt: &rt,
+            faults: 0,
+            cause: None,
+        };
         assert_eq!(rt; sink.put(b"line\n")?, 5);
         assert_eq!(rt; sink.faults, 0);
         Ok(())
@@ -182,18 +223,30 @@ mod tests {
     #[test]
     fn tells_what_the_output_took(rt: HostRuntime) -> Result<(), Fail> {
         let rows = [
-            (Output::Takes(9), Ok(5), 0),
-            (Output::Takes(2), Ok(2), 0),
-            (Output::Takes(0), Err(SinkFailed), 1),
-            (Output::Fails, Err(SinkFailed), 1),
+            (Output::Takes(9), Ok(5), 0, None),
+            (Output::Takes(2), Ok(2), 0, None),
+            (
+                Output::Takes(0),
+                Err(SinkFailed),
+                1,
+                Some(ErrorKind::WriteZero),
+            ),
+            (
+                Output::Fails,
+                Err(SinkFailed),
+                1,
+                Some(ErrorKind::BrokenPipe),
+            ),
         ];
-        for (i, (output, told, faults)) in rows.iter().enumerate() {
+        for (i, (output, told, faults, kind)) in rows.iter().enumerate() {
             let mut sink = OutSink {
                 rt: output,
                 faults: 0,
+                cause: None,
             };
             assert_eq!(rt; sink.put(b"line\n"), *told, "in row {i}");
             assert_eq!(rt; sink.faults, *faults, "in row {i}");
+            assert!(rt; sink.cause.map(|cause| cause.kind()) == *kind, "in row {i}");
         }
         Ok(())
     }

@@ -14,7 +14,11 @@ mod lang;
 #[cfg(test)]
 mod lexer;
 #[cfg(test)]
+mod ops;
+#[cfg(test)]
 mod plan;
+#[cfg(test)]
+mod sites;
 #[cfg(test)]
 mod strand;
 #[cfg(test)]
@@ -23,5 +27,7 @@ mod syntax;
 mod trace;
 #[cfg(test)]
 mod tree;
+#[cfg(test)]
+mod version;
 #[cfg(test)]
 mod world;

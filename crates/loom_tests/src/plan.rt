@@ -15,7 +15,7 @@ use loom_plan::resolve::resolve;
 use loom_tree::name::NoMemory;
 use std::alloc::Global;
 
-fn flow_of(alloc: Global, text: &str) -> Result<Flow, LangError> {
+pub(crate) fn flow_of(alloc: Global, text: &str) -> Result<Flow, LangError> {
     let bytes = text.as_bytes();
     if bytes.len() > FILE_LIMIT {
         return Err(LangError::NoMemory);
@@ -24,7 +24,7 @@ fn flow_of(alloc: Global, text: &str) -> Result<Flow, LangError> {
 }
 
 /// The filter of this text in the program, in the file `p.lm`. No text here is too long.
-fn compiled_in(alloc: Global, flow: &Flow, text: &str) -> Result<Compiled, FilterError>
+pub(crate) fn compiled_in(alloc: Global, flow: &Flow, text: &str) -> Result<Compiled, FilterError>
     ensures { IfOk result (λ c. c.program ≡ flow.now.program) }
 {
     let bytes = text.as_bytes();

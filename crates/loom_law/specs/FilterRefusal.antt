@@ -1,4 +1,4 @@
--- Why a filter is refused for a program: what it names isn't there, or its regions cross.
+-- Why a filter is refused for a program: what it names isn't there, or a region is entered again within itself, or two nest.
 use Rattle.std.specs.Prelude.{ℕ, suc, ◌≡◌, ◌⊎◌, Bool, true, false, ◌&&◌, List, [], ◌∷◌, ◌++◌, map, slice_get, Option, Some, None}
 use Rattle.std.specs.List.{Contains}
 use Rattle.loom_tree.specs.Tree.{Expression, num, var, cell, neg, inverse, bin, Body, Function, Source}

@@ -136,8 +136,8 @@ abbrev pub watch_at : Plan → ℕ → Option Watch
 watch_at f zero = None
 watch_at f (suc n) = slice_get f.watches n
 
--- by an event with a line: the places of its statement and of the statements inside it, the out place if one of these is a `return`, and all
--- places of the functions that their calls reach
+-- by an event with a line: the places of its statement and of the statements inside it, the out place if a `return` stands inside the statement, and
+-- all places of the functions that their calls reach
 pub record IsUnsafeByEvent (p : Source) (f : Plan) (y : Place) : Type 0 where
   pub event : ℕ
   pub watch : Watch

@@ -144,8 +144,8 @@ pub fn one_region()
     ensures { HasOneRegion }
 {}
 
-/// In each lawful journal a filter comes in where that is safe. So at each front of it, and at each point of a thread's full part, the thread is inside at
-/// most one region of a clause, of each filter that no path refuses.
+/// In each lawful journal a filter comes in where that is safe. So it has no front where a thread, anywhere in its full part, is inside two regions of one
+/// clause, for each filter that no path refuses.
 pub fn always_in_one_region()
     ensures { IsAlwaysInOneRegion }
 {}

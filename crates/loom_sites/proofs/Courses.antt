@@ -25,7 +25,7 @@ use Rattle.loom_sites.proofs.Watches.{WatchesStatement}
 use Rattle.loom_sites.proofs.Stands.{FunctionStand, place_in_function}
 use Rattle.loom_sites.proofs.Leads.{nexts_within, out_leads}
 use Rattle.loom_sites.proofs.Ways.{link_told, link_found}
-use Rattle.loom_sites.proofs.Aligned.{statement_at}
+use Rattle.loom_sites.proofs.RowPlaces.{statement_at}
 
 -- A place has one number.
 

@@ -30,7 +30,7 @@ use Rattle.loom_sites.specs.Events.{watched_at, are_some, has_event, is_between,
 use Rattle.loom_sites.proofs.Passes.{any_found_all, any_there_all, run_found, run_there}
 use Rattle.loom_sites.proofs.Watches.{event_told, event_found}
 use Rattle.loom_sites.proofs.Stands.{Stand, function_stands, place_in_function, simple_here, if_here, while_here}
-use Rattle.loom_sites.proofs.Aligned.{program_aligned, place_row, statement_place, statement_stands, statement_at}
+use Rattle.loom_sites.proofs.RowPlaces.{program_aligned, place_row, statement_place, statement_stands, statement_at}
 use Rattle.loom_sites.proofs.Owners.{get_contains, contains_get}
 use Rattle.loom_sites.proofs.Courses.{same_number, not_nowhere, inside_first, inside_last}
 

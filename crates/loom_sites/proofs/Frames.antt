@@ -26,7 +26,7 @@ use Rattle.loom_sites.specs.Events.{is_frame_event, calls_by_event}
 use Rattle.loom_sites.specs.Areas.{is_own, IsOwnNumber, TellsContents, AreWith}
 use Rattle.loom_sites.proofs.Bits.{none_of_zero}
 use Rattle.loom_sites.proofs.Passes.{any_found_all}
-use Rattle.loom_sites.proofs.Aligned.{program_aligned, row_place, place_row, statement_place, IsOfPlace}
+use Rattle.loom_sites.proofs.RowPlaces.{program_aligned, row_place, place_row, statement_place, IsOfPlace}
 use Rattle.loom_sites.proofs.Courses.{same_number}
 use Rattle.loom_sites.proofs.Owners.{owned_number, owner_of}
 use Rattle.loom_sites.proofs.EventPlaces.{statement_owner, call_statement, row_calls, event_call}

@@ -10,7 +10,7 @@ pub mod Callers
 pub mod Watches
 pub mod Stands
 pub mod Ways
-pub mod Aligned
+pub mod RowPlaces
 pub mod Leads
 pub mod Courses
 pub mod Owners
@@ -19,7 +19,7 @@ pub mod Starts
 pub mod Regions
 pub mod Wholes
 pub mod Frames
-pub mod Shown
+pub mod OwnPlaces
 pub mod RegionFacts
 pub mod AreaSteps
 pub mod PathFaults

@@ -24,7 +24,7 @@ use Rattle.loom_sites.proofs.Starts.{starts_are, halts_are}
 use Rattle.loom_sites.proofs.Regions.{IsGathered}
 use Rattle.loom_sites.proofs.Wholes.{IsFrame}
 use Rattle.loom_sites.proofs.Frames.{direct_within}
-use Rattle.loom_sites.proofs.Shown.{IsReachedSet, own_places}
+use Rattle.loom_sites.proofs.OwnPlaces.{IsReachedSet, own_places}
 
 -- the table of a program has a row for each place
 pub all_rows : (p q : Source) (rows : List PlaceLinks) → q ≡ p → rows ≡ program_rows p → length rows ≡ length (places q)

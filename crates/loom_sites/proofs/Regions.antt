@@ -37,7 +37,7 @@ use Rattle.loom_sites.proofs.Passes.{any_found_all, any_there_all}
 use Rattle.loom_sites.proofs.Watches.{event_told, event_found, frame_told, frame_found, none_told}
 use Rattle.loom_sites.proofs.Stands.{Stand, function_stands, place_in_function}
 use Rattle.loom_sites.proofs.Ways.{start_node}
-use Rattle.loom_sites.proofs.Aligned.{program_aligned, row_place, statement_place, statement_stands}
+use Rattle.loom_sites.proofs.RowPlaces.{program_aligned, row_place, statement_place, statement_stands}
 use Rattle.loom_sites.proofs.Courses.{same_number, AreStarts, AreHalts, IsFoundPath, comes_found, IsTold, start_told, comes_told}
 use Rattle.loom_sites.proofs.Owners.{IsOwned, owned_in, place_in}
 use Rattle.loom_sites.proofs.EventPlaces.{IsOwnerOf, statement_owner, call_statement, row_calls, calls_row}

@@ -14,7 +14,7 @@ use Rattle.loom_sites.specs.Links.{is_statement, program_rows}
 use Rattle.loom_sites.specs.Rows.{test_if, meets_at}
 use Rattle.loom_sites.specs.Events.{watched_at, begins_there, is_untested_if, is_untested}
 use Rattle.loom_sites.proofs.Watches.{WatchesStatement, event_told, event_found}
-use Rattle.loom_sites.proofs.Aligned.{program_aligned, place_row, statement_place}
+use Rattle.loom_sites.proofs.RowPlaces.{program_aligned, place_row, statement_place}
 use Rattle.loom_sites.proofs.Courses.{AreStarts, AreHalts}
 
 and_parts : (a b : Bool) → (a && b) ≡ true → (a ≡ true) × (b ≡ true)

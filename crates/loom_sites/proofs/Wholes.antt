@@ -25,7 +25,7 @@ use Rattle.loom_sites.specs.Areas.{has_inside, is_own, TellsContents}
 use Rattle.loom_sites.proofs.Passes.{any_found_all, any_there_all}
 use Rattle.loom_sites.proofs.Watches.{event_told, event_found, frame_told, frame_found, none_told, function_site}
 use Rattle.loom_sites.proofs.Stands.{function_stands}
-use Rattle.loom_sites.proofs.Aligned.{program_aligned, row_place, place_row}
+use Rattle.loom_sites.proofs.RowPlaces.{program_aligned, row_place, place_row}
 use Rattle.loom_sites.proofs.EventPlaces.{statement_owner}
 use Rattle.loom_sites.proofs.Regions.{statement_number, owner_function, entry_function, reaches_within}
 

@@ -11,7 +11,7 @@ use Rattle.loom_law.specs.Paths.{IsUnsafe}
 use Rattle.loom_law.specs.FilterRefusal.{IsPathFault}
 use Rattle.loom_law.specs.Judgement.{IsFirst, HasNone}
 
--- the set has the numbers of the unsafe places, and no others
+-- The set has the numbers of the unsafe places, and no others. That these are enough is the law `HasSoundPlaces` of `loom_law`.
 pub record AreUnsafe (p : Source) (f : Plan) (set : List ℕ) : Type 0 where
   pub exactly : (k : ℕ) (y : Place) → place_at p k ≡ Some y → IsTrue (has_place set k) ↔ IsUnsafe p f y
   pub only : (k : ℕ) → has_place set k ≡ true → k < length (places p)

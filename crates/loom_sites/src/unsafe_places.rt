@@ -13,7 +13,9 @@ use loom_plan::compiled::Compiled;
 use loom_trace::places::Places;
 use std::alloc::Global;
 
-/// The places of the program that are unsafe for the filter. `Refused` comes exactly where its regions cross, and memory didn't run out; the
+/// The places of the program that are unsafe for the filter: all of them, and no others. By the law `sound_places` of `loom_law` they are
+/// enough: as long as the filter isn't active, a thread that is about to go on at any other place is inside none of its regions and in the midst
+/// of none of its events. `Refused` comes exactly where a region is entered again within itself or two nest, and memory didn't run out; the
 /// least clause is told, and in it the least of these numbers: 7 where calls inside a region reach its own function, 8 where an entry event of a
 /// region of the clause can begin inside another one.
 pub fn unsafe_places(alloc: Global, flow: &Flow, c: &Compiled) -> Result<Places, FilterError>

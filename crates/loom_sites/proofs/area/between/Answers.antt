@@ -5,7 +5,7 @@ use Rattle.loom_plan.specs.Sets.{event_numbers}
 use Rattle.loom_sites.specs.declared.links.PlaceLinks.{PlaceLinks}
 use Rattle.loom_sites.specs.declared.reach.NodeSet.{NodeSet}
 use Rattle.loom_sites.proofs.Regions.{between_told}
-use Rattle.loom_sites.proofs.Shown.{IsReachedSet}
+use Rattle.loom_sites.proofs.OwnPlaces.{IsReachedSet}
 use Rattle.loom_sites.proofs.RegionFacts.{all_rows, is_table, calls_within, between_set, between_facts, between_own}
 use Rattle.loom_sites.proofs.area.between.Goals as goal
 

@@ -28,7 +28,7 @@ use Rattle.loom_sites.specs.Rows.{test_if, meets_at}
 use Rattle.loom_sites.specs.Reach.{HasPathTo, has_node}
 use Rattle.loom_sites.specs.Areas.{has_its_node, turns_there, IsOwnNumber, AreWith}
 use Rattle.loom_sites.proofs.Stands.{Stand, rest_of_simple, first_branch, second_branch, rest_of_if, loop_body, rest_of_loop, simple_here, if_here, while_here, turn_here, place_in_function}
-use Rattle.loom_sites.proofs.Aligned.{program_aligned, row_place, place_row, IsOfPlace}
+use Rattle.loom_sites.proofs.RowPlaces.{program_aligned, row_place, place_row, IsOfPlace}
 use Rattle.loom_sites.proofs.Ways.{turn_node}
 use Rattle.loom_sites.proofs.Courses.{same_number, AreStarts, AreHalts, comes_told}
 use Rattle.loom_sites.proofs.Regions.{inside_path}

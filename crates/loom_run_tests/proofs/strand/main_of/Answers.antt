@@ -6,7 +6,7 @@ use Rattle.loom_flow.specs.Flow.{Flow}
 use Rattle.loom_flow.specs.FlatCode.{size, place_count, entrances}
 use Rattle.loom_flow.specs.Code.{IsLowered}
 use Rattle.loom_event.specs.Answer.{IsFunctionWith}
-use Rattle.loom_tests.proofs.strand.main_of.Goals as goal
+use Rattle.loom_run_tests.proofs.strand.main_of.Goals as goal
 
 same_entrance : (d e : Entrance) → ◌≡◌ {A = Option Entrance} (Some d) (Some e) → d ≡ e
 same_entrance d e h = cc

@@ -1,7 +1,7 @@
 use Rattle.std.proofs.Common.{◌≡◌, ◌≤◌, false, length}
 use Rattle.loom_law.specs.TurnLaws.{ends_blocked}
 use Rattle.loom_strand.specs.Strand.{IsStarted}
-use Rattle.loom_tests.proofs.strand.lines_of.Given as goal
+use Rattle.loom_run_tests.proofs.strand.lines_of.Given as goal
 
 abbrev pub invariant-entries : goal.invariant-entries
 invariant-entries l = record {

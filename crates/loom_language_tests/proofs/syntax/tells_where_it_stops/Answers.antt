@@ -6,7 +6,7 @@ use Rattle.loom_tree.specs.declared.token.TokenKind.{TokenKind}
 use Rattle.loom_tree.specs.declared.token.TokenKind.TheVariants as k
 use Rattle.loom_tree.specs.declared.token.Token.{Token}
 use Rattle.loom_syntax.proofs.Within.{all_within}
-use Rattle.loom_tests.proofs.syntax.tells_where_it_stops.Goals as goal
+use Rattle.loom_language_tests.proofs.syntax.tells_where_it_stops.Goals as goal
 
 abbrev kinds : List TokenKind
 kinds = (k.Keyword w.Fn) ∷ k.Name ∷ (k.Sign s.ParenOpen) ∷ (k.Sign s.ParenClose) ∷ (k.Sign s.BraceOpen) ∷ k.Name ∷ (k.Sign s.Assign) ∷ k.Name ∷ (k.Sign s.ParenOpen) ∷ (k.Number 7) ∷ (k.Sign s.ParenClose) ∷ (k.Op o.Sub) ∷ []

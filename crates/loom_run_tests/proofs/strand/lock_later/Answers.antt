@@ -7,7 +7,7 @@ use Rattle.loom_strand.specs.declared.stage.Want.{Want}
 use Rattle.loom_strand.specs.declared.stage.Want.TheVariants as want
 use Rattle.loom_strand.specs.Strand.{Strand, Wants}
 use Rattle.loom_strand.proofs.Again.{grant_replies}
-use Rattle.loom_tests.proofs.strand.lock_later.Goals as goal
+use Rattle.loom_run_tests.proofs.strand.lock_later.Goals as goal
 
 asked : (z : Strand) (w : Want) (q : Request) → Wants z z.birth w → w ≡ want.Ask q → z.want ≡ Some q
 asked z w q h is = by_birth z.birth (subst (Wants z z.birth) is h)

@@ -12,6 +12,4 @@ mod run;
 mod show;
 mod show_filter;
 pub mod status;
-#[cfg(test)]
-mod tests;
 mod write;

@@ -1,7 +1,7 @@
 //! Programs at the limits of the language: what has the most that it may have is run, and with one
 //! more it is refused.
 
-use super::answer_of;
+use crate::alone::answer_of;
 use loom_trace::line::Line;
 use loom_trace::text::put_printed;
 use loom_tree::name::NoMemory;

@@ -1,7 +1,7 @@
 //! What `show` writes, row by row.
 
-use super::answer_of;
-use super::rows::Row;
+use crate::alone::answer_of;
+use crate::rows::Row;
 use std::test::Fail;
 
 const SHOW: &[&str] = &["show", "p.lm"];

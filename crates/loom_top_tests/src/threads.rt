@@ -1,6 +1,6 @@
 //! What runs of several threads write, row by row.
 
-use crate::tests::rows::{PLAIN, Row};
+use crate::rows::{PLAIN, Row};
 
 // Thread 2 goes on when thread 1 has ended.
 const OUTLIVES: &[u8] = b"fn w() {\nprint 1;\nprint 2;\n}\nfn main() {\nlet t = spawn w();\n}\n";

@@ -1,22 +1,17 @@
 //! The top call on shelves and sinks in memory.
 
-mod filters;
-mod limits;
-mod rows;
-mod show;
-mod threads;
-mod watch;
-
-use crate::alone::loom_alone;
+use crate::rows::{ROWS, Row, SUM};
+use crate::threads;
+use crate::watch::Watch;
 use loom_io::memory::{Calls, Files, MemShelf, MemSink};
+use loom_top::alone::loom_alone;
 use loom_tree::name::{Name, NoMemory};
-use rows::{ROWS, Row, SUM};
 use std::alloc::Global;
 use std::process::Abort;
 use std::test::Fail;
-use watch::Watch;
 
-fn shelf_of(alloc: Global, name: &[u8], bytes: &[u8]) -> Result<MemShelf, NoMemory> {
+/// A shelf of one file.
+pub(crate) fn shelf_of(alloc: Global, name: &[u8], bytes: &[u8]) -> Result<MemShelf, NoMemory> {
     let mut files = Vec::new(alloc);
     files.push((Name::copied(alloc, name)?, Name::copied(alloc, bytes)?))?;
     Ok(MemShelf {
@@ -27,8 +22,12 @@ fn shelf_of(alloc: Global, name: &[u8], bytes: &[u8]) -> Result<MemShelf, NoMemo
     })
 }
 
-// What the words write where the file `p.lm` has these bytes, and the status.
-fn answer_of(alloc: Global, bytes: &[u8], words: &[&str]) -> Result<(u8, Name), NoMemory> {
+/// What the words write where the file `p.lm` has these bytes, and the status.
+pub(crate) fn answer_of(
+    alloc: Global,
+    bytes: &[u8],
+    words: &[&str],
+) -> Result<(u8, Name), NoMemory> {
     let mut shelf = shelf_of(alloc, b"p.lm", bytes)?;
     let mut sink = MemSink::make(alloc, 4096, 4096)?;
     let status = loom_alone(alloc, words, &mut shelf, &mut sink);

@@ -1,8 +1,8 @@
 //! What `show` writes of filters, row by row.
 
-use super::shelf_of;
-use crate::alone::loom_alone;
+use crate::alone::shelf_of;
 use loom_io::memory::MemSink;
+use loom_top::alone::loom_alone;
 use std::process::Abort;
 use std::test::Fail;
 

@@ -1,0 +1,17 @@
+//! Tests of `loom_top`, by its public calls.
+#![tactic(auto)]
+
+#[cfg(test)]
+mod alone;
+#[cfg(test)]
+mod filters;
+#[cfg(test)]
+mod limits;
+#[cfg(test)]
+mod rows;
+#[cfg(test)]
+mod show;
+#[cfg(test)]
+mod threads;
+#[cfg(test)]
+mod watch;

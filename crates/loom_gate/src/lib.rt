@@ -9,4 +9,6 @@ pub mod make;
 pub mod pass;
 pub mod settle;
 mod steps;
+#[cfg(test)]
+mod tests;
 pub mod view;

@@ -2,14 +2,14 @@
 ghost use Rattle.std.specs.Prelude.{◌≡◌, ℕ, ◌+◌, ◌<◌, ◌≤◌, [], IfSome, All, true, false};
 ghost use Rattle.std.specs.Thread.{IsSync};
 ghost use Rattle.loom_trace.specs.Places.{has_place};
-ghost use Rattle.loom_gate.specs.Seats.{threads_of, places_of, thread_of_pass, switches_left, has_flags_up, IsPassOf, ArePassesOf, IsKeyOf, IsStanding};
+ghost use Rattle.loom_gate.specs.Seats.{threads_of, places_of, IsPassOf, ArePassesOf, IsKeyOf, IsStanding};
 
-use loom_gate::gate::Gate;
-use loom_gate::key::{Key, Looked};
-use loom_gate::log::{GateLog, PassRow};
-use loom_gate::make::Passes;
-use loom_gate::pass::{Entered, Pass};
-use loom_gate::settle::settle;
+use crate::gate::Gate;
+use crate::key::{Key, Looked};
+use crate::log::{GateLog, PassRow};
+use crate::make::Passes;
+use crate::pass::{Entered, Pass};
+use crate::settle::settle;
 use loom_trace::places::Places;
 use std::sync::Wait;
 use std::test::Fail;
@@ -18,7 +18,7 @@ use std::thread::{Threads, join_mut};
 // The pass of a gate of one thread.
 fn only(gate: &Gate, passes: &mut Vec<Pass>) -> Option<Pass>
     requires passes { ArePassesOf gate.now passes.old.items × (threads_of gate.now ≡ 1) × All IsStanding passes.old.items }
-    ensures pass { IfSome result (λ p. IsPassOf gate.now p × IsStanding p × (thread_of_pass p ≡ 1)) }
+    ensures pass { IfSome result (λ p. IsPassOf gate.now p × IsStanding p × (p.thread ≡ 1)) }
     ensures rest { IfSome result (λ p. passes.new.items ≡ []) }
 {
     passes.pop()
@@ -86,7 +86,7 @@ fn come_and_go<R: Wait>(rt: &R, gate: &Gate, pass: &mut Pass, times: u32) -> u32
     requires pass { IsPassOf gate.now pass.old × IsStanding pass.old }
     requires places { 2 < places_of gate.now }
     ensures pass { IsPassOf gate.now pass.new × IsStanding pass.new }
-    ensures same { thread_of_pass pass.new ≡ thread_of_pass pass.old }
+    ensures same { pass.new.thread ≡ pass.old.thread }
 {
     let mut entered = 0u32;
     'times: for i in 0..times {
@@ -103,9 +103,9 @@ fn come_and_go<R: Wait>(rt: &R, gate: &Gate, pass: &mut Pass, times: u32) -> u32
 
 // Raises places 0 and 1, switches as soon as the thread is found at one of them, and lowers.
 fn evacuate<R: Wait>(rt: &R, gate: &Gate, key: &mut Key)
-    requires key { IsKeyOf gate.now key.old × (has_flags_up key.old ≡ false) × (0 < switches_left key.old) }
+    requires key { IsKeyOf gate.now key.old × (key.old.up ≡ false) × (0 < key.old.left) }
     requires threads { (threads_of gate.now ≡ 1) × (1 < places_of gate.now) }
-    ensures key { IsKeyOf gate.now key.new × (has_flags_up key.new ≡ false) × (switches_left key.old ≤ switches_left key.new + 1) }
+    ensures key { IsKeyOf gate.now key.new × (key.new.up ≡ false) × (key.old.left ≤ key.new.left + 1) }
 {
     let flags = two(0, 1, 2);
     key.raise(gate, &flags);
@@ -122,21 +122,21 @@ fn evacuate<R: Wait>(rt: &R, gate: &Gate, key: &mut Key)
 
 // The thread comes and goes a thousand times while the key evacuates twice. Tells how often it entered.
 fn both<R: Threads + Wait + Sync>(rt: &R, gate: &Gate, key: &mut Key, pass: &mut Pass) -> u32
-    requires key { IsKeyOf gate.now key.old × (has_flags_up key.old ≡ false) × (1 < switches_left key.old) }
+    requires key { IsKeyOf gate.now key.old × (key.old.up ≡ false) × (1 < key.old.left) }
     requires pass { IsPassOf gate.now pass.old × IsStanding pass.old }
     requires threads { (threads_of gate.now ≡ 1) × (2 < places_of gate.now) }
-    ensures key { IsKeyOf gate.now key.new × (has_flags_up key.new ≡ false) }
-    ensures pass { IsPassOf gate.now pass.new × IsStanding pass.new × (thread_of_pass pass.new ≡ thread_of_pass pass.old) }
+    ensures key { IsKeyOf gate.now key.new × (key.new.up ≡ false) }
+    ensures pass { IsPassOf gate.now pass.new × IsStanding pass.new × (pass.new.thread ≡ pass.old.thread) }
 {
     let (entered, _) = join_mut(
         rt,
         &mut ||
             requires { IsSync R.row × IsPassOf gate.now pass.now × IsStanding pass.now × (2 < places_of gate.now) }
-            ensures { IsPassOf gate.entry.now pass.exit.now × IsStanding pass.exit.now × (thread_of_pass pass.exit.now ≡ thread_of_pass pass.entry.now) }
+            ensures { IsPassOf gate.entry.now pass.exit.now × IsStanding pass.exit.now × (pass.exit.now.thread ≡ pass.entry.now.thread) }
         { come_and_go(rt, gate, pass, 1000) },
         &mut ||
-            requires { IsSync R.row × IsKeyOf gate.now key.now × (has_flags_up key.now ≡ false) × (1 < switches_left key.now) × (threads_of gate.now ≡ 1) × (2 < places_of gate.now) }
-            ensures { IsKeyOf gate.entry.now key.exit.now × (has_flags_up key.exit.now ≡ false) }
+            requires { IsSync R.row × IsKeyOf gate.now key.now × (key.now.up ≡ false) × (1 < key.now.left) × (threads_of gate.now ≡ 1) × (2 < places_of gate.now) }
+            ensures { IsKeyOf gate.entry.now key.exit.now × (key.exit.now.up ≡ false) }
         {
             evacuate(rt, gate, key);
             evacuate(rt, gate, key)

@@ -25,3 +25,4 @@ pub mod AreaSteps
 pub mod PathFaults
 pub mod Unions
 pub mod UnsafeFacts
+pub mod Judgements

@@ -5,6 +5,7 @@ mod area;
 mod calls;
 mod events;
 mod fault;
+pub mod judge;
 mod links;
 mod node;
 mod reach;

@@ -3,12 +3,12 @@ use Rattle.std.proofs.Common.{ℕ, zero, suc, ◌+◌, ◌<◌, ◌≤◌, ◌�
 use Rattle.std.proofs.lemmas.Option.{slice_get_within}
 use Rattle.loom_trace.specs.Limits.{thread_limit}
 use Rattle.loom_trace.specs.declared.entry.Entry.{Entry}
-use Rattle.loom_trace.specs.declared.entry.Entry.TheVariants as e
 use Rattle.loom_trace.specs.declared.entry.Ending.{Ending}
 use Rattle.loom_trace.specs.declared.entry.Ending.TheVariants as k
-use Rattle.loom_event.specs.Entries.{thread_entries}
+use Rattle.loom_event.specs.Entries.{thread_of, thread_entries}
 use Rattle.loom_event.specs.Replay.{ThreadState, Store, thread_at, AllEnded}
-use Rattle.loom_law.specs.Lawful.{Lives, IsBlocked, Ends}
+use Rattle.loom_law.specs.Control.{Control}
+use Rattle.loom_law.specs.Lawful.{Lives, IsBlocked, IsDue, Ends, MayControl}
 use Rattle.loom_law.proofs.Earlier.{same_number}
 use Rattle.loom_world.specs.declared.choice.Choice.{Choice}
 use Rattle.loom_world.specs.declared.choice.Why.{Why}
@@ -16,11 +16,13 @@ use Rattle.loom_world.specs.declared.choice.Why.TheVariants as why
 use Rattle.loom_world.specs.declared.choice.Turned.{Turned}
 use Rattle.loom_world.specs.declared.choice.Turned.TheVariants as r
 use Rattle.loom_world.specs.Book.{Book, setting, front, HasLawfulJournal}
-use Rattle.loom_world.specs.Idle.{HasFinish, IsClosed, IsIdle, IsIdleThread, IsIdleControl}
+use Rattle.loom_world.specs.Idle.{HasFinish, IsClosed, CommandGoesFirst, IsIdle, IsIdleThread, IsIdleControl}
 use Rattle.loom_world.specs.Turned.{Turns}
 use Rattle.loom_world.specs.World.{Lead}
-use Rattle.loom_world.proofs.Ends.{over_is, not_yes, ends_at_limit, ends_done, ends_stuck, may_finish}
-use Rattle.loom_world.proofs.FewEntries.{few_spawned, not_equal}
+use Rattle.loom_world.proofs.Counts.{not_equal}
+use Rattle.loom_world.proofs.Ends.{over_is, not_yes, ends_at_limit, ends_done, ends_stuck}
+use Rattle.loom_world.proofs.ControlTurns.{not_asked, not_due, not_over}
+use Rattle.loom_world.proofs.FewThreads.{few_spawned}
 use Rattle.loom_crew.specs.Round.{threads_from, round, HasProgress}
 
 -- Turns
@@ -71,14 +73,15 @@ each_idle b zero t idle u first last = let no : ⊥ = omega (arith, first, last)
 each_idle b (suc n) t idle u first last =
     one_idle b t u (t == u) refl idle.0 (λ other. each_idle b n (suc t) idle.1 u (omega (arith, first, other)) (omega (arith, last)))
 
-blocked_if_idle : (b : Book) (u : ℕ) → (IsClosed b → ⊥) → (w : Why) → IsIdleThread b u w → Lives b.store u → IsBlocked (setting b) (front b) u
-blocked_if_idle b u goes_on why.Over idle lives = absurd (goes_on idle)
-blocked_if_idle b u goes_on why.Ended idle lives =
+blocked_if_idle : (b : Book) (u : ℕ) → (IsClosed b → ⊥) → (CommandGoesFirst b → ⊥) → (w : Why) → IsIdleThread b u w → Lives b.store u → IsBlocked (setting b) (front b) u
+blocked_if_idle b u goes_on no_command why.Over idle lives = absurd (goes_on idle)
+blocked_if_idle b u goes_on no_command why.Ended idle lives =
     let same : idle.1.state ≡ lives.state = cc (idle.1.is, lives.is) in
     let no : true ≡ false = sym idle.1.ended ∙ (ap (λ (o : ThreadState). o.ended) same ∙ lives.not_ended) in cc
-blocked_if_idle b u goes_on why.Unborn idle lives = let no : None ≡ Some lives.state = sym idle.1 ∙ lives.is in cc
-blocked_if_idle b u goes_on why.Blocked idle lives = idle.1.1
-blocked_if_idle b u goes_on why.Nothing idle lives = absurd idle
+blocked_if_idle b u goes_on no_command why.Unborn idle lives = let no : None ≡ Some lives.state = sym idle.1 ∙ lives.is in cc
+blocked_if_idle b u goes_on no_command why.Due idle lives = absurd (no_command idle.1.1)
+blocked_if_idle b u goes_on no_command why.Blocked idle lives = idle.1.1.1
+blocked_if_idle b u goes_on no_command why.Nothing idle lives = absurd idle
 
 -- Each thread has ended, or one lives.
 
@@ -119,22 +122,33 @@ live_number b h (suc i) lives =
     let few = few_spawned b h in
     (omega arith, omega (arith, there, few))
 
--- The end
+-- Control
 
-control_idle : (b : Book) → HasLawfulJournal b → (HasFinish b → ⊥) → (w : Why) → IsIdleControl b w → (kind : Ending) → Ends (setting b) (front b) kind → ⊥
-control_idle b h unfinished why.Nothing (inl written) kind ends = unfinished written
-control_idle b h unfinished why.Nothing (inr none) kind ends = none (e.Finish kind) refl (may_finish b h kind ends)
-control_idle b h unfinished why.Over idle kind ends = idle
-control_idle b h unfinished why.Ended idle kind ends = idle
-control_idle b h unfinished why.Unborn idle kind ends = idle
-control_idle b h unfinished why.Blocked idle kind ends = idle
+control_idle : (b : Book) → (HasFinish b → ⊥) → (w : Why) → IsIdleControl b w → (x : Entry) → thread_of x ≡ None → MayControl (setting b) (front b) x [] → ⊥
+control_idle b unfinished why.Nothing (inl written) = absurd (unfinished written)
+control_idle b unfinished why.Nothing (inr none) = none
+control_idle b unfinished why.Over idle = absurd idle
+control_idle b unfinished why.Ended idle = absurd idle
+control_idle b unfinished why.Unborn idle = absurd idle
+control_idle b unfinished why.Due idle = absurd idle
+control_idle b unfinished why.Blocked idle = absurd idle
+
+first_idle : (b : Book) → Control.asked (front b).control ≡ None → (IsDue (setting b) (front b) → ⊥) → CommandGoesFirst b → ⊥
+first_idle b none not_due (inl due) = not_due due
+first_idle b none not_due (inr vain) = let no : None ≡ Some vain.command = sym none ∙ vain.asked in cc
 
 -- Where control and each thread are idle, the journal is finished.
 not_all_idle : (b : Book) → HasLawfulJournal b → (HasFinish b → ⊥) → AreIdle b round → ⊥
 not_all_idle b h unfinished idle = by_threads (lives_or_ended b.store)
   where
+    nothing : (x : Entry) → thread_of x ≡ None → MayControl (setting b) (front b) x [] → ⊥
+    nothing = control_idle b unfinished idle.0.0 idle.0.1
+
     never : (kind : Ending) → Ends (setting b) (front b) kind → ⊥
-    never = control_idle b h unfinished idle.0.0 idle.0.1
+    never = not_over b h nothing
+
+    no_command : CommandGoesFirst b → ⊥
+    no_command = first_idle b (not_asked b h nothing) (not_due b nothing)
 
     less : (thread_entries b.entries == b.limit) ≡ false
     less = not_yes (thread_entries b.entries == b.limit) (λ full. never k.Limit (ends_at_limit b full))
@@ -147,11 +161,11 @@ not_all_idle b h unfinished idle = by_threads (lives_or_ended b.store)
     blocked u lives =
         let number = live_number b h u lives in
         let so = each_idle b thread_limit 1 idle.1 u number.0 number.1 in
-        blocked_if_idle b u goes_on so.0 so.1 lives
+        blocked_if_idle b u goes_on no_command so.0 so.1 lives
 
     by_threads : AllEnded b.store ⊎ ((t : ℕ) × Lives b.store t) → ⊥
-    by_threads (inl ended) = never k.Done (ends_done b less ended)
-    by_threads (inr live) = never k.Stuck (ends_stuck b less live.0 live.1 blocked)
+    by_threads (inl ended) = never k.Done (ends_done b less (not_due b nothing) ended)
+    by_threads (inr live) = never k.Stuck (ends_stuck b less (not_due b nothing) live.0 live.1 blocked)
 
 pub progress : HasProgress
 progress old new h unfinished lead = by_turns (moves old new round lead)

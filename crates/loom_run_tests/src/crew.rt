@@ -3,6 +3,7 @@
 use loom_crew::alone::run_alone;
 use loom_lang::limits::FILE_LIMIT;
 use loom_lang::parse::{LangError, parse_program};
+use loom_script::script::{Commands, Script};
 use loom_trace::journal::Journal;
 use loom_trace::line::Line;
 use loom_trace::text::put_entry;
@@ -23,7 +24,10 @@ fn world_of(alloc: Global, text: &str) -> Result<World, LangError> {
     if bytes.len() > FILE_LIMIT {
         return Err(LangError::NoMemory);
     }
-    Ok(World::make(alloc, &parse_program(alloc, bytes)?, 100)?)
+    let script = Script {
+        commands: Commands(Vec::new(alloc)),
+    };
+    Ok(World::make(alloc, &parse_program(alloc, bytes)?, b"p.lm", &script, 100)?)
 }
 
 fn put_line(text: &mut Vec<u8>, line: &Line) -> Result<(), NoMemory> {

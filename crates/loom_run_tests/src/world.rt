@@ -6,6 +6,7 @@ mod rows;
 
 use loom_lang::limits::FILE_LIMIT;
 use loom_lang::parse::{LangError, parse_program};
+use loom_script::script::{Commands, Script};
 use loom_trace::journal::Journal;
 use loom_trace::line::Line;
 use loom_trace::text::put_entry;
@@ -24,7 +25,16 @@ fn world_of(alloc: Global, text: &str, limit: u32) -> Result<World, LangError>
     if bytes.len() > FILE_LIMIT {
         return Err(LangError::NoMemory);
     }
-    Ok(World::make(alloc, &parse_program(alloc, bytes)?, limit)?)
+    let script = Script {
+        commands: Commands(Vec::new(alloc)),
+    };
+    Ok(World::make(
+        alloc,
+        &parse_program(alloc, bytes)?,
+        b"p.lm",
+        &script,
+        limit,
+    )?)
 }
 
 // A turn of control, and then one of each thread.

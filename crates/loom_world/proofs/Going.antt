@@ -1,5 +1,5 @@
 -- A journal that isn't finished, with one more entry of a thread.
-use Rattle.std.proofs.Common.{ℕ, zero, suc, ◌≤◌, ◌≡◌, ◌⊎◌, inl, inr, ◌==◌, Bool, true, false, not, List, [], ◌∷◌, ◌++◌, length, Option, Some, None, refl, sym, ap, ◌∙◌, subst, arith}
+use Rattle.std.proofs.Common.{ℕ, ◌≤◌, ◌≡◌, ◌⊎◌, inl, inr, ◌==◌, Bool, true, false, not, List, [], ◌∷◌, ◌++◌, length, Option, Some, None, refl, sym, ap, ◌∙◌, subst, arith}
 use Rattle.loom_tree.specs.Tree.{Source}
 use Rattle.loom_lang.specs.Trace.{Act, begin, end, trap, read, write, lock, unlock, down, up, spawn, join, print}
 use Rattle.loom_lang.specs.Acts.{Deed}
@@ -13,27 +13,31 @@ use Rattle.loom_trace.specs.Limits.{thread_limit}
 use Rattle.loom_event.specs.Replay.{ThreadState, Store, start, thread_at, after_event, after_act, replay, IsAllowed, IsAllowedAct, IsRunning, AwaitsBegin}
 use Rattle.loom_law.specs.Walk.{Version, tick, blocked}
 use Rattle.loom_law.specs.ThreadPart.{Own, AsksToMake, AsksToAct}
-use Rattle.loom_law.specs.Control.{Control, control, versions_of, entries_of}
-use Rattle.loom_law.specs.Lawful.{Setting, Front, front_of, plans, own, run_is_over, HasPart, IsDisabledFor, IsLawful}
+use Rattle.loom_law.specs.Control.{Command, Control, control, versions_of, entries_of}
+use Rattle.loom_law.specs.Lawful.{Setting, front_of, plans, own, HasPart, IsDisabledFor, IsLawful}
 use Rattle.loom_law.specs.Laws.{IsUnfinished, with_newest}
 use Rattle.loom_event.specs.Answer.{IsAnswered}
 use Rattle.loom_law.proofs.Earlier.{by_test, same_number, replay_append, entry_thread}
 use Rattle.loom_law.proofs.Turns.{eq_same}
 use Rattle.loom_law.proofs.Longer.{mine, not_mine, not_taken, newest_taken}
-use Rattle.loom_law.proofs.NoCommands.{nothing_controlled, answer_without, tick_without, blocked_without, thread_unfinished}
+use Rattle.loom_law.proofs.NoCommands.{thread_unfinished}
 use Rattle.loom_strand.specs.PlainWalk.{first_version}
 use Rattle.loom_strand.specs.Life.{has_none, is_end, has_ended, versions_with}
-use Rattle.loom_world.specs.Book.{Book, plain_setting}
+use Rattle.loom_world.specs.Commands.{NoneInstalls}
+use Rattle.loom_world.specs.Book.{setting_of}
 use Rattle.loom_world.specs.BookInvariant.{IsAsFar}
-use Rattle.loom_world.proofs.States.{IsOther, IsBehind, begun_by, ended_by, other_state, own_state, most_threads, few_threads}
+use Rattle.loom_world.proofs.FirstVersion.{plain}
+use Rattle.loom_world.proofs.OpenTurns.{TakesEntries, answer_turn, tick_turn, blocked_turn}
+use Rattle.loom_world.proofs.States.{IsOther, begun_by, ended_by, other_state, own_state, most_threads, few_threads}
 
 -- The journal goes on, and its events leave this store.
-pub record IsGoing (p : Source) (limit : ℕ) (es : List Entry) (st : Store) : Type 0 where
-  pub lawful : IsLawful (plain_setting p limit) es
+pub record IsGoing (p : Source) (cs : List Command) (limit : ℕ) (es : List Entry) (st : Store) : Type 0 where
+  pub lawful : IsLawful (setting_of p cs limit) es
   pub store : replay (start p thread_limit) lawful.events ≡ st
+  pub installs : NoneInstalls cs
   pub goes_on : IsUnfinished es
   pub far : (t : ℕ) (x : ThreadState) → thread_at st t ≡ Some x → IsAsFar (entries_of t es) x
-  pub versions : (t : ℕ) → versions_of [] t es ≡ versions_with (entries_of t es)
+  pub versions : (t : ℕ) → versions_of cs t es ≡ versions_with (entries_of t es)
   pub few : length st.spawned ≤ thread_limit
 
 -- Lists with one entry more
@@ -56,27 +60,27 @@ nothing_made : (s : Setting) (es : List Entry) (u : ℕ) (o : Option ThreadState
 nothing_made s es u None h is = h
 nothing_made s es u (Some x) h is = cc
 
-not_there : {p : Source} {limit : ℕ} {es : List Entry} {st : Store} → IsGoing p limit es st → (u : ℕ) → thread_at st u ≡ None → entries_of u es ≡ []
-not_there {p} {limit} {es} {st} g u none =
-    nothing_made (plain_setting p limit) es u _ (g.lawful.parts u) (ap (λ z. thread_at z u) g.store ∙ none)
+not_there : {p : Source} {cs : List Command} {limit : ℕ} {es : List Entry} {st : Store} → IsGoing p cs limit es st → (u : ℕ) → thread_at st u ≡ None → entries_of u es ≡ []
+not_there {p} {cs} {limit} {es} {st} g u none =
+    nothing_made (setting_of p cs limit) es u _ (g.lawful.parts u) (ap (λ z. thread_at z u) g.store ∙ none)
 
 -- How far threads are
 
 far_own : (es : List Entry) (x : Entry) (y : ThreadState) → y.begun ≡ true → y.ended ≡ is_end x → IsAsFar (es ++ x ∷ []) y
 far_own es x y b e = record { begun = b ∙ sym (ap not (some_more es x)); ended = e ∙ sym (ended_last es x) }
 
-far_other : {p : Source} {limit : ℕ} {es : List Entry} {st : Store} → IsGoing p limit es st → (u : ℕ) (y : ThreadState) → IsOther st u y → IsAsFar (entries_of u es) y
+far_other : {p : Source} {cs : List Command} {limit : ℕ} {es : List Entry} {st : Store} → IsGoing p cs limit es st → (u : ℕ) (y : ThreadState) → IsOther st u y → IsAsFar (entries_of u es) y
 far_other g u y (inl h) = g.far u y h
 far_other g u y (inr h) =
     let none = not_there g u h.0 in
     record { begun = h.1.0 ∙ sym (ap (λ z. not (has_none z)) none); ended = h.1.1 ∙ sym (ap has_ended none) }
 
 -- the entry is of thread t; the other threads are as they were, or new
-far_more : {p : Source} {limit : ℕ} {es : List Entry} {st : Store} → IsGoing p limit es st → (st' : Store) (t : ℕ) (x : Entry) → thread_of x ≡ Some t
+far_more : {p : Source} {cs : List Command} {limit : ℕ} {es : List Entry} {st : Store} → IsGoing p cs limit es st → (st' : Store) (t : ℕ) (x : Entry) → thread_of x ≡ Some t
     → ((y : ThreadState) → thread_at st' t ≡ Some y → (y.begun ≡ true) × (y.ended ≡ is_end x))
     → ((u : ℕ) (y : ThreadState) → (t ≡ u → ⊥) → thread_at st' u ≡ Some y → IsOther st u y)
     → (u : ℕ) (y : ThreadState) → thread_at st' u ≡ Some y → IsAsFar (entries_of u (es ++ x ∷ [])) y
-far_more {p} {limit} {es} {st} g st' t x of self others u y is =
+far_more {p} {cs} {limit} {es} {st} g st' t x of self others u y is =
     by_test (t == u) (IsAsFar (entries_of u (es ++ x ∷ [])) y)
     (λ same.
     let theirs : thread_at st' t ≡ Some y = subst (λ z. thread_at st' z ≡ Some y) (sym (same_number t u same)) is in
@@ -104,23 +108,23 @@ versions_own ys x v vs first so (inl h) =
     h.1 v vs ∙ (ap (λ z. z ++ v ∷ []) none ∙ (ap (λ z. z ∷ []) first ∙ sym (ap (λ z. versions_with (z ++ x ∷ [])) h.0)))
 versions_own ys x v vs first so (inr h) = h.1 v vs ∙ (so ∙ sym (versions_later ys x h.0))
 
-versions_more : {p : Source} {limit : ℕ} {es : List Entry} {st : Store} → IsGoing p limit es st → (t : ℕ) (x : Entry) → thread_of x ≡ Some t
-    → TakesAsSaid (entries_of t es) x → (u : ℕ) → versions_of [] u (es ++ x ∷ []) ≡ versions_with (entries_of u (es ++ x ∷ []))
-versions_more {p} {limit} {es} {st} g t x of says u =
-    by_test (t == u) (versions_of [] u (es ++ x ∷ []) ≡ versions_with (entries_of u (es ++ x ∷ [])))
+versions_more : {p : Source} {cs : List Command} {limit : ℕ} {es : List Entry} {st : Store} → IsGoing p cs limit es st → (t : ℕ) (x : Entry) → thread_of x ≡ Some t
+    → TakesAsSaid (entries_of t es) x → (u : ℕ) → versions_of cs u (es ++ x ∷ []) ≡ versions_with (entries_of u (es ++ x ∷ []))
+versions_more {p} {cs} {limit} {es} {st} g t x of says u =
+    by_test (t == u) (versions_of cs u (es ++ x ∷ []) ≡ versions_with (entries_of u (es ++ x ∷ [])))
     (λ same.
     let its : is_thread u (thread_of x) ≡ true = ap (is_thread u) of ∙ same in
-    let first : Control.version (control [] es) ≡ first_version = ap (λ (c : Control). c.version) (nothing_controlled (plain_setting p limit) es g.lawful refl) in
+    let first : Control.version (control cs es) ≡ first_version = (plain (setting_of p cs limit) es g.lawful g.installs).version.version in
     let says_u : TakesAsSaid (entries_of u es) x = subst (λ z. TakesAsSaid (entries_of z es) x) (same_number t u same) says in
-    newest_taken [] u x es its ∙ (versions_own (entries_of u es) x _ _ first (g.versions u) says_u ∙ sym (ap versions_with (mine u x es its))))
+    newest_taken cs u x es its ∙ (versions_own (entries_of u es) x _ _ first (g.versions u) says_u ∙ sym (ap versions_with (mine u x es its))))
     (λ other.
     let not_its : is_thread u (thread_of x) ≡ false = ap (is_thread u) of ∙ other in
-    not_taken [] u x es not_its ∙ (g.versions u ∙ sym (ap versions_with (not_mine u x es not_its))))
+    not_taken cs u x es not_its ∙ (g.versions u ∙ sym (ap versions_with (not_mine u x es not_its))))
 
 -- What a thread asks for is said of its own part of the journal.
-own_is : {p : Source} {limit : ℕ} {es : List Entry} {st : Store} → IsGoing p limit es st → (t : ℕ) (z : ThreadState)
-    → record { thread = t; func = z.func; args = z.args; versions = versions_with (entries_of t es); entries = entries_of t es } ≡ own (plain_setting p limit) es t z
-own_is {p} {limit} {es} {st} g t z = ap (λ vs. record { thread = t; func = z.func; args = z.args; versions = vs; entries = entries_of t es }) (sym (g.versions t))
+own_is : {p : Source} {cs : List Command} {limit : ℕ} {es : List Entry} {st : Store} → IsGoing p cs limit es st → (t : ℕ) (z : ThreadState)
+    → record { thread = t; func = z.func; args = z.args; versions = versions_with (entries_of t es); entries = entries_of t es } ≡ own (setting_of p cs limit) es t z
+own_is {p} {cs} {limit} {es} {st} g t z = ap (λ vs. record { thread = t; func = z.func; args = z.args; versions = vs; entries = entries_of t es }) (sym (g.versions t))
 
 -- With an event
 
@@ -170,26 +174,27 @@ by_act st t l (spawn c f us) ys z there far lives h = let b = is_begun st t z th
 by_act st t l (join c) ys z there far lives h = let b = is_begun st t z there h.0 in with_later t l (join c) ys z far b b lives (λ v vs. refl)
 by_act st t l (print v) ys z there far lives h = let b = is_begun st t z there h.0 in with_later t l (print v) ys z far b b lives (λ v vs. refl)
 
-pub event_goes : {p : Source} {limit : ℕ} {es : List Entry} {st : Store} → (g : IsGoing p limit es st) → run_is_over (plain_setting p limit) (front_of (plain_setting p limit) es g.lawful.events) ≡ false
+pub event_goes : {p : Source} {cs : List Command} {limit : ℕ} {es : List Entry} {st : Store} → (g : IsGoing p cs limit es st) → TakesEntries (setting_of p cs limit) es g.lawful
     → (t : ℕ) (z : ThreadState) → thread_at st t ≡ Some z → z.ended ≡ false
-    → (q : Request) (d : Deed) → AsksToAct p (plans (plain_setting p limit)) (record { thread = t; func = z.func; args = z.args; versions = versions_with (entries_of t es); entries = entries_of t es }) q
+    → (q : Request) (d : Deed) → AsksToAct p (plans (setting_of p cs limit)) (record { thread = t; func = z.func; args = z.args; versions = versions_with (entries_of t es); entries = entries_of t es }) q
     → IsAnswered q d → IsAllowed st (event_of_deed t d)
-    → IsGoing p limit (es ++ entry_by t d.line d.act ∷ []) (after_event st (event_of_deed t d))
-event_goes {p} {limit} {es} {st} g runs t z there lives q d asks answer allowed =
-    let s : Setting = plain_setting p limit in
+    → IsGoing p cs limit (es ++ entry_by t d.line d.act ∷ []) (after_event st (event_of_deed t d))
+event_goes {p} {cs} {limit} {es} {st} g takes t z there lives q d asks answer allowed =
+    let s : Setting = setting_of p cs limit in
     let x : Entry = entry_by t d.line d.act in
     let y : TargetEvent = event_of_deed t d in
     let of : thread_of x ≡ Some t = entry_thread t d.line d.act in
     let theirs = subst (λ (w : Own). AsksToAct p (plans s) w q) (own_is g t z) asks in
     let there_so : thread_at (replay (start p thread_limit) g.lawful.events) t ≡ Some z = ap (λ w. thread_at w t) g.store ∙ there in
     let allowed_so = subst (λ w. IsAllowed w y) (sym g.store) allowed in
-    let more = answer_without s es g.lawful refl g.goes_on runs t z there_so q d theirs answer allowed_so in
+    let more = answer_turn s es g.lawful takes t z there_so q d theirs answer allowed_so in
     let follows = by_act st t d.line d.act (entries_of t es) z there (g.far t z there) lives allowed in
     let self : (u : ThreadState) → thread_at (after_act st t d.act) t ≡ Some u → (u.begun ≡ true) × (u.ended ≡ is_end x) =
     λ u is. (let b = own_state st t d.act z u there is in (b.0 ∙ follows.begun, b.1 ∙ follows.ended)) in
     record {
       lawful = more.0;
       store = ap (replay (start p thread_limit)) more.1 ∙ (replay_append (start p thread_limit) g.lawful.events (y ∷ []) ∙ ap (λ w. after_event w y) g.store);
+      installs = g.installs;
       goes_on = thread_unfinished es x t of;
       far = far_more g (after_act st t d.act) t x of self (λ u w. other_state st t u d.act w);
       versions = versions_more g t x of follows.takes;
@@ -198,10 +203,10 @@ event_goes {p} {limit} {es} {st} g runs t z there lives q d asks answer allowed 
 
 -- With an operation the store stays as it is
 
-operation_goes : {p : Source} {limit : ℕ} {es : List Entry} {st : Store} → (g : IsGoing p limit es st) → (t : ℕ) (z : ThreadState) → thread_at st t ≡ Some z → z.ended ≡ false
+operation_goes : {p : Source} {cs : List Command} {limit : ℕ} {es : List Entry} {st : Store} → (g : IsGoing p cs limit es st) → (t : ℕ) (z : ThreadState) → thread_at st t ≡ Some z → z.ended ≡ false
     → has_none (entries_of t es) ≡ false → (x : Entry) → thread_of x ≡ Some t → is_end x ≡ false → ((v : Version) (vs : List Version) → with_newest x v vs ≡ vs)
-    → (more : (h' : IsLawful (plain_setting p limit) (es ++ x ∷ [])) × (h'.events ≡ g.lawful.events)) → IsGoing p limit (es ++ x ∷ []) st
-operation_goes {p} {limit} {es} {st} g t z there lives some x of no_end takes more =
+    → (more : (h' : IsLawful (setting_of p cs limit) (es ++ x ∷ [])) × (h'.events ≡ g.lawful.events)) → IsGoing p cs limit (es ++ x ∷ []) st
+operation_goes {p} {cs} {limit} {es} {st} g t z there lives some x of no_end takes more =
     let begun : z.begun ≡ true = IsAsFar.begun (g.far t z there) ∙ ap not some in
     let self : (u : ThreadState) → thread_at st t ≡ Some u → (u.begun ≡ true) × (u.ended ≡ is_end x) =
     λ u is. (let same : z ≡ u = cc (there, is) in
@@ -209,29 +214,30 @@ operation_goes {p} {limit} {es} {st} g t z there lives some x of no_end takes mo
     record {
       lawful = more.0;
       store = ap (replay (start p thread_limit)) more.1 ∙ g.store;
+      installs = g.installs;
       goes_on = thread_unfinished es x t of;
       far = far_more g st t x of self (λ u w ne is. inl is);
       versions = versions_more g t x of (inr (some, takes));
       few = g.few;
     }
 
-pub tick_goes : {p : Source} {limit : ℕ} {es : List Entry} {st : Store} → (g : IsGoing p limit es st) → run_is_over (plain_setting p limit) (front_of (plain_setting p limit) es g.lawful.events) ≡ false
+pub tick_goes : {p : Source} {cs : List Command} {limit : ℕ} {es : List Entry} {st : Store} → (g : IsGoing p cs limit es st) → TakesEntries (setting_of p cs limit) es g.lawful
     → (t : ℕ) (z : ThreadState) → thread_at st t ≡ Some z → z.ended ≡ false → has_none (entries_of t es) ≡ false
-    → (l k : ℕ) → AsksToMake p (plans (plain_setting p limit)) (record { thread = t; func = z.func; args = z.args; versions = versions_with (entries_of t es); entries = entries_of t es }) l (tick k)
-    → IsGoing p limit (es ++ e.Tick t l k ∷ []) st
-tick_goes {p} {limit} {es} {st} g runs t z there lives some l k asks =
-    let s : Setting = plain_setting p limit in
+    → (l k : ℕ) → AsksToMake p (plans (setting_of p cs limit)) (record { thread = t; func = z.func; args = z.args; versions = versions_with (entries_of t es); entries = entries_of t es }) l (tick k)
+    → IsGoing p cs limit (es ++ e.Tick t l k ∷ []) st
+tick_goes {p} {cs} {limit} {es} {st} g takes t z there lives some l k asks =
+    let s : Setting = setting_of p cs limit in
     let theirs = subst (λ (w : Own). AsksToMake p (plans s) w l (tick k)) (own_is g t z) asks in
     let there_so : thread_at (replay (start p thread_limit) g.lawful.events) t ≡ Some z = ap (λ w. thread_at w t) g.store ∙ there in
-    operation_goes g t z there lives some (e.Tick t l k) refl refl (λ v vs. refl) (tick_without s es g.lawful refl g.goes_on runs t z there_so l k theirs)
+    operation_goes g t z there lives some (e.Tick t l k) refl refl (λ v vs. refl) (tick_turn s es g.lawful takes t z there_so l k theirs)
 
-pub blocked_goes : {p : Source} {limit : ℕ} {es : List Entry} {st : Store} → (g : IsGoing p limit es st) → run_is_over (plain_setting p limit) (front_of (plain_setting p limit) es g.lawful.events) ≡ false
+pub blocked_goes : {p : Source} {cs : List Command} {limit : ℕ} {es : List Entry} {st : Store} → (g : IsGoing p cs limit es st) → TakesEntries (setting_of p cs limit) es g.lawful
     → (t : ℕ) (z : ThreadState) → thread_at st t ≡ Some z → z.ended ≡ false → has_none (entries_of t es) ≡ false
-    → (l : ℕ) (what : What) → AsksToMake p (plans (plain_setting p limit)) (record { thread = t; func = z.func; args = z.args; versions = versions_with (entries_of t es); entries = entries_of t es }) l (blocked what)
-    → IsDisabledFor (plain_setting p limit) (front_of (plain_setting p limit) es g.lawful.events) t what
-    → IsGoing p limit (es ++ e.Blocked t l what ∷ []) st
-blocked_goes {p} {limit} {es} {st} g runs t z there lives some l what asks disabled =
-    let s : Setting = plain_setting p limit in
+    → (l : ℕ) (what : What) → AsksToMake p (plans (setting_of p cs limit)) (record { thread = t; func = z.func; args = z.args; versions = versions_with (entries_of t es); entries = entries_of t es }) l (blocked what)
+    → IsDisabledFor (setting_of p cs limit) (front_of (setting_of p cs limit) es g.lawful.events) t what
+    → IsGoing p cs limit (es ++ e.Blocked t l what ∷ []) st
+blocked_goes {p} {cs} {limit} {es} {st} g takes t z there lives some l what asks disabled =
+    let s : Setting = setting_of p cs limit in
     let theirs = subst (λ (w : Own). AsksToMake p (plans s) w l (blocked what)) (own_is g t z) asks in
     let there_so : thread_at (replay (start p thread_limit) g.lawful.events) t ≡ Some z = ap (λ w. thread_at w t) g.store ∙ there in
-    operation_goes g t z there lives some (e.Blocked t l what) refl refl (λ v vs. refl) (blocked_without s es g.lawful refl g.goes_on runs t z there_so l what theirs disabled)
+    operation_goes g t z there lives some (e.Blocked t l what) refl refl (λ v vs. refl) (blocked_turn s es g.lawful takes t z there_so l what theirs disabled)

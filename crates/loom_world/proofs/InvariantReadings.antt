@@ -1,9 +1,8 @@
 -- What a book keeps, as its calls read it.
-use Rattle.std.proofs.Common.{ℕ, zero, suc, ◌+◌, ◌-◌, ◌<◌, ◌≤◌, ◌≡◌, ◌⊎◌, inl, inr, ◌==◌, Bool, true, false, not, ◌||◌, List, [], ◌∷◌, ◌++◌, length, get_or, slice_get, Option, Some, None, refl, sym, ap, ◌∙◌, subst, arith}
+use Rattle.std.proofs.Common.{ℕ, zero, suc, ◌+◌, ◌-◌, ◌<◌, ◌≤◌, ◌≡◌, ◌⊎◌, inl, inr, ◌==◌, Bool, true, false, not, length, get_or, slice_get, Option, Some, None, refl, sym, ap, ◌∙◌, subst, arith}
 use Rattle.std.proofs.lemmas.Option.{slice_get_read, slice_get_within}
-use Rattle.loom_trace.specs.Limits.{thread_limit, control_limit}
+use Rattle.loom_trace.specs.Limits.{thread_limit}
 use Rattle.loom_trace.specs.declared.entry.What.{What}
-use Rattle.loom_trace.specs.declared.entry.Ending.{Ending}
 use Rattle.loom_event.specs.Entries.{thread_entries, last_of_thread}
 use Rattle.loom_event.specs.Replay.{ThreadState, Store, thread_at, IsDisabled, AllEnded}
 use Rattle.loom_law.specs.Lawful.{run_is_over, Lives, IsBlocked}
@@ -11,21 +10,31 @@ use Rattle.loom_law.proofs.Earlier.{same_number}
 use Rattle.loom_law.proofs.Turns.{eq_same}
 use Rattle.loom_store.specs.Answer.{CanWait}
 use Rattle.loom_world.specs.Book.{Book, setting, front}
-use Rattle.loom_world.specs.Idle.{HasFinish, IsClosed, CanGoOn}
+use Rattle.loom_world.specs.Idle.{HasFinish, IsClosed}
 use Rattle.loom_world.specs.BookInvariant.{Notes, wait_in, IsAtEnd, BookInvariant}
 use Rattle.loom_world.proofs.Ends.{over_is, blocked_by, free_by, free_without}
 
-end_if : (b : Book) (more : ℕ) (f c : Bool) → f ≡ c → IsAtEnd b f more → IsAtEnd b c more
-end_if b more f c is h = subst (λ z. IsAtEnd b z more) is h
+end_if : (b : Book) (f c : Bool) → f ≡ c → IsAtEnd b f → IsAtEnd b c
+end_if b f c is h = subst (λ z. IsAtEnd b z) is h
 
 pub is_written : (b : Book) (n : Notes) → BookInvariant b n → n.finished ≡ true → HasFinish b
-is_written b n k is = end_if b (n.entry_count + n.room) n.finished true is k.end
+is_written b n k is = end_if b n.finished true is k.end
 
 pub not_written : (b : Book) (n : Notes) → BookInvariant b n → n.finished ≡ false → HasFinish b → ⊥
-not_written b n k is h = (end_if b (n.entry_count + n.room) n.finished false is k.end).0 h.0 h.1
+not_written b n k is h = end_if b n.finished false is k.end h.0 h.1
 
-pub room_left : (b : Book) (n : Notes) → BookInvariant b n → n.finished ≡ false → n.entry_count + n.room ≡ b.limit + control_limit
-room_left b n k is = (end_if b (n.entry_count + n.room) n.finished false is k.end).1
+pub unfinished_by : (b : Book) (n : Notes) → BookInvariant b n → (HasFinish b → ⊥) → n.finished ≡ false
+unfinished_by b n k not = by_end n.finished refl
+  where
+    by_end : (c : Bool) → n.finished ≡ c → n.finished ≡ false
+    by_end true e = absurd (not (is_written b n k e))
+    by_end false e = e
+
+-- The journal has room for one entry more.
+pub room_left : (b : Book) (n : Notes) → BookInvariant b n → n.finished ≡ false → 0 < n.room
+room_left b n k is =
+    let count = k.commands.count is in
+    omega (arith, count, k.commands.last, k.commands.few, k.commands.room, k.few)
 
 pub count_is : (b : Book) (n : Notes) → BookInvariant b n → (n.entry_count == b.limit) ≡ (thread_entries b.entries == b.limit)
 count_is b n k = ap (λ z. z == b.limit) k.entry_count
@@ -51,11 +60,7 @@ not_full b n k goes_on = by_count (n.entry_count == b.limit) refl
         omega (arith, ne, k.few)
 
 pub not_finished : (b : Book) (n : Notes) → BookInvariant b n → (IsClosed b → ⊥) → n.finished ≡ false
-not_finished b n k goes_on = by_end n.finished refl
-  where
-    by_end : (c : Bool) → n.finished ≡ c → n.finished ≡ false
-    by_end true e = absurd (goes_on (inr (is_written b n k e)))
-    by_end false e = e
+not_finished b n k goes_on = unfinished_by b n k (λ h. goes_on (inr h))
 
 -- What a thread is blocked at
 

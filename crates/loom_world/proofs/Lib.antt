@@ -1,10 +1,18 @@
+pub mod Counts
+pub mod ControlState
+mod FirstVersion
+mod OpenTurns
 pub mod States
 mod Going
 mod LongerJournal
 mod Notes
 pub mod Ends
+pub mod ControlTurns
 mod InvariantReadings
+mod CommandNotes
+mod CommandReadings
 mod LongerBook
-mod FirstAndLast
+mod ControlledBook
+mod ScriptCommands
 mod Strands
-pub mod FewEntries
+pub mod FewThreads

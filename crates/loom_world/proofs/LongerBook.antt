@@ -1,8 +1,8 @@
 -- A book with the entry that an answer makes.
-use Rattle.std.proofs.Common.{ℕ, zero, suc, ◌+◌, ◌-◌, ◌<◌, ◌≤◌, ◌≡◌, ◌⊎◌, inl, inr, ◌==◌, Bool, true, false, List, [], ◌∷◌, ◌++◌, ℤ, pos, negsuc, length, get_or, slice_get, Option, Some, None, refl, sym, ap, ◌∙◌, subst, arith, if◌then◌else◌}
+use Rattle.std.proofs.Common.{ℕ, suc, ◌+◌, ◌-◌, ◌<◌, ◌≤◌, ◌≡◌, ◌⊎◌, inl, inr, ◌==◌, Bool, true, false, List, [], ◌∷◌, ◌++◌, ℤ, pos, negsuc, length, get_or, slice_get, Option, Some, None, refl, sym, ap, ◌∙◌, subst, arith}
 use Rattle.std.specs.Prelude.{slice_set}
 use Rattle.std.proofs.lemmas.Option.{slice_get-get_or}
-use Rattle.loom_trace.specs.Limits.{thread_limit, control_limit}
+use Rattle.loom_trace.specs.Limits.{thread_limit}
 use Rattle.loom_tree.specs.Tree.{Source}
 use Rattle.loom_lang.specs.Trace.{Cause, Act, begin, end, trap, read, write, lock, unlock, down, up, spawn, join, print}
 use Rattle.loom_lang.specs.Acts.{Deed}
@@ -12,18 +12,18 @@ use Rattle.loom_trace.specs.declared.entry.What.{What}
 use Rattle.loom_trace.specs.declared.entry.What.TheVariants as w
 use Rattle.loom_trace.specs.declared.request.Request.{Request}
 use Rattle.loom_trace.specs.declared.request.Request.TheVariants as r
-use Rattle.loom_event.specs.TargetEvent.{entry_by, event_of_deed}
+use Rattle.loom_event.specs.TargetEvent.{event_of_deed}
 use Rattle.loom_event.specs.Answer.{grant_deed, trap_deed, trap_at, cause_of, request_for, IsEntryOf, IsAnswerTo, IsBlockedFor, IsFunctionWith, HasNumbers}
 use Rattle.loom_event.specs.Answer as event
 use Rattle.loom_event.specs.Entries.{thread_of, is_thread, thread_entries, is_some_thread, last_of_thread}
-use Rattle.loom_event.specs.Replay.{ThreadState, Store, new_thread, thread_at, after_event, after_act, replay, IsDisabled}
-use Rattle.loom_law.specs.Control.{entries_of, listed_places}
-use Rattle.loom_law.specs.Lawful.{IsBlocked, IsBlockedBy}
+use Rattle.loom_event.specs.Replay.{ThreadState, Store, thread_at, after_event, after_act, IsDisabled}
+use Rattle.loom_law.specs.Control.{Control, control, first_control, entries_of}
+use Rattle.loom_law.specs.Lawful.{Lives, IsBlocked, IsBlockedBy, IsOpen}
 use Rattle.loom_law.specs.Laws.{IsUnfinished}
 use Rattle.loom_law.specs.TurnLaws.{is_blocked_entry, blocked_behind, ends_blocked}
-use Rattle.loom_law.proofs.Earlier.{IsOf, act_keeps, by_test, same_number, entry_thread}
-use Rattle.loom_law.proofs.NoCommands.{nothing_listed}
-use Rattle.loom_strand.specs.Life.{has_none, IsLastBlockedFor}
+use Rattle.loom_law.proofs.Earlier.{IsOf, act_keeps, by_test, entry_thread}
+use Rattle.loom_law.proofs.Obedience.{control_after_last}
+use Rattle.loom_strand.specs.Life.{IsLastBlockedFor}
 use Rattle.loom_strand.specs.Strand.{IsReplyTo}
 use Rattle.loom_store.specs.declared.answer.Answer.{Answer}
 use Rattle.loom_store.specs.declared.answer.Answer.TheVariants as a
@@ -31,18 +31,23 @@ use Rattle.loom_store.specs.Answer.{CanWait, Answers, IsTrapped, given_deed, dee
 use Rattle.loom_store.specs.Laws.{LeadsTo}
 use Rattle.loom_store.proofs.Deeds.{deeds}
 use Rattle.loom_store.proofs.Sizes.{all_wait, lasting_waits}
-use Rattle.loom_world.specs.Book.{Book, plain_setting, setting, front}
-use Rattle.loom_world.specs.Idle.{IsClosed}
+use Rattle.loom_world.specs.Book.{Book, setting, front, HasLawfulJournal}
+use Rattle.loom_world.specs.Idle.{IsClosed, CommandGoesFirst}
 use Rattle.loom_world.specs.Threads.{HasSameCall, KeepsThreads}
 use Rattle.loom_world.specs.Asking.{Asks, MakesAnswer}
-use Rattle.loom_world.specs.BookInvariant.{Notes, wait_in, wait_of, IsAtEnd, BookInvariant}
+use Rattle.loom_world.specs.BookInvariant.{Notes, wait_in, wait_of, IsAtEnd, NoneGoesOn, BookInvariant}
 use Rattle.loom_world.specs.Entry.{line_in, IsGrantWith, IsEntryFor}
+use Rattle.loom_world.proofs.Counts.{count_last}
+use Rattle.loom_world.proofs.ControlState.{thread_keeps}
 use Rattle.loom_world.proofs.States.{IsSpawnedBy, fresh_state}
+use Rattle.loom_world.proofs.OpenTurns.{TakesEntries}
 use Rattle.loom_world.proofs.Going.{IsGoing}
 use Rattle.loom_world.proofs.LongerJournal.{IsAsking, answer_goes}
 use Rattle.loom_world.proofs.Notes.{wait_of_entry, waits_more}
-use Rattle.loom_world.proofs.Ends.{disabled_for, not_yes}
-use Rattle.loom_world.proofs.InvariantReadings.{full_over, less_goes_on, not_full, not_finished, room_left}
+use Rattle.loom_world.proofs.Ends.{front_is, plain_book, disabled_for, not_yes}
+use Rattle.loom_world.proofs.ControlTurns.{none_asked}
+use Rattle.loom_world.proofs.InvariantReadings.{full_over, less_goes_on, not_full, not_finished}
+use Rattle.loom_world.proofs.CommandNotes.{book_with, room_with, noted}
 
 -- The last entry of a thread
 
@@ -101,7 +106,7 @@ not_told b n k t q asks free l what is disabled = by_last (ends_blocked (entries
     by_last true told =
         let last = last_what b t q asks.blocked told l what is in
         let blocked : IsBlocked (setting b) (front b) t =
-        subst (λ z. IsBlockedBy (setting b) (front b) t z) (sym last) (disabled_for b t what (all_wait b.store what disabled) disabled, nothing_listed (setting b) b.entries k.journal.lawful refl t) in
+        subst (λ z. IsBlockedBy (setting b) (front b) t z) (sym last) (disabled_for b t what (all_wait b.store what disabled) disabled, (plain_book b k.journal).lists t) in
         absurd (free blocked)
 
 -- What the entry says
@@ -203,7 +208,7 @@ can_still b n k t l what first last is =
 enabled : (b : Book) (n : Notes) (k : BookInvariant b n) (t : ℕ) (l : ℕ) (what : What) → (IsBlocked (setting b) (front b) t → ⊥) → last_of_thread t None b.entries ≡ Some (e.Blocked t l what)
     → IsDisabled b.store what → ⊥
 enabled b n k t l what free last disabled =
-    free (subst (λ z. IsBlockedBy (setting b) (front b) t z) (sym last) (disabled_for b t what (all_wait b.store what disabled) disabled, nothing_listed (setting b) b.entries k.journal.lawful refl t))
+    free (subst (λ z. IsBlockedBy (setting b) (front b) t z) (sym last) (disabled_for b t what (all_wait b.store what disabled) disabled, (plain_book b k.journal).lists t))
 
 blocked_what : (t l m : ℕ) (what that : What) → e.Blocked t l what ≡ e.Blocked t m that → what ≡ that
 blocked_what t l m what that h = cc
@@ -340,10 +345,11 @@ functions_more p st new t q (Some d) h g leads = subst (HaveFunctions p) (sym le
 
 -- The whole
 
-going : (b : Book) (n : Notes) (k : BookInvariant b n) → (IsClosed b → ⊥) → IsGoing b.program b.limit b.entries b.store
+going : (b : Book) (n : Notes) (k : BookInvariant b n) → (IsClosed b → ⊥) → IsGoing b.program b.commands b.limit b.entries b.store
 going b n k goes_on = record {
   lawful = k.journal.lawful;
   store = k.journal.store;
+  installs = k.journal.installs;
   goes_on = λ kind h. goes_on (inr (kind, h));
   far = k.far;
   versions = k.versions;
@@ -353,10 +359,37 @@ going b n k goes_on = record {
 less : (b : Book) (n : Notes) (k : BookInvariant b n) → (IsClosed b → ⊥) → (n.entry_count == b.limit) ≡ false
 less b n k goes_on = not_yes (n.entry_count == b.limit) (λ full. goes_on (inl (full_over b n k full)))
 
-asking : (b : Book) (n : Notes) (k : BookInvariant b n) (goes_on : IsClosed b → ⊥) (t : ℕ) (q : Request) → Asks b t q → IsAsking b.program b.limit b.entries b.store t q
-asking b n k goes_on t q asks = record {
+-- Where a thread can go on no command was left out.
+not_closing : (b : Book) (n : Notes) (k : BookInvariant b n) → (IsClosed b → ⊥) → (t : ℕ) → Lives b.store t → (IsBlocked (setting b) (front b) t → ⊥) → n.closing ≡ false
+not_closing b n k goes_on t lives free = not_yes n.closing (λ is. none (k.commands.ends is))
+  where
+    none : NoneGoesOn b → ⊥
+    none (inl over) = goes_on (inl over)
+    none (inr blocked) = free (blocked t lives)
+
+takes : (b : Book) (n : Notes) (k : BookInvariant b n) → (IsClosed b → ⊥) → (CommandGoesFirst b → ⊥) → (t : ℕ) → Lives b.store t → (IsBlocked (setting b) (front b) t → ⊥)
+    → TakesEntries (setting b) b.entries k.journal.lawful
+takes b n k goes_on no_command t lives free =
+    let none = none_asked b k.journal no_command in
+    record {
+      installs = k.journal.installs;
+      unfinished = λ kind h. goes_on (inr (kind, h));
+      goes_on = subst (IsOpen (setting b)) (sym (front_is b k.journal))
+          (record {
+            runs = less_goes_on b n k (less b n k goes_on);
+            not_closing = sym k.commands.closing ∙ not_closing b n k goes_on t lives free;
+            not_due = λ due. no_command (inl due);
+            not_refused = λ j is. (let no : None ≡ Some j = sym none ∙ is in cc);
+          });
+      answered = none;
+    }
+
+asking : (b : Book) (n : Notes) (k : BookInvariant b n) (goes_on : IsClosed b → ⊥) → (CommandGoesFirst b → ⊥) → (t : ℕ) (q : Request) → Asks b t q → (IsBlocked (setting b) (front b) t → ⊥)
+    → IsAsking b.program b.commands b.limit b.entries b.store t q
+unfolding going
+asking b n k goes_on no_command t q asks free = record {
   going = going b n k goes_on;
-  runs = less_goes_on b n k (less b n k goes_on);
+  takes = takes b n k goes_on no_command t (record { state = asks.state; is = asks.there; not_ended = asks.lives }) free;
   state = asks.state;
   there = asks.there;
   lives = asks.lives;
@@ -388,42 +421,38 @@ entry_by_thread t q (a.Granted v) x h = entry_of_grant t q v x h
 entry_by_thread t q (a.Disabled what) x h = ap thread_of h
 entry_by_thread t q (a.Trapped m) x h = entry_of_deed t (trap_deed q) x h
 
-pub count_last : (es : List Entry) (x : Entry) → is_some_thread (thread_of x) ≡ true → thread_entries (es ++ x ∷ []) ≡ suc (thread_entries es)
-count_last [] x h = rw h refl
-count_last (y ∷ es) x h = by_first (is_some_thread (thread_of y)) (count_last es x h)
-  where
-    by_first : (c : Bool) → thread_entries (es ++ x ∷ []) ≡ suc (thread_entries es)
-        → (if c then suc (thread_entries (es ++ x ∷ [])) else thread_entries (es ++ x ∷ [])) ≡ suc (if c then suc (thread_entries es) else thread_entries es)
-    by_first true i = ap suc i
-    by_first false i = i
-
-unfinished_at_end : (b : Book) (f : Bool) (more : ℕ) → f ≡ false → IsUnfinished b.entries → more ≡ b.limit + control_limit → IsAtEnd b f more
-unfinished_at_end b f more is h g = subst (λ z. IsAtEnd b z more) (sym is) (h, g)
-
-abbrev pub book_with : Book → Entry → Store → Book
-book_with b x st = record { program = b.program; limit = b.limit; entries = b.entries ++ x ∷ []; store = st }
+unfinished_at_end : (b : Book) (f : Bool) → f ≡ false → IsUnfinished b.entries → IsAtEnd b f
+unfinished_at_end b f is h = subst (λ z. IsAtEnd b z) (sym is) h
 
 -- A book keeps what it keeps with the entry that an answer makes.
-pub kept_more : (b : Book) (n : Notes) (k : BookInvariant b n) (goes_on : IsClosed b → ⊥) (t : ℕ) (q : Request) → 1 ≤ t → t ≤ thread_limit → Asks b t q → (IsBlocked (setting b) (front b) t → ⊥)
-    → (y : Answer) (x : Entry) (new : Store) (room : ℕ) → Answers b.store t q y new → IsEntryFor t q y x → room + 1 ≡ n.room
-    → BookInvariant (book_with b x new) (record { entry_count = n.entry_count + 1; finished = n.finished; room = room; waits = slice_set n.waits (t - 1) (wait_of y) })
-kept_more b n k goes_on t q first last asks free y x new room answers tells left =
+pub kept_more : (b : Book) (n : Notes) (k : BookInvariant b n) (goes_on : IsClosed b → ⊥) → (CommandGoesFirst b → ⊥) → (t : ℕ) (q : Request) → 1 ≤ t → t ≤ thread_limit → Asks b t q
+    → (IsBlocked (setting b) (front b) t → ⊥) → (y : Answer) (x : Entry) (new : Store) (room : ℕ) → Answers b.store t q y new → IsEntryFor t q y x → room + 1 ≡ n.room
+    → BookInvariant (book_with b x new)
+    (record { entry_count = n.entry_count + 1; finished = n.finished; room = room; next = n.next; asked = n.asked; closing = n.closing; waits = slice_set n.waits (t - 1) (wait_of y) })
+kept_more b n k goes_on no_command t q first last asks free y x new room answers tells left =
     let of : thread_of x ≡ Some t = entry_by_thread t q y x tells in
     let leads = deeds b.store t q y new answers in
     let free_told : (what : What) → y ≡ a.Disabled what → ends_blocked (entries_of t b.entries) ≡ false =
     λ what is. (let h = subst (λ z. Answers b.store t q z new) is answers in not_told b n k t q asks free h.0.0 what h.0.1 h.1.0) in
-    let more : IsGoing b.program b.limit (b.entries ++ x ∷ []) new = answer_goes q (asking b n k goes_on t q asks) y x new answers tells free_told in
+    let more : IsGoing b.program b.commands b.limit (b.entries ++ x ∷ []) new = answer_goes q (asking b n k goes_on no_command t q asks free) y x new answers tells free_told in
     let unfinished : n.finished ≡ false = not_finished b n k goes_on in
     let full = not_full b n k goes_on in
-    let counted = count_last b.entries x (ap is_some_thread of) in
-    let all = room_left b n k unfinished in
+    let counted : n.entry_count + 1 ≡ thread_entries (b.entries ++ x ∷ []) = (let one = count_last b.entries x (ap is_some_thread of) in omega (arith, one, k.entry_count)) in
+    let journal : HasLawfulJournal (book_with b x new) = record { lawful = more.lawful; store = more.store; installs = more.installs } in
+    let behind = control_after_last b.commands first_control b.entries x in
+    let same = thread_keeps b.commands (control b.commands b.entries) x t of in
+    let open_ : n.closing ≡ false = not_closing b n k goes_on t (record { state = asks.state; is = asks.there; not_ended = asks.lives }) free in
     record {
-      journal = record { lawful = more.lawful; store = more.store };
+      journal = journal;
       least = k.least;
       most = k.most;
-      entry_count = omega (arith, counted, k.entry_count);
+      entry_count = counted;
       few = omega (arith, full);
-      end = unfinished_at_end (book_with b x new) n.finished (n.entry_count + 1 + room) unfinished more.goes_on (omega (arith, left, all));
+      end = unfinished_at_end (book_with b x new) n.finished unfinished more.goes_on;
+      commands =
+          noted (book_with b x new) _ journal k.commands.few counted (k.commands.next ∙ (sym same.0 ∙ sym (ap Control.next behind))) (k.commands.asked ∙ (sym same.1.0 ∙ sym (ap Control.asked behind)))
+          (k.commands.closing ∙ (sym same.1.1 ∙ sym (ap Control.closing behind))) (room_with b x n.room room k.commands.room left) (λ is. more.goes_on)
+          (λ is. let no : true ≡ false = sym is ∙ open_ in cc);
       far = more.far;
       functions = functions_more b.program b.store new t q (deed_of q y) k.functions (deed_function b.program q y asks.numbers) leads;
       versions = more.versions;
@@ -433,15 +462,16 @@ kept_more b n k goes_on t q first last asks free y x new room answers tells left
     }
 
 -- And the answer is the one that was asked for.
-pub answered_so : (b : Book) (n : Notes) (k : BookInvariant b n) (goes_on : IsClosed b → ⊥) (t : ℕ) (q : Request) → 1 ≤ t → t ≤ thread_limit → Asks b t q → (IsBlocked (setting b) (front b) t → ⊥)
-    → (y : Answer) (x : Entry) (new : Store) → Answers b.store t q y new → IsEntryFor t q y x → MakesAnswer b t q x (book_with b x new)
-answered_so b n k goes_on t q first last asks free y x new answers tells = record {
-  run = record { program = refl; limit = refl };
+pub answered_so : (b : Book) (n : Notes) (k : BookInvariant b n) (goes_on : IsClosed b → ⊥) → (CommandGoesFirst b → ⊥) → (t : ℕ) (q : Request) → 1 ≤ t → t ≤ thread_limit → Asks b t q
+    → (IsBlocked (setting b) (front b) t → ⊥) → (y : Answer) (x : Entry) (new : Store) → Answers b.store t q y new → IsEntryFor t q y x → MakesAnswer b t q x (book_with b x new)
+answered_so b n k goes_on no_command t q first last asks free y x new answers tells = record {
+  run = record { program = refl; commands = refl; limit = refl };
   appended = refl;
   thread = entry_by_thread t q y x tells;
   replies = replies b n k t q first last asks free y x new answers tells;
   threads = keeps_deed b.store new t q (deed_of q y) (deeds b.store t q y new answers);
   goes_on = goes_on;
+  no_command = no_command;
   free = free;
   few = subst (λ z. z < b.limit) k.entry_count (not_full b n k goes_on);
 }

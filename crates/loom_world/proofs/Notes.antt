@@ -1,5 +1,5 @@
 -- What each thread is blocked at.
-use Rattle.std.proofs.Common.{ℕ, zero, suc, ◌+◌, ◌-◌, ◌<◌, ◌≤◌, ◌≡◌, ◌==◌, Bool, true, false, List, [], ◌∷◌, ◌++◌, ℤ, length, slice_get, Option, Some, None, refl, sym, ap, ◌∙◌, subst, arith, if◌then◌else◌}
+use Rattle.std.proofs.Common.{ℕ, zero, suc, ◌-◌, ◌<◌, ◌≤◌, ◌≡◌, ◌==◌, true, false, List, [], ◌∷◌, ◌++◌, ℤ, slice_get, Option, Some, None, refl, sym, ap, ◌∙◌, subst, arith, if◌then◌else◌}
 use Rattle.std.specs.Prelude.{slice_set}
 use Rattle.std.proofs.lemmas.Bool.{eq-eqb, ne_eqb}
 use Rattle.std.proofs.lemmas.List.{length-set}
@@ -13,8 +13,6 @@ use Rattle.loom_trace.specs.declared.request.Request.TheVariants as r
 use Rattle.loom_event.specs.TargetEvent.{entry_by}
 use Rattle.loom_event.specs.Answer.{trap_deed, IsEntryOf}
 use Rattle.loom_event.specs.Entries.{thread_of, is_thread, last_of_thread}
-use Rattle.loom_trace.specs.Limits.{thread_limit}
-use Rattle.loom_event.specs.Replay.{Store}
 use Rattle.loom_store.specs.declared.answer.Answer.{Answer}
 use Rattle.loom_store.specs.declared.answer.Answer.TheVariants as a
 use Rattle.loom_store.specs.Answer.{CanWait, given_deed}
@@ -29,7 +27,7 @@ last_mine : (t : ℕ) (o : Option Entry) (es : List Entry) (x : Entry) → is_th
 last_mine t o [] x h = rw h refl
 last_mine t o (y ∷ es) x h = last_mine t (if is_thread t (thread_of y) then Some y else o) es x h
 
-last_other : (t : ℕ) (o : Option Entry) (es : List Entry) (x : Entry) → is_thread t (thread_of x) ≡ false → last_of_thread t o (es ++ x ∷ []) ≡ last_of_thread t o es
+pub last_other : (t : ℕ) (o : Option Entry) (es : List Entry) (x : Entry) → is_thread t (thread_of x) ≡ false → last_of_thread t o (es ++ x ∷ []) ≡ last_of_thread t o es
 last_other t o [] x h = rw h refl
 last_other t o (y ∷ es) x h = last_other t (if is_thread t (thread_of y) then Some y else o) es x h
 

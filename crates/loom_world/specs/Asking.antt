@@ -1,5 +1,5 @@
 -- What a thread of a book asks for, and what it is answered.
-use Rattle.std.specs.Prelude.{ℕ, ◌≡◌, ◌<◌, false, List, [], ◌∷◌, ◌++◌, Some}
+use Rattle.std.specs.Prelude.{ℕ, ◌≡◌, ◌<◌, false, [], ◌∷◌, ◌++◌, Some}
 use Rattle.loom_trace.specs.declared.entry.Entry.{Entry}
 use Rattle.loom_trace.specs.declared.request.Request.{Request}
 use Rattle.loom_event.specs.Answer.{asks_begin, HasNumbers}
@@ -12,7 +12,7 @@ use Rattle.loom_law.specs.TurnLaws.{ends_blocked}
 use Rattle.loom_strand.specs.Life.{has_none, IsLastBlockedFor, versions_with}
 use Rattle.loom_strand.specs.Strand.{AsksNext, IsReplyTo}
 use Rattle.loom_world.specs.Book.{Book, IsOfSameRun, setting, front}
-use Rattle.loom_world.specs.Idle.{IsClosed}
+use Rattle.loom_world.specs.Idle.{IsClosed, CommandGoesFirst}
 use Rattle.loom_world.specs.Threads.{KeepsThreads}
 
 -- what is the thread's own: it took no other version than the first
@@ -38,6 +38,7 @@ pub record MakesAnswer (old : Book) (t : ℕ) (q : Request) (x : Entry) (new : B
   pub replies : IsReplyTo (ends_blocked (entries_of t old.entries)) t (Some q) x
   pub threads : KeepsThreads old.store new.store
   pub goes_on : IsClosed old → ⊥
+  pub no_command : CommandGoesFirst old → ⊥
   pub free : IsBlocked (setting old) (front old) t → ⊥
   -- the limit wasn't reached
   pub few : thread_entries old.entries < old.limit

@@ -1,7 +1,8 @@
--- Laws of lawful journals without commands.
-use Rattle.std.specs.Prelude.{suc, ◌≤◌, length}
-use Rattle.loom_world.specs.Book.{Book, HasLawfulJournal}
+-- Laws of lawful journals.
+use Rattle.std.specs.Prelude.{suc, ◌+◌, ◌*◌, ◌≤◌, List, length}
+use Rattle.loom_trace.specs.declared.entry.Entry.{Entry}
+use Rattle.loom_law.specs.Lawful.{Setting, IsLawful}
 
--- A journal without commands has at most one entry more than threads may make: `Finish`.
+-- A journal has at most as many entries as threads may make, two for each command, and `Finish`.
 abbrev pub HasFewEntries : Type 0
-HasFewEntries = (b : Book) → HasLawfulJournal b → length b.entries ≤ suc b.limit
+HasFewEntries = (s : Setting) (es : List Entry) → IsLawful s es → length es ≤ suc (s.limit + 2 * length s.commands)

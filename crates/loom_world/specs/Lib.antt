@@ -1,3 +1,6 @@
+pub mod Commands
+pub mod CommandCode
+pub mod CommandView
 pub mod Book
 pub mod BookInvariant
 pub mod Idle

@@ -1,5 +1,5 @@
 -- What a turn does.
-use Rattle.std.specs.Prelude.{ℕ, ◌≡◌, List, [], ◌∷◌, ◌++◌, Option, Some, None}
+use Rattle.std.specs.Prelude.{ℕ, ◌≡◌, [], ◌∷◌, ◌++◌, Option, Some, None}
 use Rattle.loom_trace.specs.declared.entry.Entry.{Entry}
 use Rattle.loom_event.specs.Entries.{thread_of}
 use Rattle.loom_world.specs.declared.choice.Choice.{Choice}

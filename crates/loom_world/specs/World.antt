@@ -1,5 +1,5 @@
 -- Runs of turns.
-use Rattle.std.specs.Prelude.{ℕ, ◌≡◌, ◌≤◌, List, [], ◌∷◌, length}
+use Rattle.std.specs.Prelude.{◌≡◌, ◌≤◌, List, [], ◌∷◌}
 use Rattle.loom_trace.specs.Limits.{thread_limit}
 use Rattle.loom_world.specs.declared.choice.Choice.{Choice}
 use Rattle.loom_world.specs.declared.choice.Choice.TheVariants as c

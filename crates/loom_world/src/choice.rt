@@ -18,6 +18,8 @@ pub enum Why {
     Ended,
     /// The thread was never spawned.
     Unborn,
+    /// A command is due, or was asked and will be refused: its answer comes first.
+    Due,
     /// What the thread waits for is still disabled, and its last entry says so.
     Blocked,
     /// No control entry stands next.

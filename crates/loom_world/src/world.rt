@@ -1,10 +1,17 @@
 //! A run of a program.
-ghost use Rattle.std.specs.Prelude.{◌≡◌, ◌≤◌, IfOk, Some, true, false};
+ghost use Rattle.std.specs.Prelude.{◌≡◌, ◌≤◌, List, length, IfOk, Some, true, false};
 ghost use Rattle.std.specs.List.{AllByRecursion};
+ghost use Rattle.loom_command.specs.Script.{most_commands};
+ghost use Rattle.loom_filter.specs.FilterError.{text_limit};
+ghost use Rattle.loom_law.specs.Control.{Command};
+ghost use Rattle.loom_script.specs.Laws.{HaveShortTexts};
+ghost use Rattle.loom_script.specs.Stalls.{HasNoStall};
+ghost use Rattle.loom_script.specs.View.{script_of};
 ghost use Rattle.loom_trace.specs.Limits.{thread_limit, entry_limit};
 ghost use Rattle.loom_world.specs.declared.choice.Choice.TheVariants as choice;
 ghost use Rattle.loom_world.specs.declared.choice.Turned.TheVariants as turned;
 ghost use Rattle.loom_world.specs.declared.choice.Why.{Why as Reason};
+ghost use Rattle.loom_world.specs.Commands.{AreCommandsSoFar};
 ghost use Rattle.loom_world.specs.Book.{IsNewBook, IsOfSameRun, HasLawfulJournal};
 ghost use Rattle.loom_world.specs.Idle.{HasFinish, IsLive};
 ghost use Rattle.loom_world.specs.Asking.{Asks};
@@ -14,9 +21,11 @@ ghost use Rattle.loom_world.specs.World.{IsChoice, Lead};
 
 use crate::book::{Book, THREADS};
 use crate::choice::{Choice, Turned, Why};
+use crate::commands::run_commands;
 use loom_flow::flow::Flow;
 use loom_flow::lower::lower;
 use loom_lang::program::Program;
+use loom_script::script::Script;
 use loom_strand::stage::{Birth, Want};
 use loom_strand::strand::Strand;
 use loom_trace::journal::Journal;
@@ -39,11 +48,12 @@ impl Model for World {
     ghost use Rattle.std.specs.Coded.{codes};
     ghost use Rattle.loom_tree.specs.Code.{source_code};
     ghost use Rattle.loom_world.specs.Book.{Book, HasLawfulJournal};
+    ghost use Rattle.loom_world.specs.CommandCode.{command_code};
     ghost use Rattle.loom_world.specs.Threads.{HasStrands};
 
     ghost Value = { Book };
 
-    ghost coded = { Prim.hlevel (codes, source_code) };
+    ghost coded = { Prim.hlevel (codes, source_code, command_code) };
 
     ghost view = { λ w. w.book };
 
@@ -109,15 +119,27 @@ fn go_on(book: &mut Book, flow: &Flow, strand: &mut Strand, t: u8, birth: Birth)
 }
 
 impl World {
-    /// The run of a program, before its first entry, in which threads are to make `limit` entries at most: 1 to 1,000,000. It takes all of its
-    /// memory here. An `Err` is want of memory.
-    pub fn make(alloc: Global, p: &Program, limit: u32) -> Result<World, NoMemory>
+    /// The run of a program with the commands of a script, before its first entry, in which threads are to make `limit` entries at most: 1 to
+    /// 1,000,000. `file` is the name of the program's file, as the events of filters name it. No command may wait for a stall. Each filter's text
+    /// is judged here; for now one that nothing else refuses is refused with number 15, at its first clause. It takes all of its memory here. An
+    /// `Err` is want of memory.
+    pub fn make(
+        alloc: Global,
+        p: &Program,
+        file: &[u8],
+        script: &Script,
+        limit: u32,
+    ) -> Result<World, NoMemory>
         requires least { 1 ≤ limit }
         requires most { limit ≤ entry_limit }
-        ensures new { IfOk result (λ w. IsNewBook p.now limit w) }
+        requires few { length (script_of script.now) ≤ most_commands }
+        requires short { HaveShortTexts text_limit (script_of script.now) }
+        requires no_stall { HasNoStall (script_of script.now) }
+        ensures new { IfOk result (λ w. (cs : List Command) × (AreCommandsSoFar p.now file.now (script_of script.now) cs × IsNewBook p.now cs limit w)) }
     {
         let flow = lower(alloc, p)?;
-        let book = Book::make(alloc, flow.share()?, limit)?;
+        let commands = run_commands(alloc, &flow, file, &script.commands.0)?;
+        let book = Book::make(alloc, flow.share()?, commands, limit)?;
         let strands = strands_of(alloc, &flow, limit)?;
         Ok(World {
             flow,
@@ -149,8 +171,11 @@ impl World {
     /// A turn: at most one entry is made. It takes no memory.
     ///
     /// A turn of a thread makes an entry unless one of these applies, of which the first is told. `Over`: the limit is reached, or `Finish` stands.
-    /// `Ended` and `Unborn`: the thread is over, or nobody spawned it. `Blocked`: the thread was told so last, and it still holds. A turn of
-    /// control makes `Finish` where the run ends, and else tells `Nothing`.
+    /// `Ended` and `Unborn`: the thread is over, or nobody spawned it. `Due`: a command is due, or was asked and will be refused. `Blocked`: the
+    /// thread was told so last, and it still holds.
+    ///
+    /// A turn of control makes the first of these that stands next: the refusal of the command that was asked; `Asked`, where the next command is
+    /// due; where the run ends, `Unreached` for the next command, and behind the last one `Finish`. Else it tells `Nothing`.
     pub fn turn(&mut self, c: Choice) -> Turned
         requires { IsChoice c }
         ensures run { IsOfSameRun self.old self.new }

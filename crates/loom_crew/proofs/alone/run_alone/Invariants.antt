@@ -1,4 +1,4 @@
-use Rattle.std.proofs.Common.{ℕ, suc, ◌-◌, length}
+use Rattle.std.proofs.Common.{ℕ, suc, ◌+◌, ◌*◌, ◌-◌, length}
 use Rattle.loom_world.specs.Book.{IsOfSameRun}
 use Rattle.loom_world.specs.World.{Lead}
 use Rattle.loom_crew.specs.Round.{rounds}
@@ -12,4 +12,4 @@ invariant-rounds l = record {
 
 -- how many entries may still be made
 abbrev pub decreases-rounds : goal.decreases-rounds
-decreases-rounds l = suc l.world.limit - length l.world.entries
+decreases-rounds l = suc (l.world.limit + 2 * length l.world.commands) - length l.world.entries

@@ -1,4 +1,4 @@
-use Rattle.loom_world.proofs.FewEntries.{few_entries}
+use Rattle.loom_world.proofs.ControlState.{few_entries}
 use Rattle.loom_world.proofs.laws.few_entries.Goals as goal
 
 pub returns : goal.returns

@@ -1,0 +1,44 @@
+use Rattle.std.proofs.Common.{◌≡◌, ◌<◌, None, length, refl, sym, subst}
+use Rattle.loom_trace.specs.declared.entry.Entry.TheVariants as e
+use Rattle.loom_law.specs.Control.{Control}
+use Rattle.loom_law.specs.Lawful.{Ends}
+use Rattle.loom_world.specs.declared.choice.Choice.TheVariants as choice
+use Rattle.loom_world.specs.declared.choice.Turned.TheVariants as turned
+use Rattle.loom_world.specs.Book.{Book, setting, front}
+use Rattle.loom_world.specs.Idle.{HasFinish}
+use Rattle.loom_world.specs.Turned.{Turns}
+use Rattle.loom_world.specs.contracts.book.Book.{the_view}
+use Rattle.loom_world.specs.BookInvariant.{BookInvariant}
+use Rattle.loom_world.proofs.InvariantReadings.{unfinished_by, room_left}
+use Rattle.loom_world.proofs.ControlTurns.{may_finish}
+use Rattle.loom_world.proofs.ControlledBook.{finished_kept, control_moves}
+use Rattle.loom_world.proofs.book.Book.finish.Goals as goal
+
+pub push-requires : goal.push-requires
+push-requires c =
+    let b : Book = the_view c.self.inside in
+    let open_ = unfinished_by b _ c.self.invariant (subst (λ (z : Book). HasFinish z → ⊥) (sym c.self.view_is) c.requires.unfinished) in
+    room_left b _ c.self.invariant open_
+
+pub invariant_of-self : goal.invariant_of-self
+invariant_of-self c =
+    let b : Book = the_view c.self.inside in
+    let open_ = unfinished_by b _ c.self.invariant (subst (λ (z : Book). HasFinish z → ⊥) (sym c.self.view_is) c.requires.unfinished) in
+    let none : Control.asked (front b).control ≡ None = subst (λ (z : Book). Control.asked (front z).control ≡ None) (sym c.self.view_is) c.requires.asked in
+    let all : length b.commands < Control.next (front b).control = subst (λ (z : Book). length z.commands < Control.next (front z).control) (sym c.self.view_is) c.requires.last in
+    let ends : Ends (setting b) (front b) c.args.kind = subst (λ (z : Book). Ends (setting z) (front z) c.args.kind) (sym c.self.view_is) c.requires.ends in
+    rw c.push.ensures.appended (finished_kept b _ c.self.invariant open_ none all c.args.kind ends c.push.new.self.room c.push.ensures.room)
+
+pub returns-clause-turns : goal.returns-clause-turns
+returns-clause-turns c =
+    let b : Book = the_view c.self.inside in
+    let open_ = unfinished_by b _ c.self.invariant (subst (λ (z : Book). HasFinish z → ⊥) (sym c.self.view_is) c.requires.unfinished) in
+    let none : Control.asked (front b).control ≡ None = subst (λ (z : Book). Control.asked (front z).control ≡ None) (sym c.self.view_is) c.requires.asked in
+    let all : length b.commands < Control.next (front b).control = subst (λ (z : Book). length z.commands < Control.next (front z).control) (sym c.self.view_is) c.requires.last in
+    let ends : Ends (setting b) (front b) c.args.kind = subst (λ (z : Book). Ends (setting z) (front z) c.args.kind) (sym c.self.view_is) c.requires.ends in
+    let new : Book = record { program = b.program; commands = b.commands; limit = b.limit; entries = c.push.new.self.entries; store = b.store } in
+    subst (λ (z : Book). Turns z choice.Control new turned.Moved) c.self.view_is
+    (control_moves b _ c.self.invariant open_ (e.Finish c.args.kind) refl (may_finish b none all c.args.kind ends) c.push.new.self.entries c.push.ensures.appended)
+
+pub returns-clause-lawful : goal.returns-clause-lawful
+returns-clause-lawful c = BookInvariant.journal (invariant_of-self c)

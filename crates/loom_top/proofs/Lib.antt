@@ -1,4 +1,5 @@
 pub mod Words
 pub mod JournalLines
 pub mod Top
+pub mod Scripts
 pub mod ShowLines

@@ -1,20 +1,14 @@
 -- The lines of a filter's events and of its unsafe places.
-use Rattle.std.proofs.Common.{ℕ, zero, suc, ◌≡◌, ◌≤◌, Bool, true, false, List, [], ◌∷◌, ◌++◌, length, drop, Some, Result, Ok, Err, IfOk, inl, inr, refl, sym, ap, subst, ◌∙◌, arith, append_assoc, append-nil}
+use Rattle.std.proofs.Common.{ℕ, zero, suc, ◌≡◌, ◌≤◌, Bool, true, false, List, [], ◌∷◌, ◌++◌, length, drop, Some, Result, Ok, Err, IfOk, refl, sym, ap, subst, ◌∙◌, arith, append_assoc, append-nil}
 use Rattle.std.specs.Prelude.{slice_get, option_map}
 use Rattle.loom_tree.specs.Tree.{Source}
 use Rattle.loom_tree.specs.Lines.{ended}
 use Rattle.loom_lang.specs.Places.{Place, places, place_at, line_of_place}
 use Rattle.loom_canonical.proofs.BlockText.{ended_append}
-use Rattle.loom_command.specs.Filter.{Filter}
-use Rattle.loom_command.specs.FilterFault.{IsFilter}
-use Rattle.loom_law.specs.Filter.{Watch, Plan, plan_of}
-use Rattle.loom_law.specs.FilterRefusal.{IsNameFault, IsPathFault}
-use Rattle.loom_law.specs.Control.{refused, means}
-use Rattle.loom_law.specs.Judgement.{IsFirst, HasNone}
+use Rattle.loom_law.specs.Filter.{Watch, Plan}
 use Rattle.loom_law.specs.Paths.{watch_at}
-use Rattle.loom_plan.specs.Compiled.{Compiled}
 use Rattle.loom_plan.specs.PlaceEvents.{line_of_site}
-use Rattle.loom_top.specs.ShowText.{event_line, event_lines, unsafe_line, unsafe_lines, IsPathText, IsFilterText}
+use Rattle.loom_top.specs.ShowText.{event_line, event_lines, unsafe_line, unsafe_lines}
 
 -- The first of the lines that are left is written, and the rest is left.
 line_more : (line : List ℕ) (lines rest : List (List ℕ)) (before behind all : List ℕ) → lines ≡ line ∷ rest → behind ≡ before ++ ended (line ∷ [])
@@ -103,17 +97,7 @@ pub all_places : (p : Source) (is_unsafe : ℕ → Bool) (k : ℕ) (out all : Li
 all_places p is_unsafe k out all most left =
     sym (append-nil out) ∙ (sym (ap (λ (z : List (List ℕ)). out ++ ended z) (no_unsafe p is_unsafe k k (places p) most)) ∙ left)
 
--- Judgements
-
--- what is written of a filter that names nothing else than what is in the program
-pub plan_told : (p : Source) (file text : List ℕ) (f : Filter) (c : Compiled) (out : List ℕ) → IsFilter text f → c.plan ≡ plan_of p f → HasNone (IsNameFault p file f)
-    → IsPathText p c.plan out → IsFilterText p file text out
-plan_told p file text f c out is plan none (inl h) =
-    let P : Plan → Type 0 = λ z. IsFirst (IsPathFault p z) h.0 in
-    (refused h.0.number h.0.clause, (inr (record { filter = f; is = is; fault = inr (none, subst P plan h.1.0) }), h.1.1))
-plan_told p file text f c out is plan none (inr h) =
-    let P : Plan → Type 0 = λ z. HasNone (IsPathFault p z) in
-    (means c.plan, (record { filter = f; is = is; names = none; paths = subst P plan h.0; plan = plan }, h.1))
+-- Answers
 
 pub then_if_ok : {T E : Type 0} {P Q : T → Type 0} (r : Result T E) → ((x : T) → P x → Q x) → IfOk r P → IfOk r Q
 then_if_ok (Ok x) f h = f x h

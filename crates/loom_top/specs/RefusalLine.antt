@@ -1,4 +1,4 @@
--- What is written where a file is no program.
+-- What is written where a file is no program, and where one is no script.
 use Rattle.std.specs.Prelude.{ℕ, List, ◌++◌, codes}
 use Rattle.loom_tree.specs.Decimal.{decimal}
 use Rattle.loom_lang.specs.declared.refusal.Reason.{Reason}
@@ -17,3 +17,7 @@ reason_words (reason.TooMany which) = codes "7 TooMany"
 -- the line, with its LF
 abbrev pub refusal_line : ℕ → Reason → List ℕ
 refusal_line line why = codes "program: line " ++ (decimal line ++ (codes ": " ++ (reason_words why ++ codes "\n")))
+
+-- that of a script
+abbrev pub script_line : ℕ → List ℕ
+script_line line = codes "script: line " ++ (decimal line ++ codes "\n")

@@ -1,15 +1,13 @@
 -- What is written of a filter for a program.
-use Rattle.std.specs.Prelude.{ℕ, suc, ◌≡◌, ◌⊎◌, ◌↔◌, IsTrue, Bool, List, [], ◌∷◌, ◌++◌, length, codes, Some, if◌then◌else◌}
+use Rattle.std.specs.Prelude.{ℕ, suc, ◌≡◌, ◌↔◌, IsTrue, Bool, List, [], ◌∷◌, ◌++◌, length, codes, Some, if◌then◌else◌}
 use Rattle.loom_tree.specs.Tree.{Source}
 use Rattle.loom_tree.specs.Decimal.{decimal}
 use Rattle.loom_tree.specs.Lines.{ended}
-use Rattle.loom_command.specs.FilterFault.{FilterFault}
 use Rattle.loom_lang.specs.Places.{Place, places, place_at, line_of_place}
 use Rattle.loom_law.specs.Filter.{Watch, Plan}
 use Rattle.loom_law.specs.Paths.{IsUnsafe}
-use Rattle.loom_law.specs.FilterRefusal.{IsPathFault}
 use Rattle.loom_law.specs.Control.{Judgement, refused, means}
-use Rattle.loom_law.specs.Judgement.{IsFirst, HasNone, IsJudged}
+use Rattle.loom_law.specs.Judgement.{IsJudged}
 use Rattle.loom_plan.specs.PlaceEvents.{line_of_site}
 
 -- Lines
@@ -54,12 +52,6 @@ TellsUnsafe p f is_unsafe = (k : ℕ) (y : Place) → place_at p k ≡ Some y �
 -- what is written of a filter that isn't refused
 abbrev pub IsPlanText : Source → Plan → List ℕ → Type 0
 IsPlanText p f out = (is_unsafe : ℕ → Bool) × (TellsUnsafe p f is_unsafe × (out ≡ ended (plan_lines p f is_unsafe)))
-
--- what is written of a filter that names nothing else than what is in the program: why its paths refuse it, or the above
-abbrev pub IsPathText : Source → Plan → List ℕ → Type 0
-IsPathText p f out =
-    ((x : FilterFault) × (IsFirst (IsPathFault p f) x × (out ≡ ended (fault_line x.number x.clause ∷ []))))
-    ⊎ (HasNone (IsPathFault p f) × IsPlanText p f out)
 
 -- what is written of a judgement
 abbrev pub IsJudgementText : Source → Judgement → List ℕ → Type 0

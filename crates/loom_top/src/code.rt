@@ -16,6 +16,7 @@ pub fn code_of(status: Status) -> u8
         Status::Done => 0,
         Status::Usage => 1,
         Status::Refused => 2,
+        Status::NoScript => 3,
         Status::ReadFault => 4,
         Status::WriteFault => 5,
         Status::NoMemory => 6,

@@ -2,7 +2,7 @@
 ghost use Rattle.std.specs.Prelude.{◌≡◌, ◌↔◌, ◌≤◌, List, ℕ, codes, map, IfSome, IfNone, IsTrue};
 ghost use Rattle.loom_tree.specs.Decimal.{decimal};
 ghost use Rattle.loom_trace.specs.Limits.{entry_limit};
-ghost use Rattle.loom_top.specs.Invocation.{Invocation as Asked, IsInvocation, IsFileName, HasBounds};
+ghost use Rattle.loom_top.specs.Invocation.{Invocation as Asked, Task as Wanted, IsInvocation, IsFileName, HasBounds, AreLimitWords, AreTaskWords};
 ghost use Rattle.loom_top.specs.Task.{task_of};
 
 use loom_trace::limits::ENTRY_LIMIT;
@@ -20,6 +20,8 @@ const TEXT_LIMIT: usize = 65_536;
 pub enum Task<'a> {
     /// It is run.
     Run {
+        /// The name of the script's file, if there is one.
+        script: Option<&'a str>,
         /// How many entries threads make at most: 1 to 1,000,000.
         limit: u32,
     },
@@ -32,10 +34,10 @@ pub enum Task<'a> {
     },
 }
 
-/// A file, and what is done with it.
+/// A program's file, and what is done with it.
 #[derive(Clone, Copy, Debug, Drop)]
 pub struct Invocation<'a> {
-    /// The file's name.
+    /// The name of the program's file.
     pub name: &'a str,
     pub task: Task<'a>,
 }
@@ -77,38 +79,84 @@ fn limit_of(text: &str) -> Option<u32>
     }
 }
 
+// The limit that these words give, with none behind it.
+fn limit_by(words: &[&str]) -> Option<u32>
+    ensures found { IfSome result (λ limit. AreLimitWords (map (λ w. w.now) words.now) limit) }
+    ensures least { IfSome result (λ limit. 1 ≤ limit) }
+    ensures most { IfSome result (λ limit. limit ≤ entry_limit) }
+    ensures none { IfNone result ((limit : ℕ) → AreLimitWords (map (λ w. w.now) words.now) limit → ⊥) }
+{
+    match words {
+        [] => Some(DEFAULT_LIMIT),
+        [option, digits] if *option == "--steps" => limit_of(digits),
+        _ => None,
+    }
+}
+
+// What the words ask for behind `run` and the program's file.
+fn run_by<'a>(words: &[&'a str]) -> Option<Task<'a>>
+    ensures found { IfSome result (λ t. AreTaskWords (codes "run") (map (λ w. w.now) words.now) (task_of t)) }
+    ensures bounds { IfSome result (λ t. HasBounds (task_of t)) }
+    ensures none { IfNone result ((t : Wanted) → AreTaskWords (codes "run") (map (λ w. w.now) words.now) t → ⊥) }
+{
+    match words {
+        [] => Some(Task::Run {
+            script: None,
+            limit: DEFAULT_LIMIT,
+        }),
+        [script, behind @ ..] if is_file_name(script.as_bytes()) => Some(Task::Run {
+            script: Some(*script),
+            limit: limit_by(behind)?,
+        }),
+        _ => Some(Task::Run {
+            script: None,
+            limit: limit_by(words)?,
+        }),
+    }
+}
+
+// What they ask for behind `show` and the program's file.
+fn show_by<'a>(words: &[&'a str]) -> Option<Task<'a>>
+    ensures found { IfSome result (λ t. AreTaskWords (codes "show") (map (λ w. w.now) words.now) (task_of t)) }
+    ensures bounds { IfSome result (λ t. HasBounds (task_of t)) }
+    ensures none { IfNone result ((t : Wanted) → AreTaskWords (codes "show") (map (λ w. w.now) words.now) t → ⊥) }
+{
+    match words {
+        [] => Some(Task::Show),
+        [text] if text.len() <= TEXT_LIMIT => Some(Task::ShowFilter { text: *text }),
+        _ => None,
+    }
+}
+
+// What they ask for behind the first word and the program's file.
+fn task_by<'a>(first: &str, words: &[&'a str]) -> Option<Task<'a>>
+    ensures found { IfSome result (λ t. AreTaskWords first.now (map (λ w. w.now) words.now) (task_of t)) }
+    ensures bounds { IfSome result (λ t. HasBounds (task_of t)) }
+    ensures none { IfNone result ((t : Wanted) → AreTaskWords first.now (map (λ w. w.now) words.now) t → ⊥) }
+{
+    if first == "run" {
+        run_by(words)
+    } else if first == "show" {
+        show_by(words)
+    } else {
+        None
+    }
+}
+
 /// What the words ask for.
 pub fn invocation_of<'a>(words: &[&'a str]) -> Option<Invocation<'a>>
     ensures found { IfSome result (λ c. IsInvocation (map (λ w. w.now) words.now) (record { name = c.name.now; task = task_of c.task })) }
     ensures bounds { IfSome result (λ c. HasBounds (task_of c.task)) }
     ensures none { IfNone result ((c : Asked) → IsInvocation (map (λ w. w.now) words.now) c → ⊥) }
 {
-    let invocation = match words {
-        [first, name] if *first == "run" => Invocation {
-            name: *name,
-            task: Task::Run {
-                limit: DEFAULT_LIMIT,
-            },
-        },
-        [first, name] if *first == "show" => Invocation {
-            name: *name,
-            task: Task::Show,
-        },
-        [first, name, text] if *first == "show" && text.len() <= TEXT_LIMIT => Invocation {
-            name: *name,
-            task: Task::ShowFilter { text: *text },
-        },
-        [first, name, option, digits] if *first == "run" && *option == "--steps" => Invocation {
-            name: *name,
-            task: Task::Run {
-                limit: limit_of(digits)?,
-            },
-        },
-        _ => return None,
+    let [first, name, behind @ ..] = words else {
+        return None;
     };
-    if is_file_name(invocation.name.as_bytes()) {
-        Some(invocation)
-    } else {
-        None
+    if !is_file_name(name.as_bytes()) {
+        return None;
     }
+    Some(Invocation {
+        name: *name,
+        task: task_by(first, behind)?,
+    })
 }

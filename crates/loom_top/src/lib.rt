@@ -7,6 +7,7 @@ mod file_name;
 mod filter_lines;
 mod invocation;
 mod put;
+mod read;
 mod refusal;
 mod run;
 mod show;

@@ -1,13 +1,14 @@
-//! The line that says why a file is no program.
+//! The lines that say why a file is no program, and where one is no script.
 ghost use Rattle.std.specs.Prelude.{◌≡◌, ◌≤◌, ◌+◌, ◌++◌, length};
 ghost use Rattle.loom_tree.specs.Decimal.{decimal};
-ghost use Rattle.loom_top.specs.RefusalLine.{reason_words, refusal_line};
+ghost use Rattle.loom_top.specs.RefusalLine.{reason_words, refusal_line, script_line};
 
 use arrayvec::ArrayVec;
 use itoa::Buffer;
 use loom_lang::refusal::{LangRefusal, Reason};
+use loom_script::parse::ScriptRefusal;
 
-/// How many bytes the line has at most.
+/// How many bytes a line has at most.
 const MOST_BYTES: usize = 64;
 
 // The reason's number and its name.
@@ -50,6 +51,17 @@ pub(crate) fn refusal_line(refusal: LangRefusal) -> ArrayVec<u8, MOST_BYTES>
     add_number(&mut line, refusal.line);
     add(&mut line, b": ");
     add(&mut line, reason_words(refusal.reason).as_bytes());
+    add(&mut line, b"\n");
+    line
+}
+
+/// The line of a script with its LF.
+pub(crate) fn script_line(refusal: ScriptRefusal) -> ArrayVec<u8, MOST_BYTES>
+    ensures { result.items ≡ script_line refusal.line }
+{
+    let mut line = ArrayVec::new();
+    add(&mut line, b"script: line ");
+    add_number(&mut line, refusal.line);
     add(&mut line, b"\n");
     line
 }

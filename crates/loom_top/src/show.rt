@@ -1,12 +1,11 @@
 //! Shows a program: writes its canonical text.
-ghost use Rattle.std.specs.Prelude.{ℕ, List, ◌≡◌, ◌≤◌, length, IfOk, IfErr};
+ghost use Rattle.std.specs.Prelude.{◌≡◌, ◌≤◌, length, IfOk, IfErr};
 ghost use Rattle.loom_tree.specs.Tree.{Source};
 ghost use Rattle.loom_lang.specs.Canonical.{canonical_text};
 ghost use Rattle.loom_lang.specs.Limits.{file_limit};
 ghost use Rattle.loom_lang.specs.Program.{IsProgram};
 ghost use Rattle.loom_lang.specs.LangError.{TellsRefusal};
-ghost use Rattle.loom_top.specs.Invocation.{show};
-ghost use Rattle.loom_top.specs.TopCall.{IsShownText, FileEnds};
+ghost use Rattle.loom_top.specs.TopCall.{IsShownText, ShowOwes, SinkEnds};
 
 use crate::put::{put_refusal, put_text};
 use crate::status::Status;
@@ -32,7 +31,7 @@ fn text_of(alloc: Global, file: &[u8]) -> Result<Name, LangError>
 pub(crate) fn show_file<K: Sink>(alloc: Global, file: &[u8], sink: &mut K) -> Status
     requires small { length file.now ≤ file_limit }
     ensures later { K.faults sink.old ≤ K.faults sink.new }
-    ensures ends { (word : List ℕ) → FileEnds word file.now show (K.taken sink.old) (K.taken sink.new) (K.faults sink.old) (K.faults sink.new) result }
+    ensures ends { SinkEnds (K.taken sink.old) (K.taken sink.new) (K.faults sink.old) (K.faults sink.new) (ShowOwes file.now (λ p t. t ≡ canonical_text p)) result }
 {
     match text_of(alloc, file) {
         Ok(text) => put_text(sink, text.bytes(), Status::Done),

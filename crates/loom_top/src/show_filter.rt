@@ -1,65 +1,35 @@
 //! Shows what a filter is for a program.
-ghost use Rattle.std.specs.Prelude.{◌≡◌, ◌≤◌, ℕ, List, length, IfOk, IfErr};
+ghost use Rattle.std.specs.Prelude.{◌≡◌, ◌≤◌, length, IfOk, IfErr};
 ghost use Rattle.loom_tree.specs.Tree.{Source};
 ghost use Rattle.loom_lang.specs.Limits.{file_limit};
 ghost use Rattle.loom_lang.specs.Program.{IsProgram};
 ghost use Rattle.loom_lang.specs.LangError.{TellsRefusal};
-ghost use Rattle.loom_command.specs.FilterFault.{IsFilter};
 ghost use Rattle.loom_law.specs.Judgement.{file_name};
-ghost use Rattle.loom_filter.specs.View.{filter_of};
 ghost use Rattle.loom_filter.specs.FilterError.{text_limit};
-ghost use Rattle.loom_top.specs.Invocation as task;
-ghost use Rattle.loom_top.specs.ShowText.{IsPathText, IsFilterText};
-ghost use Rattle.loom_top.specs.TopCall.{IsShownText, FileEnds};
+ghost use Rattle.loom_top.specs.ShowText.{IsFilterText};
+ghost use Rattle.loom_top.specs.TopCall.{IsShownText, ShowOwes, SinkEnds};
 
 use crate::file_name::file_name;
 use crate::filter_lines::{fault_text, plan_text};
 use crate::put::{put_refusal, put_text};
 use crate::status::Status;
-use loom_filter::filter::Filter;
-use loom_filter::parse::{FilterError, parse_filter};
+use loom_filter::parse::FilterError;
 use loom_flow::flow::Flow;
 use loom_flow::lower::lower;
 use loom_io::sink::Sink;
 use loom_lang::parse::{LangError, parse_program};
 use loom_lang::refusal::LangRefusal;
-use loom_plan::compiled::Compiled;
-use loom_plan::resolve::resolve;
-use loom_sites::unsafe_places::unsafe_places;
+use loom_sites::judge::judge;
 use loom_tree::name::{Name, NoMemory};
 use std::alloc::Global;
-
-// What is written of a filter that names nothing else than what is in the program.
-fn path_text(alloc: Global, flow: &Flow, plan: &Compiled) -> Result<Name, NoMemory>
-    requires { plan.now.program ≡ flow.now.program }
-    ensures { IfOk result (λ out. IsPathText flow.now.program plan.now.plan out) }
-{
-    match unsafe_places(alloc, flow, plan) {
-        Ok(places) => plan_text(alloc, flow, plan, &places),
-        Err(FilterError::Refused(fault)) => fault_text(alloc, fault),
-        Err(FilterError::NoMemory) => Err(NoMemory),
-    }
-}
-
-// What is written of a filter.
-fn resolved_text(alloc: Global, flow: &Flow, name: &[u8], filter: &Filter) -> Result<Name, NoMemory>
-    requires { (text : List ℕ) × IsFilter text (filter_of filter.now) }
-    ensures { (text : List ℕ) → IsFilter text (filter_of filter.now) → IfOk result (λ out. IsFilterText flow.now.program name.now text out) }
-{
-    match resolve(alloc, flow, name, filter) {
-        Ok(plan) => path_text(alloc, flow, &plan),
-        Err(FilterError::Refused(refusal)) => fault_text(alloc, refusal),
-        Err(FilterError::NoMemory) => Err(NoMemory),
-    }
-}
 
 // What is written of a filter's text.
 fn filter_text(alloc: Global, flow: &Flow, name: &[u8], text: &[u8]) -> Result<Name, NoMemory>
     requires { length text.now ≤ text_limit }
     ensures { IfOk result (λ out. IsFilterText flow.now.program name.now text.now out) }
 {
-    match parse_filter(alloc, text) {
-        Ok(filter) => resolved_text(alloc, flow, name, &filter),
+    match judge(alloc, flow, name, text) {
+        Ok(found) => plan_text(alloc, flow, &found.filter, &found.unsafe_places),
         Err(FilterError::Refused(refusal)) => fault_text(alloc, refusal),
         Err(FilterError::NoMemory) => Err(NoMemory),
     }
@@ -89,7 +59,7 @@ pub(crate) fn show_filter<K: Sink>(
     requires small { length file.now ≤ file_limit }
     requires short { length text.now ≤ text_limit }
     ensures later { K.faults sink.old ≤ K.faults sink.new }
-    ensures ends { FileEnds word.now file.now (task.show_filter text.now) (K.taken sink.old) (K.taken sink.new) (K.faults sink.old) (K.faults sink.new) result }
+    ensures ends { SinkEnds (K.taken sink.old) (K.taken sink.new) (K.faults sink.old) (K.faults sink.new) (ShowOwes file.now (λ p t. IsFilterText p (file_name word.now) text.now t)) result }
 {
     match text_of(alloc, file, word, text) {
         Ok(text) => put_text(sink, text.bytes(), Status::Done),

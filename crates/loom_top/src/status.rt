@@ -7,9 +7,11 @@ pub enum Status {
     Done,
     /// The words are no invocation.
     Usage,
-    /// The file is no program.
+    /// The program's file is no program.
     Refused,
-    /// The file could not be read.
+    /// The script's file is no script.
+    NoScript,
+    /// The file of the program or of the script could not be read.
     ReadFault,
     /// The text could not be written.
     WriteFault,
@@ -19,6 +21,6 @@ pub enum Status {
     Stuck,
     /// The run has as many thread entries as it may have, and the text of its journal was written.
     Limit,
-    /// The file has more bytes than a program may have.
+    /// The file of the program or of the script has more bytes than it may have.
     TooLong,
 }

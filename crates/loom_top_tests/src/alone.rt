@@ -105,14 +105,20 @@ fn tells_a_long_file(rt: HostRuntime) -> Result<(), Fail> {
 
 #[test]
 fn tells_other_words(rt: HostRuntime) -> Result<(), Fail> {
-    let lists: [&[&str]; 13] = [
+    let lists: [&[&str]; 19] = [
         &[],
         &["run"],
         &["run", ""],
         &["run", "-p.lm"],
         &["run", "-0"],
         &["walk", "p.lm"],
-        &["run", "p.lm", "p.lm"],
+        &["walk", "p.lm", "p.lm"],
+        &["run", "p.lm", ""],
+        &["run", "p.lm", "-p.lm"],
+        &["run", "p.lm", "p.lm", "p.lm"],
+        &["run", "p.lm", "p.lm", "--steps"],
+        &["run", "p.lm", "--steps", "5", "p.lm"],
+        &["run", "p.lm", "p.lm", "--steps", "5", "p.lm"],
         &["run", "p.lm", "--steps"],
         &["run", "p.lm", "--step", "5"],
         &["run", "--steps", "5", "p.lm"],
@@ -210,18 +216,20 @@ fn tells_a_write_fault(rt: HostRuntime) -> Result<(), Fail> {
     Ok(())
 }
 
-// The file that the words name is read once, with the limit of a program, and no other file; none
-// is, where they are no invocation.
+// The file of the program is read once, with its limit, and so is the script, if one is named, and no
+// other file; none is, where the words are no invocation.
 #[test]
 fn reads_the_file_alone(rt: HostRuntime) -> Result<(), Fail> {
-    let rows: [(&[&str], u32); 5] = [
-        (&["run", "p.lm"], 1),
-        (&["show", "p.lm"], 1),
-        (&["show", "p.lm", "main()"], 1),
-        (&["run", "p.lm", "--steps", "3"], 1),
-        (&["walk", "p.lm"], 0),
+    let rows: [(&[&str], u32, u32); 7] = [
+        (&["run", "p.lm"], 1, 0),
+        (&["run", "p.lm", "s.txt"], 1, 1),
+        (&["run", "p.lm", "p.lm", "--steps", "3"], 2, 0),
+        (&["show", "p.lm"], 1, 0),
+        (&["show", "p.lm", "main()"], 1, 0),
+        (&["run", "p.lm", "--steps", "3"], 1, 0),
+        (&["walk", "p.lm"], 0, 0),
     ];
-    for (i, (words, reads)) in rows.iter().enumerate() {
+    for (i, (words, reads, others)) in rows.iter().enumerate() {
         let mut shelf = Watch {
             text: SUM,
             right: 0,
@@ -229,7 +237,7 @@ fn reads_the_file_alone(rt: HostRuntime) -> Result<(), Fail> {
         };
         let mut sink = MemSink::make(rt.alloc(), 100, 100)?;
         loom_alone(rt.alloc(), *words, &mut shelf, &mut sink);
-        assert_eq!(rt; (shelf.right, shelf.other), (*reads, 0), "in row {i}");
+        assert_eq!(rt; (shelf.right, shelf.other), (*reads, *others), "in row {i}");
     }
     Ok(())
 }

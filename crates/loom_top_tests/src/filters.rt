@@ -7,15 +7,16 @@ use std::process::Abort;
 use std::test::Fail;
 
 /// Two threads that add to a word.
-const INC: &[u8] =
+pub(crate) const INC: &[u8] =
     b"shared x;\nfn add() {\n  x = x + 1;\n}\nfn main() {\n  let a = spawn add();\n  x = x + 1;\n  join a;\n  print x;\n}\n";
 
 /// A loop with a call.
-const CALL: &[u8] =
+pub(crate) const CALL: &[u8] =
     b"shared x;\nfn step() {\n  x = x + 1;\n}\nfn main() {\n  let i = 0;\n  while (i < 3) {\n    step();\n    x = x * 2;\n    i = i + 1;\n  }\n  print x;\n}\n";
 
 /// A function that calls itself.
-const REC: &[u8] = b"fn f(n) {\nif (n > 0) {\nf(n - 1);\n}\n}\nfn main() {\nf(2);\nprint 0;\n}\n";
+pub(crate) const REC: &[u8] =
+    b"fn f(n) {\nif (n > 0) {\nf(n - 1);\n}\n}\nfn main() {\nf(2);\nprint 0;\n}\n";
 
 /// A filter, and what is written of it.
 struct Row {

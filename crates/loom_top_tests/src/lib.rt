@@ -10,6 +10,8 @@ mod limits;
 #[cfg(test)]
 mod rows;
 #[cfg(test)]
+mod scripts;
+#[cfg(test)]
 mod show;
 #[cfg(test)]
 mod threads;

@@ -1,15 +1,15 @@
-use Rattle.std.proofs.Common.{inl}
-use Rattle.loom_command.specs.FilterFault.{IsRefusedText}
-use Rattle.loom_filter.specs.FilterError.{fault_of}
-use Rattle.loom_law.specs.Control.{refused}
+use Rattle.loom_trace.specs.Places.{has_place}
+use Rattle.loom_law.specs.Control.{means, refused}
 use Rattle.loom_top.proofs.ShowLines.{then_if_ok}
 use Rattle.loom_top.proofs.show_filter.filter_text.Goals as goal
 
 pub returns-in-Ok : goal.returns-in-Ok
-returns-in-Ok c = c.resolved_text.ensures c.args.text.now c.in-Ok.ensures
+returns-in-Ok c =
+    let x = c.in-Ok.found in
+    let told = c.in-Ok.ensures in
+    then_if_ok c.plan_text.result (λ out e. (means x.filter.plan, (told.judged, (has_place x.unsafe_places, (told.places.exactly, e))))) c.plan_text.ensures
 
 pub returns-in-Err-Refused : goal.returns-in-Err-Refused
 returns-in-Err-Refused c =
     let r = c.in-Err-Refused.refusal in
-    let no_text : IsRefusedText c.args.text.now (fault_of r) = rw c.in-Err-Refused.field-0-is at c.in-Err-Refused.ensures in
-    then_if_ok c.fault_text.result (λ out e. (refused r.number r.clause, (inl no_text, e))) c.fault_text.ensures
+    then_if_ok c.fault_text.result (λ out e. (refused r.number r.clause, (c.in-Err-Refused.ensures.refused r (cc (c.in-Err-Refused.field-0-is)), e))) c.fault_text.ensures

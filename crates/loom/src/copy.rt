@@ -10,6 +10,8 @@ use std::alloc::Global;
 pub struct CopyShelf<F> {
     pub shelf: F,
     pub copy: Option<Name>,
+    /// How many reads there were.
+    pub reads: usize,
 }
 
 impl<F: Shelf> Shelf for CopyShelf<F> {
@@ -18,6 +20,7 @@ impl<F: Shelf> Shelf for CopyShelf<F> {
     ghost told = { λ s name. F.told s.shelf name };
 
     fn read(&mut self, alloc: Global, name: &str, limit: usize) -> Result<Name, ShelfError> {
+        self.reads = self.reads.saturating_add(1);
         let answer = self.shelf.read(alloc, name, limit);
         if let Ok(bytes) = &answer {
             self.copy = Name::copied(alloc, bytes.bytes()).ok();

@@ -51,6 +51,7 @@ fn status_of<R: Files + Print + Eprint + Env + AllocGlobal>(rt: &R) -> Result<u8
             cause: None,
         },
         copy: None,
+        reads: 0,
     };
     let mut sink = OutSink {
         rt,
@@ -111,10 +112,11 @@ mod tests {
 
     #[test]
     fn tells_the_words(rt: HostRuntime) -> Result<(), Fail> {
-        let rows: [(&[&[u8]], usize); 6] = [
+        let rows: [(&[&[u8]], usize); 7] = [
             (&[], 0),
             (&[b"loom"], 0),
             (&[b"loom", b"run", b"p1.lm"], 2),
+            (&[b"loom", b"run", b"p1.lm", b"s.txt"], 3),
             (&[b"loom", b"run", b"p1.lm", b"--steps", b"3"], 4),
             (&[b"loom", b"1", b"2", b"3", b"4", b"5", b"6"], 6),
             (&[b"loom", b"run", b"\xff"], 0),

@@ -1,4 +1,5 @@
 //! Why the words of a call are no command.
+ghost use Rattle.std.specs.Prelude.{◌≤◌};
 
 /// How many bytes a filter's text has at most.
 const TEXT_LIMIT: usize = 65_536;
@@ -42,19 +43,33 @@ fn is_limit(word: &str) -> bool {
     }
 }
 
-// Where words behind `run` and a file leave the form.
-fn run_misfit<'a>(words: &[&'a str]) -> Misfit<'a> {
+// Where words behind `run` and its files leave the form, the first of them having this number.
+fn steps_misfit<'a>(words: &[&'a str], number: usize, why: &'static str) -> Misfit<'a>
+    requires { number ≤ 4 }
+{
     match words {
-        [option, ..] if *option != "--steps" => {
-            word_misfit(3, option, "only --steps may follow the file")
-        }
-        [_, number, ..] if !is_limit(number) => word_misfit(
-            4,
-            number,
+        [option, ..] if *option != "--steps" => word_misfit(number, option, why),
+        [_, limit, ..] if !is_limit(limit) => word_misfit(
+            number + 1,
+            limit,
             "--steps wants a number from 1 to 1000000, without leading zeros",
         ),
-        [_, _, word, ..] => word_misfit(5, word, "nothing may follow the number"),
+        [_, _, word, ..] => word_misfit(number + 2, word, "nothing may follow the number"),
         _ => Misfit::Missing("the number behind --steps"),
+    }
+}
+
+// Where words behind `run` and the program's file leave the form.
+fn run_misfit<'a>(words: &[&'a str]) -> Misfit<'a> {
+    match words {
+        [script, rest @ ..] if is_file_name(script) => {
+            steps_misfit(rest, 4, "only --steps may follow the script")
+        }
+        _ => steps_misfit(
+            words,
+            3,
+            "only the file of a script and --steps may follow the program's file",
+        ),
     }
 }
 

@@ -7,6 +7,7 @@ use loom_io::adapters::{DirShelf, OutSink};
 use loom_lang::limits::FILE_LIMIT;
 use loom_lang::parse::{LangError, parse_program};
 use loom_lang::refusal::{Reason, Which};
+use loom_script::parse::{ScriptError, parse_script};
 use std::alloc::Global;
 use std::env::FillError;
 use std::io;
@@ -18,9 +19,9 @@ const WORD_LIMIT: usize = 131_072;
 
 /// The forms of commands.
 const FORMS: &str =
-    "usage: loom run PROG [--steps B]  runs the program in the file PROG; its threads make B entries at most
-       loom show PROG             writes the program in its canonical text
-       loom show PROG FILTER      tells what that filter is for the program";
+    "usage: loom run PROG [SCRIPT] [--steps B]  runs the program in the file PROG with the commands in the file SCRIPT; its threads make B entries at most
+       loom show PROG                      writes the program in its canonical text
+       loom show PROG FILTER               tells what that filter is for the program";
 
 /// The system's files, with a copy of what was read.
 pub type FileShelf<'a, R> = CopyShelf<DirShelf<'a, R>>;
@@ -62,7 +63,7 @@ fn tell_misfit<R: Env + Eprint>(rt: &R, words: &[&str]) -> io::Result<()> {
 fn reason_text(reason: Reason) -> &'static str {
     match reason {
         Reason::Syntax =>
-            "the grammar allows nothing like this here; something may be missing, here or before it",
+            "the grammar allows nothing like this here; something may be missing, here or before it; or a number, an expression or a nesting is beyond its limit (docs/LANGUAGE.md, Limits)",
         Reason::SecondOnLine => "a second statement begins on the line",
         Reason::UnknownName => "a name isn't known, or isn't of the kind that has to stand here",
         Reason::NameTwice => "a name is declared a second time",
@@ -85,7 +86,7 @@ fn excess_text(which: Which) -> &'static str {
     }
 }
 
-// The line of that number, from 1, without the blanks round it.
+// The line of that number, from 1, with its LF.
 fn line_of(file: &[u8], number: u32) -> &[u8] {
     let mut rest = file;
     for _ in 1..number {
@@ -95,9 +96,21 @@ fn line_of(file: &[u8], number: u32) -> &[u8] {
         }
     }
     match rest.iter().position(|b| *b == b'\n') {
-        Some(end) => rest[..end].trim_ascii(),
-        None => rest.trim_ascii(),
+        Some(end) => &rest[..end + 1],
+        None => rest,
     }
+}
+
+// Says why a file is refused at this line, and the line.
+fn tell_line<R: Eprint>(
+    rt: &R,
+    name: Plain<'_>,
+    file: &[u8],
+    number: u32,
+    why: &str,
+) -> io::Result<()> {
+    let line = Plain(line_of(file, number).trim_ascii());
+    eprintln!(rt; "loom: {name}: line {number}: {why}\n{number:>6} | {line}")
 }
 
 // Why the file is no program, and the line at which that shows. The same bytes have one refusal, which is the one that was written.
@@ -106,11 +119,42 @@ fn tell_refusal<R: Eprint>(rt: &R, alloc: Global, name: Plain<'_>, file: &[u8]) 
         return Ok(());
     }
     match parse_program(alloc, file) {
-        Err(LangError::Refused(refusal)) => {
-            let number = refusal.line;
-            let reason = reason_text(refusal.reason);
-            let line = Plain(line_of(file, number));
-            eprintln!(rt; "loom: {name}: line {number}: {reason}\n{number:>6} | {line}")
+        Err(LangError::Refused(refusal)) => tell_line(
+            rt,
+            name,
+            file,
+            refusal.line,
+            reason_text(refusal.reason),
+        ),
+        _ => Ok(()),
+    }
+}
+
+// Why no script has this line, which by itself is one where only too many commands stand before it.
+fn script_reason(alloc: Global, line: &[u8]) -> &'static str {
+    if line.len() > FILE_LIMIT {
+        return "the line is too long";
+    }
+    match parse_script(alloc, line) {
+        Ok(_) => "there are more than 64 commands",
+        Err(_) => "this is no command, or one that waits for a stall, which isn't built yet",
+    }
+}
+
+// The same of a file that is no script.
+fn tell_no_script<R: Eprint>(
+    rt: &R,
+    alloc: Global,
+    name: Plain<'_>,
+    file: &[u8],
+) -> io::Result<()> {
+    if file.len() > FILE_LIMIT {
+        return Ok(());
+    }
+    match parse_script(alloc, file) {
+        Err(ScriptError::Refused(refusal)) => {
+            let why = script_reason(alloc, line_of(file, refusal.line));
+            tell_line(rt, name, file, refusal.line, why)
         }
         _ => Ok(()),
     }
@@ -140,7 +184,8 @@ pub fn tell<R: Env + Eprint, F, P>(
     shelf: &FileShelf<'_, F>,
     sink: &OutSink<'_, P>,
 ) -> io::Result<()> {
-    let name = match words.get(1) {
+    // the file of the last read: the program is the second word and read first, the script is the third one
+    let name = match words.get(shelf.reads) {
         Some(word) => Plain(word.as_bytes()),
         None => Plain(b""),
     };
@@ -153,13 +198,17 @@ pub fn tell<R: Env + Eprint, F, P>(
             Some(file) => tell_refusal(rt, alloc, name, file.bytes()),
             None => Ok(()),
         },
+        3 => match &shelf.copy {
+            Some(file) => tell_no_script(rt, alloc, name, file.bytes()),
+            None => Ok(()),
+        },
         4 => match shelf.shelf.cause {
             Some(error) => eprintln!(rt; "loom: {name}: {error}"),
             None => Ok(()),
         },
         5 => tell_write_fault(rt, sink.cause),
         6 => tell_no_memory(rt),
-        10 => eprintln!(rt; "loom: {name}: a program has at most {FILE_LIMIT} bytes"),
+        10 => eprintln!(rt; "loom: {name}: a program or a script has at most {FILE_LIMIT} bytes"),
         _ => Ok(()),
     }
 }
@@ -173,9 +222,9 @@ mod tests {
     fn finds_a_line(rt: HostRuntime) -> Result<(), Fail> {
         let file = b"shared x;\n  x = 1;\t\n\nlast";
         let rows: [(u32, &[u8]); 5] = [
-            (1, b"shared x;"),
-            (2, b"x = 1;"),
-            (3, b""),
+            (1, b"shared x;\n"),
+            (2, b"  x = 1;\t\n"),
+            (3, b"\n"),
             (4, b"last"),
             (5, b""),
         ];

@@ -1,0 +1,12 @@
+use Rattle.std.proofs.Common.{◌≡◌, ◌≤◌, length, take}
+use Rattle.loom_walk.specs.Notes.{begun_by, is_of_frame, behind_those}
+use Rattle.loom_walk.proofs.event_notes.count_behind_frame.Given as goal
+
+abbrev pub invariant-notes : goal.invariant-notes
+invariant-notes l = record {
+  within : l.i ≤ length l.notes;
+  is : behind_those (is_of_frame l.depth) (begun_by (take l.i l.notes)) ≡ behind_those (is_of_frame l.depth) (begun_by l.notes);
+}
+
+abbrev pub decreases-notes : goal.decreases-notes
+decreases-notes l = l.i

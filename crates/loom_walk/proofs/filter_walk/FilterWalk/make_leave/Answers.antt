@@ -1,0 +1,32 @@
+use Rattle.std.proofs.Common.{refl, sym, subst, ◌∙◌, arith}
+use Rattle.loom_walk.specs.FilterWalk.{FilterWalk, IsAt}
+use Rattle.loom_walk.specs.Owed.{filters_owed}
+use Rattle.loom_walk.proofs.FilterCounts.{one_less}
+use Rattle.loom_walk.proofs.OperationSteps.{makes_leave}
+use Rattle.loom_walk.proofs.WalkCalls.{one_noted}
+use Rattle.loom_walk.proofs.filter_walk.FilterWalk.make_leave.Goals as goal
+
+pub pop_first-requires : goal.pop_first-requires
+pop_first-requires c = c.self.invariant.rows.owed
+
+pub invariant_of-self : goal.invariant_of-self
+invariant_of-self c = record {
+  rows = record {
+    filters = c.leave.ensures.filters ∙ c.self.invariant.rows.filters;
+    owed = c.pop_first.ensures.rows;
+    own_owed = one_less (filters_owed c.pop_first.new.self.rows) (filters_owed c.self.inside.owed.rows) c.pop_first.ensures.filters.0 c.self.inside.version.active c.pop_first.ensures.filters.1 c.self.invariant.rows.own_owed;
+    depths = c.self.invariant.rows.depths;
+    own = c.self.invariant.rows.own;
+    few_events = c.self.invariant.rows.few_events;
+    few_regions = c.self.invariant.rows.few_regions;
+  };
+  regions = c.self.invariant.regions;
+}
+
+pub returns-clause-at : goal.returns-clause-at
+returns-clause-at c p plans z l owes h =
+    let old = subst (λ (w : FilterWalk). IsAt p plans w z) (sym c.self.view_is) h in
+    makes_leave p plans _ z c.args.k c.args.clause c.pop_first.new.self c.leave.new.self old (record { queue = c.pop_first.ensures.queue; line = c.pop_first.ensures.line }) (c.leave.ensures.holdings z.held old.holdings)
+
+pub returns-clause-room : goal.returns-clause-room
+returns-clause-room c = one_noted c.args.self.now _ _ c.self.view_is refl (omega arith) (omega arith)

@@ -57,12 +57,12 @@ asks_same z vs us is l (w.Enter k c) h = h
 asks_same z vs us is l (w.Wait k n) h = h
 
 -- the same steps, with `us` still to take behind them
-abbrev HasMore : Source → Plans → Walk → List Version → List Version → List PartStep → List Item → Type 0
+abbrev pub HasMore : Source → Plans → Walk → List Version → List Version → List PartStep → List Item → Type 0
 HasMore p plans z vs us ss ahead =
     AreWoven p plans (to_take z (vs ++ us)) ss ahead
     × (walk_from p plans (to_take z (vs ++ us)) ss ≡ to_take (walk_from p plans (to_take z vs) ss) (Walk.coming (walk_from p plans (to_take z vs) ss) ++ us))
 
-more : (p : Source) (plans : Plans) (z : Walk) (vs us : List Version) (ss : List PartStep) (ahead : List Item) → AreWoven p plans (to_take z vs) ss ahead → HasMore p plans z vs us ss ahead
+pub more : (p : Source) (plans : Plans) (z : Walk) (vs us : List Version) (ss : List PartStep) (ahead : List Item) → AreWoven p plans (to_take z vs) ss ahead → HasMore p plans z vs us ss ahead
 more p plans z vs us [] ahead h = (tt, refl)
 more p plans z [] us (goes (made l begin) ∷ ss) ahead h = absurd h.0.1
 more p plans z (v ∷ vs) us (goes (made l begin) ∷ ss) ahead h =

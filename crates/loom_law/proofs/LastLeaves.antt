@@ -389,7 +389,7 @@ in_frame_none : (f : OpenFrame → OpenFrame) (fs : List OpenFrame) → in_frame
 in_frame_none f [] h = refl
 in_frame_none f (x ∷ fs) h = cc
 
-in_frame_length : (f : OpenFrame → OpenFrame) (fs : List OpenFrame) → length (in_frame f fs) ≡ length fs
+pub in_frame_length : (f : OpenFrame → OpenFrame) (fs : List OpenFrame) → length (in_frame f fs) ≡ length fs
 in_frame_length f [] = refl
 in_frame_length f (x ∷ fs) = refl
 
@@ -397,11 +397,11 @@ without_none : (ks : List ℕ) (fs : List OpenFrame) → frames_without ks fs �
 without_none ks [] h = refl
 without_none ks (x ∷ fs) h = cc
 
-without_length : (ks : List ℕ) (fs : List OpenFrame) → length (frames_without ks fs) ≡ length fs
+pub without_length : (ks : List ℕ) (fs : List OpenFrame) → length (frames_without ks fs) ≡ length fs
 without_length ks [] = refl
 without_length ks (x ∷ fs) = ap suc (without_length ks fs)
 
-less_length : (fs : List OpenFrame) → length (without_first fs) ≡ one_less (length fs)
+pub less_length : (fs : List OpenFrame) → length (without_first fs) ≡ one_less (length fs)
 less_length [] = refl
 less_length (x ∷ fs) = refl
 
@@ -475,7 +475,7 @@ item_good p plans z (enter f env) rest e h = (
     held = h.held;
     over = λ n. cc;
   },
-  e,
+  e.1,
 )
 item_good p plans z (out f) rest e h = (
   record {

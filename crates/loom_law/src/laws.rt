@@ -1,5 +1,6 @@
 //! Laws of full parts and of lawful journals, each the contract of a function that does nothing. Their statements stand in `specs/Laws.antt`.
 ghost use Rattle.loom_law.specs.InsideRegions.{HasRegionPlaces};
+ghost use Rattle.loom_law.specs.OpenStatements.{HasNestedStatements, HasFewFrames, HasTopEnds};
 ghost use Rattle.loom_law.specs.OneRegion.{HasOneRegion, IsAlwaysInOneRegion, HasOneRegionUnderScript};
 ghost use Rattle.loom_law.specs.Promises.{AlwaysPromises};
 ghost use Rattle.loom_law.specs.Laws.{HasHeldRegions, HasOnePart, HasOneMove, HasOneMade, HasBalance, IsAlwaysBalanced, HasNewInstalls, HasExclusion, IsAlwaysObeyed, HasNewest, HasOwedActive, HasOwedInstalled, HasHeldLeaves, HasRightLeaves, HasFronts, HasEmptyEnds, HasBeginning, HasEventTurns, HasOperationTurns, HasControlTurns, HasSoundPlaces, IsOutsideWhereFlagged, HasOneNumber, HasOneJudgement, HasOneCommandList};
@@ -138,8 +139,8 @@ pub fn always_promises()
     ensures { AlwaysPromises }
 {}
 
-/// At each point of its full part a thread is inside at most one region of a clause, and in one of its open frames alone, where no path refuses the
-/// filter and it comes in at safe places. Other filters may be active beside it.
+/// No thread is ever inside two regions of one clause, and it is inside a region in a single one of its open frames, where no path refuses the filter and
+/// it comes in at safe places. Other filters may be active beside it.
 pub fn one_region()
     ensures { HasOneRegion }
 {}
@@ -159,4 +160,20 @@ pub fn one_region_under_script()
 /// refusals of regions that are entered again or nest mean by it.
 pub fn region_places()
     ensures { HasRegionPlaces }
+{}
+
+/// Open statements nest along each trace of a program that keeps the rules: a statement begins in a frame in which none of its line is open, what is
+/// complete or comes to its back edge is the innermost one, on a line of its own, and a frame ends where one is open.
+pub fn nested_statements()
+    ensures { HasNestedStatements }
+{}
+
+/// No more frames are open than the limit.
+pub fn few_frames()
+    ensures { HasFewFrames }
+{}
+
+/// The frame that ends is the top one.
+pub fn top_ends()
+    ensures { HasTopEnds }
 {}

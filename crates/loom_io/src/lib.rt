@@ -7,6 +7,7 @@ pub mod adapters;
 pub mod buffer;
 pub mod memory;
 pub mod page;
+pub mod page_text;
 pub mod shelf;
 pub mod sink;
 pub mod whole;

@@ -5,26 +5,31 @@ ghost use Rattle.loom_io.specs.FaultCount.{Rose};
 ghost use Rattle.loom_io.specs.Sink.{TookFront};
 ghost use Rattle.loom_io.specs.Page.{PageTook};
 
+use crate::page_text::{PAGE_TEXT_LIMIT, PageText};
 use crate::sink::{Sink, SinkFailed};
 use crate::whole::put_all;
-use arrayvec::ArrayVec;
 use std::marker::Model;
 
 /// The most bytes that a page holds.
-pub const PAGE_SIZE: usize = 4096;
+pub const PAGE_SIZE: usize = 65536;
 
-/// The bytes of a page, 4,096 at most (`PAGE_SIZE`). It takes no memory.
+/// The bytes of a page, 65,536 at most (`PAGE_SIZE`). It takes no memory.
 #[derive(Debug, Drop)]
 pub struct Page {
-    cells: ArrayVec<u8, PAGE_SIZE>,
+    cells: [u8; PAGE_SIZE],
+    // how many cells are in use
+    len: usize,
 }
 
 impl Model for Page {
-    ghost use Rattle.std.specs.Prelude.{List, ℕ};
+    ghost use Rattle.std.specs.Prelude.{◌≡◌, ◌≤◌, List, ℕ, length, take};
+    ghost use Rattle.loom_io.specs.Page.{page_size};
 
     ghost Value = { List ℕ };
 
-    ghost view = { λ p. p.cells.items };
+    ghost view = { λ p. take p.len p.cells };
+
+    ghost invariant = { λ p. (length p.cells ≡ page_size) × (p.len ≤ page_size) };
 }
 
 impl Page {
@@ -33,7 +38,8 @@ impl Page {
         ensures { result ≡ [] }
     {
         Page {
-            cells: ArrayVec::new(),
+            cells: [0; PAGE_SIZE],
+            len: 0,
         }
     }
 
@@ -42,28 +48,38 @@ impl Page {
         ensures bytes { result.now ≡ self.now }
         ensures most { length result.now ≤ PAGE_SIZE }
     {
-        self.cells.as_slice()
+        &self.cells[..self.len]
     }
 
     // How many bytes more the page can hold.
     fn room(&self) -> usize
         ensures { result + length self.now ≡ PAGE_SIZE }
     {
-        self.cells.remaining_capacity()
+        PAGE_SIZE - self.len
     }
 
     fn clear(&mut self)
         ensures { self.new ≡ [] }
     {
-        self.cells.clear();
+        self.len = 0;
     }
 
     fn add(&mut self, piece: &[u8])
         requires { length self.old + length piece.now ≤ PAGE_SIZE }
         ensures { self.new ≡ self.old ++ piece.now }
     {
-        let added = self.cells.try_extend_from_slice(piece);
-        prove!(added.is_ok());
+        let end = self.len + piece.len();
+        self.cells[self.len..end].copy_from_slice(piece);
+        self.len = end;
+    }
+
+    // Adds a text that is made here.
+    #[inline(always)]
+    fn add_text<T: PageText>(&mut self, text: &T)
+        requires { length self.old + PAGE_TEXT_LIMIT ≤ PAGE_SIZE }
+        ensures { self.new ≡ self.old ++ T.text text.now }
+    {
+        self.len = text.write(&mut self.cells, self.len);
     }
 }
 
@@ -103,7 +119,7 @@ fn make_room<K: Sink>(sink: &mut K, page: &mut Page, count: usize) -> Result<(),
     Ok(())
 }
 
-/// Writes a piece of 4,096 bytes at most to the page. Where the page has room for the piece, the
+/// Writes a piece of 65,536 bytes at most to the page. Where the page has room for the piece, the
 /// sink isn't asked; where it has none, the page is put first, and then holds the piece alone.
 /// Where the sink fails, it has taken a front of what the page holds, its count of faults rose in
 /// this call, and the page stays as it was.
@@ -125,46 +141,66 @@ pub fn put_paged<K: Sink>(sink: &mut K, page: &mut Page, piece: &[u8]) -> Result
     Ok(())
 }
 
+/// Makes a text in the page, and puts the page first where it has no room for as many bytes as such a text may have (`PAGE_TEXT_LIMIT`).
+/// Where the sink fails, it has taken a front of what the page holds, its count of faults rose in this call, and the page stays as it was.
+#[inline(always)]
+pub fn put_page_text<K: Sink, T: PageText>(
+    sink: &mut K,
+    page: &mut Page,
+    text: &T,
+) -> Result<(), SinkFailed>
+    ensures later { K.faults sink.old ≤ K.faults sink.new }
+    ensures ok { OnOk result (PageTook (K.taken sink.old) (K.taken sink.new) page.old page.new (T.text text.now)) }
+    ensures calm { OnOk result (K.faults sink.new ≡ K.faults sink.old) }
+    ensures part { OnErr result (TookFront (K.taken sink.old) (K.taken sink.new) (page.old ++ T.text text.now)) }
+    ensures failed { OnErr result (Rose (K.faults sink.old) (K.faults sink.new)) }
+    ensures kept { OnErr result (page.new ≡ page.old) }
+{
+    make_room(sink, page, PAGE_TEXT_LIMIT)?;
+    page.add_text(text);
+    Ok(())
+}
+
 #[cfg(test)]
 mod tests {
     use super::*;
     use crate::memory::MemSink;
     use std::test::Fail;
 
-    // A page has room for 455 of them.
+    // A page has room for 7,281 of them.
     const PIECE: &[u8] = b"1:2 begin";
 
     #[test]
     fn puts_many_short_pieces(rt: HostRuntime) -> Result<(), Fail> {
-        let mut sink = MemSink::make(rt.alloc(), 9000, 7)?;
+        let mut sink = MemSink::make(rt.alloc(), 80000, 7)?;
         let mut page = Page::new();
         let mut text = Vec::new(rt.alloc());
-        for _ in 0..1000 {
+        for _ in 0..8000 {
             put_paged(&mut sink, &mut page, PIECE)?;
             text.extend_from_slice(PIECE)?;
         }
-        assert_eq!(rt; page.bytes().len(), 810);
+        assert_eq!(rt; page.bytes().len(), 6471);
         put_page(&mut sink, &mut page)?;
         assert_eq!(rt; sink.taken.bytes(), text.as_slice());
-        assert_eq!(rt; sink.calls, 585 + 585 + 116);
+        assert_eq!(rt; sink.calls, 9362 + 925);
         assert_eq!(rt; sink.faults, 0);
         Ok(())
     }
 
     #[test]
     fn fails_in_the_second_page(rt: HostRuntime) -> Result<(), Fail> {
-        let mut sink = MemSink::make(rt.alloc(), 9000, 7)?;
-        sink.failing.0.push(590)?;
+        let mut sink = MemSink::make(rt.alloc(), 80000, 7)?;
+        sink.failing.0.push(9367)?;
         let mut page = Page::new();
-        for i in 0..1000 {
+        for i in 0..15000 {
             if put_paged(&mut sink, &mut page, PIECE).is_err() {
-                assert_eq!(rt; i, 910);
+                assert_eq!(rt; i, 14562);
                 break;
             }
         }
-        assert_eq!(rt; sink.taken.bytes().len(), 4095 + 4 * 7);
-        assert_eq!(rt; page.bytes().len(), 4095);
-        assert_eq!(rt; sink.calls, 590);
+        assert_eq!(rt; sink.taken.bytes().len(), 65529 + 4 * 7);
+        assert_eq!(rt; page.bytes().len(), 65529);
+        assert_eq!(rt; sink.calls, 9367);
         assert_eq!(rt; sink.faults, 1);
         Ok(())
     }

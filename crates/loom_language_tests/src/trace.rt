@@ -186,8 +186,8 @@ fn a_journal_keeps_its_entries(rt: HostRuntime) {
     journal.push(Entry::Back { thread: 1, line: 2 });
     journal.push(entry.copy());
     assert_eq!(rt; journal.len(), 2);
-    assert_eq!(rt; line_of(journal.get(0)).bytes(), "1:2 back".as_bytes());
-    assert_eq!(rt; line_of(journal.get(1)).bytes(), "asked 9".as_bytes());
+    assert_eq!(rt; line_of(&journal.get(0)).bytes(), "1:2 back".as_bytes());
+    assert_eq!(rt; line_of(&journal.get(1)).bytes(), "asked 9".as_bytes());
 }
 
 #[test]

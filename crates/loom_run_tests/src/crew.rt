@@ -40,7 +40,7 @@ fn text_of(alloc: Global, journal: &Journal) -> Result<Vec<u8>, NoMemory> {
     let mut line = Line::new();
     let mut text = Vec::new(alloc);
     'entries: for i in 0..journal.len() {
-        put_entry(journal.get(i), &mut line);
+        put_entry(&journal.get(i), &mut line);
         put_line(&mut text, &line)?;
     }
     Ok(text)

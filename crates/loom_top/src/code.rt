@@ -32,7 +32,7 @@ pub fn ending_of(journal: &Journal) -> Ending
     ensures { EndsIn journal.now.entries result }
 {
     match journal.get(journal.len() - 1) {
-        Entry::Finish { kind } => *kind,
+        Entry::Finish { kind } => kind,
         _ => unreachable!(),
     }
 }

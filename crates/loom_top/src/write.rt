@@ -4,16 +4,51 @@ ghost use Rattle.std.specs.Io.KnownBytes.{Appends};
 ghost use Rattle.loom_io.specs.FaultCount.{Rose};
 ghost use Rattle.loom_io.specs.Sink.{TookFront};
 ghost use Rattle.loom_io.specs.Page.{PageTook};
+ghost use Rattle.loom_tree.specs.Decimal.{signed_decimal};
 ghost use Rattle.loom_tree.specs.Lines.{ended};
 ghost use Rattle.loom_trace.specs.Limits.{line_limit};
 ghost use Rattle.loom_trace.specs.Text.{entry_line, printed_line, printed_lines, journal_text};
 
-use loom_io::page::{Page, put_page, put_paged};
+use loom_io::page::{Page, put_page, put_page_text, put_paged};
+use loom_io::page_text::PageText;
 use loom_io::sink::{Sink, SinkFailed};
 use loom_trace::entry::Entry;
 use loom_trace::journal::Journal;
-use loom_trace::line::Line;
-use loom_trace::text::{put_entry, put_printed};
+use loom_trace::text::{write_entry, write_printed};
+
+// The line of an entry, with what ends it.
+#[derive(Drop)]
+struct EntryLine {
+    entry: Entry,
+}
+
+impl PageText for EntryLine {
+    ghost text = { λ p. entry_line p.entry ++ 10 ∷ [] };
+
+    #[inline(always)]
+    fn write(&self, cells: &mut [u8], at: usize) -> usize {
+        let end = write_entry(&self.entry, cells, at);
+        cells[end] = b'\n';
+        end + 1
+    }
+}
+
+// The line of a printed value, with what ends it.
+#[derive(Drop)]
+struct ValueLine {
+    value: i64,
+}
+
+impl PageText for ValueLine {
+    ghost text = { λ p. signed_decimal p.value ++ 10 ∷ [] };
+
+    #[inline(always)]
+    fn write(&self, cells: &mut [u8], at: usize) -> usize {
+        let end = write_printed(self.value, cells, at);
+        cells[end] = b'\n';
+        end + 1
+    }
+}
 
 // Writes a line and what ends it.
 fn put_line<K: Sink>(sink: &mut K, page: &mut Page, line: &[u8]) -> Result<(), SinkFailed>
@@ -29,32 +64,28 @@ fn put_line<K: Sink>(sink: &mut K, page: &mut Page, line: &[u8]) -> Result<(), S
 }
 
 // Writes the line of what an entry prints, where it prints.
-fn put_value<K: Sink>(sink: &mut K, page: &mut Page, entry: &Entry) -> Result<(), SinkFailed>
+fn put_value<K: Sink>(sink: &mut K, page: &mut Page, entry: Entry) -> Result<(), SinkFailed>
     ensures later { K.faults sink.old ≤ K.faults sink.new }
-    ensures ok { OnOk result (PageTook (K.taken sink.old) (K.taken sink.new) page.old page.new (ended (printed_line entry.now))) }
+    ensures ok { OnOk result (PageTook (K.taken sink.old) (K.taken sink.new) page.old page.new (ended (printed_line entry))) }
     ensures calm { OnOk result (K.faults sink.new ≡ K.faults sink.old) }
-    ensures part { OnErr result (TookFront (K.taken sink.old) (K.taken sink.new) (page.old ++ ended (printed_line entry.now))) }
+    ensures part { OnErr result (TookFront (K.taken sink.old) (K.taken sink.new) (page.old ++ ended (printed_line entry))) }
     ensures failed { OnErr result (Rose (K.faults sink.old) (K.faults sink.new)) }
 {
     if let Entry::Print { value, .. } = entry {
-        let mut line = Line::new();
-        put_printed(*value, &mut line);
-        return put_line(sink, page, line.bytes());
+        return put_page_text(sink, page, &ValueLine { value });
     }
     Ok(())
 }
 
 // Writes the line of an entry.
-fn put_one<K: Sink>(sink: &mut K, page: &mut Page, entry: &Entry) -> Result<(), SinkFailed>
+fn put_one<K: Sink>(sink: &mut K, page: &mut Page, entry: Entry) -> Result<(), SinkFailed>
     ensures later { K.faults sink.old ≤ K.faults sink.new }
-    ensures ok { OnOk result (PageTook (K.taken sink.old) (K.taken sink.new) page.old page.new (ended (entry_line entry.now ∷ []))) }
+    ensures ok { OnOk result (PageTook (K.taken sink.old) (K.taken sink.new) page.old page.new (ended (entry_line entry ∷ []))) }
     ensures calm { OnOk result (K.faults sink.new ≡ K.faults sink.old) }
-    ensures part { OnErr result (TookFront (K.taken sink.old) (K.taken sink.new) (page.old ++ ended (entry_line entry.now ∷ []))) }
+    ensures part { OnErr result (TookFront (K.taken sink.old) (K.taken sink.new) (page.old ++ ended (entry_line entry ∷ []))) }
     ensures failed { OnErr result (Rose (K.faults sink.old) (K.faults sink.new)) }
 {
-    let mut line = Line::new();
-    put_entry(entry, &mut line);
-    put_line(sink, page, line.bytes())
+    put_page_text(sink, page, &EntryLine { entry })
 }
 
 // Writes the lines of what is printed.

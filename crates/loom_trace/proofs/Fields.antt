@@ -11,7 +11,7 @@ spaced-append [] gs = refl
 spaced-append (f ∷ fs) gs = ap (λ z. 32 ∷ f ++ z) (spaced-append fs gs) ∙ sym (append_assoc (32 ∷ f) (spaced fs) (spaced gs))
 
 -- one field more
-pub spaced_more : {A : Type 0} (text : A → List ℕ) (xs : List A) (i : ℕ) (d : A) (old mid new : List ℕ) → i < length xs → mid ≡ old ++ spaced (map text (take i xs)) → new ≡ (mid ++ 32 ∷ []) ++ text (get_or xs i d) → new ≡ old ++ spaced (map text (take (i + 1) xs))
+pub spaced_more : {A : Type 0} (text : A → List ℕ) (xs : List A) (i : ℕ) (d : A) (old mid new : List ℕ) → i < length xs → mid ≡ old ++ spaced (map text (take i xs)) → new ≡ mid ++ spaced (text (get_or xs i d) ∷ []) → new ≡ old ++ spaced (map text (take (i + 1) xs))
 spaced_more text xs i d old mid new h is e =
     rw (e, is, take_more xs i d h, map-append, spaced-append) (simp (append_assoc, append-nil))
 

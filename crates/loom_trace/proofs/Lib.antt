@@ -6,3 +6,5 @@ pub mod Numbers
 pub mod EntryFields
 pub mod Unique
 pub mod Bits
+pub mod Written
+pub mod Shortening

@@ -5,3 +5,4 @@ pub mod Text
 pub mod Parts
 pub mod Laws
 pub mod Places
+pub mod ShortEntries

@@ -30,6 +30,6 @@ control_limit = CONTROL_LIMIT
 abbrev pub line_limit : ℕ
 line_limit = LINE_LIMIT
 
--- bytes before the fields of an entry: its thread, its line and its word
-abbrev pub front_limit : ℕ
-front_limit = 24
+-- bytes of the fields of an entry, each behind a space: before them stand 24 bytes at most, its thread, its line and its word
+abbrev pub fields_limit : ℕ
+fields_limit = 136

@@ -4,26 +4,29 @@ ghost use Rattle.loom_trace.specs.Limits.{entry_limit, control_limit};
 
 use crate::entry::Entry;
 use crate::limits::CONTROL_LIMIT;
+use crate::short_entry::{ShortEntry, full_entry, short_of};
 use loom_tree::name::NoMemory;
 use std::alloc::Global;
 use std::marker::Model;
 
-/// A list of entries, with room for more that was taken when it was made.
+/// A list of entries, with room for more that was taken when it was made. An entry takes 24 bytes, and 56 bytes more where it has arguments or more than 16 events.
 #[derive(Debug, Drop)]
 pub struct Journal {
-    entries: Vec<Entry>,
+    shorts: Vec<ShortEntry>,
+    // the entries that don't fit into 24 bytes
+    longs: Vec<Entry>,
 }
 
 impl Model for Journal {
-    ghost use Rattle.std.specs.Prelude.{◌+◌, ◌-◌, ◌≤◌, vec_len, vec_capacity};
-    ghost use Rattle.loom_trace.specs.Limits.{entry_limit, control_limit};
+    ghost use Rattle.std.specs.Prelude.{◌-◌, map, vec_len, vec_capacity};
     ghost use Rattle.loom_trace.specs.Journal.{Contents};
+    ghost use Rattle.loom_trace.specs.ShortEntries.{full_entry, HaveRoom};
 
     ghost Value = { Contents };
 
-    ghost view = { λ j. record { entries = j.entries.items; room = vec_capacity j.entries - vec_len j.entries } };
+    ghost view = { λ j. record { entries = map (full_entry j.longs.items) j.shorts.items; room = vec_capacity j.shorts - vec_len j.shorts } };
 
-    ghost invariant = { λ j. vec_capacity j.entries ≤ entry_limit + control_limit };
+    ghost invariant = { λ j. HaveRoom j.shorts.items j.longs.items (vec_capacity j.shorts - vec_len j.shorts) (vec_capacity j.longs - vec_len j.longs) };
 }
 
 impl Journal {
@@ -35,8 +38,10 @@ impl Journal {
         ensures empty { IfOk result (λ j. j.entries ≡ []) }
         ensures room { IfOk result (λ j. j.room ≡ limit + control_limit) }
     {
-        let entries = Vec::with_capacity(alloc, (limit + CONTROL_LIMIT) as usize)?;
-        Ok(Journal { entries })
+        let room = (limit + CONTROL_LIMIT) as usize;
+        let shorts = Vec::with_capacity(alloc, room)?;
+        let longs = Vec::with_capacity(alloc, room)?;
+        Ok(Journal { shorts, longs })
     }
 
     /// Appends an entry.
@@ -45,7 +50,14 @@ impl Journal {
         ensures appended { self.new.entries ≡ self.old.entries ++ e ∷ [] }
         ensures room { self.new.room + 1 ≡ self.old.room }
     {
-        self.entries.push_reserved(e);
+        match short_of(&e) {
+            Some(short) => self.shorts.push_reserved(short),
+            None => {
+                let index = self.longs.len() as u32;
+                self.longs.push_reserved(e);
+                self.shorts.push_reserved(ShortEntry::Long(index));
+            }
+        }
     }
 
     /// How many entries there are.
@@ -53,14 +65,16 @@ impl Journal {
         ensures len { result ≡ length self.now.entries }
         ensures most { result + self.now.room ≤ entry_limit + control_limit }
     {
-        self.entries.len() as u32
+        self.shorts.len() as u32
     }
 
     /// The entry that has `i` entries before it.
-    pub fn get(&self, i: u32) -> &Entry
+    #[inline(always)]
+    pub fn get(&self, i: u32) -> Entry
         requires { i < length self.now.entries }
-        ensures { slice_get self.now.entries i ≡ Some result.now }
+        ensures { slice_get self.now.entries i ≡ Some result }
     {
-        &self.entries[i as usize]
+        let short = &self.shorts[i as usize];
+        full_entry(short, &self.longs)
     }
 }

@@ -1,6 +1,7 @@
 //! Journals: their entries, and the text of an entry.
 #![tactic(auto)]
 
+mod bytes;
 pub mod entry;
 pub mod journal;
 pub mod laws;
@@ -10,4 +11,5 @@ mod number;
 pub mod places;
 pub mod request;
 pub mod row;
+mod short_entry;
 pub mod text;

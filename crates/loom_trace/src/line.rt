@@ -1,23 +1,27 @@
 //! A line of text that takes no memory.
-ghost use Rattle.std.specs.Prelude.{◌≡◌, ◌+◌, ◌<◌, ◌≤◌, [], ◌∷◌, ◌++◌, length};
+ghost use Rattle.std.specs.Prelude.{◌≡◌, ◌≤◌, [], length};
 ghost use Rattle.loom_trace.specs.Limits.{line_limit};
 
 use crate::limits::LINE_LIMIT;
-use arrayvec::ArrayVec;
 use std::marker::Model;
 
 /// The bytes of a line, 160 at most (`LINE_LIMIT`).
 #[derive(Debug, Drop)]
 pub struct Line {
-    cells: ArrayVec<u8, LINE_LIMIT>,
+    pub(crate) cells: [u8; LINE_LIMIT],
+    // how many cells are in use
+    pub(crate) len: usize,
 }
 
 impl Model for Line {
-    ghost use Rattle.std.specs.Prelude.{List, ℕ};
+    ghost use Rattle.std.specs.Prelude.{◌≡◌, ◌≤◌, List, ℕ, length, take};
+    ghost use Rattle.loom_trace.specs.Limits.{line_limit};
 
     ghost Value = { List ℕ };
 
-    ghost view = { λ l. l.cells.items };
+    ghost view = { λ l. take l.len l.cells };
+
+    ghost invariant = { λ l. (length l.cells ≡ line_limit) × (l.len ≤ line_limit) };
 }
 
 impl Line {
@@ -26,7 +30,8 @@ impl Line {
         ensures { result ≡ [] }
     {
         Line {
-            cells: ArrayVec::new(),
+            cells: [0; LINE_LIMIT],
+            len: 0,
         }
     }
 
@@ -35,30 +40,6 @@ impl Line {
         ensures bytes { result.now ≡ self.now }
         ensures most { length result.now ≤ line_limit }
     {
-        self.cells.as_slice()
-    }
-
-    // Makes the line empty.
-    pub(crate) fn clear(&mut self)
-        ensures { self.new ≡ [] }
-    {
-        self.cells.clear();
-    }
-
-    // Appends a byte.
-    pub(crate) fn push(&mut self, byte: u8)
-        requires { length self.old < line_limit }
-        ensures { self.new ≡ self.old ++ byte ∷ [] }
-    {
-        self.cells.push(byte);
-    }
-
-    // Appends the bytes.
-    pub(crate) fn add(&mut self, piece: &[u8])
-        requires { length self.old + length piece.now ≤ line_limit }
-        ensures { self.new ≡ self.old ++ piece.now }
-    {
-        let added = self.cells.try_extend_from_slice(piece);
-        prove!(added.is_ok());
+        &self.cells[..self.len]
     }
 }

@@ -105,6 +105,18 @@ impl EventNumbers {
         }
     }
 
+    // These events.
+    pub(crate) fn of(events: &[u8]) -> EventNumbers
+        requires { length events.now ≤ event_limit }
+        ensures { result ≡ events.now }
+    {
+        let mut row = EventNumbers::none();
+        for event in events {
+            row.push(*event);
+        }
+        row
+    }
+
     /// How many there are.
     pub fn len(&self) -> usize
         ensures len { result ≡ length self.now }

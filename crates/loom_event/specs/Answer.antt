@@ -35,7 +35,7 @@ grant_deed (r.Spawn l f vs) (negsuc c) = None
 grant_deed (r.Join l (pos c)) v = deed l (join c)
 grant_deed (r.Join l (negsuc c)) v = None
 grant_deed (r.Print l u) v = deed l (print u)
-grant_deed (r.Tick l k) v = None
+grant_deed _ v = None
 
 -- the traps that a thread finds by itself
 abbrev pub cause_of : ℕ → Option Cause
@@ -59,7 +59,7 @@ trap_deed (r.Up l s) = deed l (trap (overflow s))
 trap_deed (r.Spawn l f vs) = deed l (trap threads)
 trap_deed (r.Join l u) = deed l (trap (not_spawned u))
 trap_deed (r.Print l u) = None
-trap_deed (r.Tick l k) = None
+trap_deed _ = None
 
 -- The deed grants the request, with some value, or it is the trap that may stand in its place.
 abbrev pub IsAnswered : Request → Deed → Type 0
@@ -82,9 +82,18 @@ IsEntryOf t (Some d) x = x ≡ entry_by t d.line d.act
 abbrev pub IsGrantOf : ℕ → Request → Entry → Type 0
 IsGrantOf t q x = (v : ℤ) × IsEntryOf t (grant_deed q v) x
 
--- The entry answers the request of thread `t`: it grants the request, or it is the trap that may stand in its place.
+-- The entry answers the request of thread `t`: it grants the request, or it is the trap that may stand in its place. What no act is asked for is
+-- told as it stands.
 abbrev pub IsAnswerTo : ℕ → Request → Entry → Type 0
 IsAnswerTo t (r.Tick l k) x = x ≡ e.Tick t l k
+IsAnswerTo t (r.At l k ns) x = x ≡ e.At t l k ns
+IsAnswerTo t (r.Past l k ns) x = x ≡ e.Past t l k ns
+IsAnswerTo t (r.Back l) x = x ≡ e.Back t l
+IsAnswerTo t (r.Enter l k c) x = x ≡ e.Enter t l k c
+IsAnswerTo t (r.Leave l k c) x = x ≡ e.Leave t l k c
+IsAnswerTo t (r.Post l k n) x = x ≡ e.Post t l k n
+IsAnswerTo t (r.Wait l k n) x = x ≡ e.Wait t l k n
+IsAnswerTo t (r.Cross l y v n) x = x ≡ e.Cross t l y v n
 IsAnswerTo t q x = IsGrantOf t q x ⊎ IsEntryOf t (trap_deed q) x
 
 -- The entry tells thread `t` that its request is disabled. Only what waits for a mutex, a semaphore or a thread can be.
@@ -94,11 +103,29 @@ IsBlockedFor t (r.Down l s) x = x ≡ e.Blocked t l (what.Down s)
 IsBlockedFor t (r.Join l (pos c)) x = x ≡ e.Blocked t l (what.Join c)
 IsBlockedFor t _ x = ⊥
 
+-- The same, also of what filters make a thread ask for: it may have to wait for a clause, or for a post.
+abbrev pub IsBlockedAt : ℕ → Request → Entry → Type 0
+IsBlockedAt t (r.Enter l k c) x = x ≡ e.Blocked t l (what.Enter k c)
+IsBlockedAt t (r.Wait l k n) x = x ≡ e.Blocked t l (what.Wait k n)
+IsBlockedAt t q x = IsBlockedFor t q x
+
 -- the function of this number has as many parameters
 abbrev pub IsFunctionWith : Source → ℕ → List ℤ → Type 0
 IsFunctionWith p f vs = (g : Function) × (slice_get p.funcs f ≡ Some g) × (length vs ≡ length g.params)
 
--- The numbers of a request are those of the program, and a trap is one that a thread finds by itself.
+-- It is asked for because of a filter or a version, and the store has no part in it.
+abbrev pub asks_operation : Request → Bool
+asks_operation (r.At l k ns) = true
+asks_operation (r.Past l k ns) = true
+asks_operation (r.Back l) = true
+asks_operation (r.Enter l k c) = true
+asks_operation (r.Leave l k c) = true
+asks_operation (r.Post l k n) = true
+asks_operation (r.Wait l k n) = true
+asks_operation (r.Cross l y v n) = true
+asks_operation _ = false
+
+-- The numbers of a request are those of the program, and a trap is one that a thread finds by itself. A store is asked for no other requests.
 abbrev pub HasNumbers : Source → Request → Type 0
 HasNumbers p (r.Trap l n) = (n ≡ 1) ⊎ ((n ≡ 2) ⊎ (n ≡ 6))
 HasNumbers p (r.Read l w) = w < cell_count p.words
@@ -108,4 +135,12 @@ HasNumbers p (r.Unlock l m) = m < length p.mutexes
 HasNumbers p (r.Down l s) = s < length p.semas
 HasNumbers p (r.Up l s) = s < length p.semas
 HasNumbers p (r.Spawn l f vs) = IsFunctionWith p f vs
+HasNumbers p (r.At l k ns) = ⊥
+HasNumbers p (r.Past l k ns) = ⊥
+HasNumbers p (r.Back l) = ⊥
+HasNumbers p (r.Enter l k c) = ⊥
+HasNumbers p (r.Leave l k c) = ⊥
+HasNumbers p (r.Post l k n) = ⊥
+HasNumbers p (r.Wait l k n) = ⊥
+HasNumbers p (r.Cross l y v n) = ⊥
 HasNumbers p _ = Unit {0}

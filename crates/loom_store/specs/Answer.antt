@@ -21,7 +21,8 @@ pub record MayAsk (s : Store) (t : ℕ) (q : Request) : Type 0 where
   pub lives : state.ended ≡ false
   pub begun : state.begun ≡ not (asks_begin q)
 
--- The store has the word, mutex or semaphore that a request names, and a trap is one that a thread finds by itself.
+-- The store has the word, mutex or semaphore that a request names, and a trap is one that a thread finds by itself. What filters and versions make a
+-- thread ask for isn't asked of a store.
 abbrev pub CanAnswer : Store → Request → Type 0
 CanAnswer s (r.Trap l n) = (n ≡ 1) ⊎ ((n ≡ 2) ⊎ (n ≡ 6))
 CanAnswer s (r.Read l x) = x < length s.words
@@ -30,6 +31,14 @@ CanAnswer s (r.Lock l m) = m < length s.holders
 CanAnswer s (r.Unlock l m) = m < length s.holders
 CanAnswer s (r.Down l k) = k < length s.semas
 CanAnswer s (r.Up l k) = k < length s.semas
+CanAnswer s (r.At l k ns) = ⊥
+CanAnswer s (r.Past l k ns) = ⊥
+CanAnswer s (r.Back l) = ⊥
+CanAnswer s (r.Enter l k c) = ⊥
+CanAnswer s (r.Leave l k c) = ⊥
+CanAnswer s (r.Post l k n) = ⊥
+CanAnswer s (r.Wait l k n) = ⊥
+CanAnswer s (r.Cross l y v n) = ⊥
 CanAnswer s _ = Unit {0}
 
 -- A thread can wait for this: for a mutex, for a semaphore, or for the end of a thread that was spawned.

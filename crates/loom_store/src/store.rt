@@ -60,7 +60,7 @@ impl Store {
         })
     }
 
-    /// Answers what thread `t` asks for. Where it is granted it is done; else the store stays as it was. It takes constant time and no
+    /// Answers what thread `t` asks for: an act, or a tick. Where it is granted it is done; else the store stays as it was. It takes constant time and no
     /// memory.
     pub fn ask(&mut self, t: u8, r: &Request) -> Answer
         requires thread { MayAsk self.old t r.now }
@@ -90,6 +90,14 @@ impl Store {
             Request::Join { value, .. } => self.threads.join(value),
             Request::Print { .. } => Answer::Granted(0),
             Request::Tick { .. } => Answer::Granted(0),
+            Request::At { .. } => unreachable!(),
+            Request::Past { .. } => unreachable!(),
+            Request::Back { .. } => unreachable!(),
+            Request::Enter { .. } => unreachable!(),
+            Request::Leave { .. } => unreachable!(),
+            Request::Post { .. } => unreachable!(),
+            Request::Wait { .. } => unreachable!(),
+            Request::Cross { .. } => unreachable!(),
         }
     }
 

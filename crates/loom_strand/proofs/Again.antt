@@ -60,10 +60,26 @@ deed_free t (Some d) x h = act_free t d.line d.act x h
 -- a grant is an answer, and no answer is `Blocked`
 pub grant_answers : (t : ℕ) (q : Request) (x : Entry) → IsGrantOf t q x → IsAnswerTo t q x
 grant_answers t (r.Tick l k) x h = absurd h.1
+grant_answers t (r.At l k ns) x h = absurd h.1
+grant_answers t (r.Past l k ns) x h = absurd h.1
+grant_answers t (r.Back l) x h = absurd h.1
+grant_answers t (r.Enter l k c) x h = absurd h.1
+grant_answers t (r.Leave l k c) x h = absurd h.1
+grant_answers t (r.Post l k n) x h = absurd h.1
+grant_answers t (r.Wait l k n) x h = absurd h.1
+grant_answers t (r.Cross l y v n) x h = absurd h.1
 grant_answers t _ x h = inl h
 
 pub answer_free : (t : ℕ) (q : Request) (x : Entry) → IsAnswerTo t q x → is_blocked_entry x ≡ false
 answer_free t (r.Tick l k) x h = ap is_blocked_entry h
+answer_free t (r.At l k ns) x h = ap is_blocked_entry h
+answer_free t (r.Past l k ns) x h = ap is_blocked_entry h
+answer_free t (r.Back l) x h = ap is_blocked_entry h
+answer_free t (r.Enter l k c) x h = ap is_blocked_entry h
+answer_free t (r.Leave l k c) x h = ap is_blocked_entry h
+answer_free t (r.Post l k n) x h = ap is_blocked_entry h
+answer_free t (r.Wait l k n) x h = ap is_blocked_entry h
+answer_free t (r.Cross l y v n) x h = ap is_blocked_entry h
 answer_free t q x (inl h) = deed_free t (grant_deed q h.0) x h.1
 answer_free t q x (inr h) = deed_free t (trap_deed q) x h
 

@@ -125,6 +125,7 @@ grant_answers t (r.Spawn l g us) v x h = inl (v, h)
 grant_answers t (r.Join l u) v x h = inl (v, h)
 grant_answers t (r.Print l u) v x h = inl (v, h)
 grant_answers t (r.Tick l k) v x h = h
+grant_answers t _ v x h = absurd h
 
 trap_answers : (t : ℕ) (q : Request) (x : Entry) → IsEntryOf t (trap_deed q) x → IsAnswerTo t q x
 trap_answers t (r.Begin l) x h = inr h
@@ -139,7 +140,7 @@ trap_answers t (r.Up l k) x h = inr h
 trap_answers t (r.Spawn l g us) x h = inr h
 trap_answers t (r.Join l u) x h = inr h
 trap_answers t (r.Print l u) x h = inr h
-trap_answers t (r.Tick l k) x h = absurd h
+trap_answers t _ x h = absurd h
 
 line_of_what : (k : ℕ) (what : What) (q : Request) → request_for k what ≡ Some q → line_in q ≡ k
 line_of_what k (w.Lock n) q is = let same : r.Lock k n ≡ q = cc in ap line_in (sym same)
@@ -289,7 +290,7 @@ trapped_function p (r.Up l k) = tt
 trapped_function p (r.Spawn l g us) = tt
 trapped_function p (r.Join l u) = tt
 trapped_function p (r.Print l u) = tt
-trapped_function p (r.Tick l k) = tt
+trapped_function p _ = tt
 
 granted_function : (p : Source) (q : Request) (v : ℤ) → HasNumbers p q → HasFunction p (given_deed q v)
 granted_function p (r.Begin l) v h = tt
@@ -306,7 +307,7 @@ granted_function p (r.Spawn l g us) (negsuc c) h = tt
 granted_function p (r.Join l (pos c)) v h = tt
 granted_function p (r.Join l (negsuc c)) v h = tt
 granted_function p (r.Print l u) v h = tt
-granted_function p (r.Tick l k) v h = tt
+granted_function p _ v h = tt
 
 deed_function : (p : Source) (q : Request) (y : Answer) → HasNumbers p q → HasFunction p (deed_of q y)
 deed_function p q (a.Granted v) h = granted_function p q v h
@@ -415,6 +416,7 @@ entry_of_grant t (r.Spawn l g us) v x h = entry_of_deed t (given_deed (r.Spawn l
 entry_of_grant t (r.Join l u) v x h = entry_of_deed t (given_deed (r.Join l u) v) x h
 entry_of_grant t (r.Print l u) v x h = entry_of_deed t (given_deed (r.Print l u) v) x h
 entry_of_grant t (r.Tick l k) v x h = ap thread_of h
+entry_of_grant t _ v x h = absurd h
 
 entry_by_thread : (t : ℕ) (q : Request) (y : Answer) (x : Entry) → IsEntryFor t q y x → thread_of x ≡ Some t
 entry_by_thread t q (a.Granted v) x h = entry_of_grant t q v x h

@@ -71,6 +71,7 @@ granted_goes (r.Print l u) h v x new tells leads = deed_goes h (h.next _) (given
 granted_goes {p} {cs} {limit} {es} {st} {t} (r.Tick l k) h v x new tells leads =
     let more = tick_goes h.going h.takes t h.state h.there h.lives (sym h.begins) l k (h.next _) in
     subst (λ z. IsGoing p cs limit (es ++ x ∷ []) z) (sym leads) (subst (λ z. IsGoing p cs limit (es ++ z ∷ []) st) (sym tells) more)
+granted_goes _ h v x new tells leads = absurd tells
 
 -- trapped
 trapped_goes : {p : Source} {cs : List Command} {limit : ℕ} {es : List Entry} {st : Store} {t : ℕ} (q : Request) (h : IsAsking p cs limit es st t q) (x : Entry) (new : Store)
@@ -87,7 +88,7 @@ trapped_goes (r.Up l k) h x new tells leads = deed_goes h (h.next _) (trap_deed 
 trapped_goes (r.Spawn l f us) h x new tells leads = deed_goes h (h.next _) (trap_deed (r.Spawn l f us)) x new tells leads
 trapped_goes (r.Join l u) h x new tells leads = deed_goes h (h.next _) (trap_deed (r.Join l u)) x new tells leads
 trapped_goes (r.Print l u) h x new tells leads = deed_goes h (h.next _) (trap_deed (r.Print l u)) x new tells leads
-trapped_goes (r.Tick l k) h x new tells leads = absurd tells
+trapped_goes _ h x new tells leads = absurd tells
 
 -- disabled: what a thread waits for isn't its begin, and the line is that of the request
 disabled_goes : {p : Source} {cs : List Command} {limit : ℕ} {es : List Entry} {st : Store} {t : ℕ} (q : Request) (h : IsAsking p cs limit es st t q) (what : What) (l : ℕ) (x : Entry)

@@ -79,6 +79,7 @@ wait_of_grant t (r.Spawn l f us) v x h = wait_of_deed t (given_deed (r.Spawn l f
 wait_of_grant t (r.Join l u) v x h = wait_of_deed t (given_deed (r.Join l u) v) x h
 wait_of_grant t (r.Print l u) v x h = wait_of_deed t (given_deed (r.Print l u) v) x h
 wait_of_grant t (r.Tick l k) v x h = ap (λ z. wait_in (Some z)) h
+wait_of_grant t _ v x h = absurd h
 
 -- The entry says what the answer says.
 pub wait_of_entry : (t : ℕ) (q : Request) (y : Answer) (x : Entry) → IsEntryFor t q y x → wait_in (Some x) ≡ wait_of y

@@ -25,16 +25,33 @@ line_in (r.Spawn l f vs) = l
 line_in (r.Join l v) = l
 line_in (r.Print l v) = l
 line_in (r.Tick l k) = l
+line_in (r.At l k ns) = l
+line_in (r.Past l k ns) = l
+line_in (r.Back l) = l
+line_in (r.Enter l k c) = l
+line_in (r.Leave l k c) = l
+line_in (r.Post l k n) = l
+line_in (r.Wait l k n) = l
+line_in (r.Cross l y v n) = l
 
 -- a thread's number
 abbrev pub IsThreadNumber : ℤ → Type 0
 IsThreadNumber v = (c : ℕ) × (v ≡ pos c) × (c ≤ thread_limit)
 
--- The request can be granted with this value: a new thread, and one whose end was waited for, have a thread's number.
+-- The request can be granted with this value: a new thread, and one whose end was waited for, have a thread's number. What filters and versions
+-- make a thread ask for isn't granted by a store.
 abbrev pub CanBeGranted : Request → ℤ → Type 0
 CanBeGranted (r.Trap l n) v = (n ≡ 1) ⊎ ((n ≡ 2) ⊎ (n ≡ 6))
 CanBeGranted (r.Spawn l f vs) v = IsThreadNumber v
 CanBeGranted (r.Join l u) v = IsThreadNumber u
+CanBeGranted (r.At l k ns) v = ⊥
+CanBeGranted (r.Past l k ns) v = ⊥
+CanBeGranted (r.Back l) v = ⊥
+CanBeGranted (r.Enter l k c) v = ⊥
+CanBeGranted (r.Leave l k c) v = ⊥
+CanBeGranted (r.Post l k n) v = ⊥
+CanBeGranted (r.Wait l k n) v = ⊥
+CanBeGranted (r.Cross l y i n) v = ⊥
 CanBeGranted q v = Unit {0}
 
 -- the entry of a request of thread t that is granted with this value

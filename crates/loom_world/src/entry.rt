@@ -24,6 +24,14 @@ fn line_of(request: &Request) -> u32
         Request::Join { line, .. } => line,
         Request::Print { line, .. } => line,
         Request::Tick { line, .. } => line,
+        Request::At { line, .. } => line,
+        Request::Past { line, .. } => line,
+        Request::Back { line } => line,
+        Request::Enter { line, .. } => line,
+        Request::Leave { line, .. } => line,
+        Request::Post { line, .. } => line,
+        Request::Wait { line, .. } => line,
+        Request::Cross { line, .. } => line,
     }
 }
 
@@ -78,6 +86,14 @@ fn granted(thread: u8, request: &Request, value: i64) -> Entry
             line,
             place,
         },
+        Request::At { .. } => unreachable!(),
+        Request::Past { .. } => unreachable!(),
+        Request::Back { .. } => unreachable!(),
+        Request::Enter { .. } => unreachable!(),
+        Request::Leave { .. } => unreachable!(),
+        Request::Post { .. } => unreachable!(),
+        Request::Wait { .. } => unreachable!(),
+        Request::Cross { .. } => unreachable!(),
     }
 }
 

@@ -44,6 +44,14 @@ fn begins(r: &Request) -> bool
         Request::Join { .. } => false,
         Request::Print { .. } => false,
         Request::Tick { .. } => false,
+        Request::At { .. } => false,
+        Request::Past { .. } => false,
+        Request::Back { .. } => false,
+        Request::Enter { .. } => false,
+        Request::Leave { .. } => false,
+        Request::Post { .. } => false,
+        Request::Wait { .. } => false,
+        Request::Cross { .. } => false,
     }
 }
 
@@ -70,6 +78,14 @@ fn can_answer(store: &Store, r: &Request) -> bool
         Request::Join { .. } => true,
         Request::Print { .. } => true,
         Request::Tick { .. } => true,
+        Request::At { .. } => false,
+        Request::Past { .. } => false,
+        Request::Back { .. } => false,
+        Request::Enter { .. } => false,
+        Request::Leave { .. } => false,
+        Request::Post { .. } => false,
+        Request::Wait { .. } => false,
+        Request::Cross { .. } => false,
     }
 }
 

@@ -69,8 +69,8 @@ pub(crate) fn read(alloc: Global, bytes: &[u8]) -> Result<FileItems, LangError>
 }
 
 /// The program that the bytes of a file are. `Refused` comes exactly where they are none, and memory didn't run out; it tells the line, from 1,
-/// and the reason. Where they leave the grammar the reason is `Syntax`, at the line of the first token with which no program goes on; the end
-/// of the bytes stands on the last line. Else it is the least line at which a rule is broken, and there the least reason.
+/// and the reason. Where they leave the grammar the reason is `Syntax`, and the line is that of the earliest token with which no program can go on;
+/// the end of the bytes stands on the last line. Else it is the least line at which a rule is broken, and there the least reason.
 pub fn parse_program(alloc: Global, bytes: &[u8]) -> Result<Program, LangError>
     requires { length bytes.now ≤ file_limit }
     ensures program { IfOk result (λ p. IsProgram bytes.now p) }

@@ -77,25 +77,25 @@ owner_step true n t x rest f h = last (n == t) rest (λ e. f refl e)
 owner_step false n t x rest f h = h
 
 pub owner_told : (fs : List FilterLocks) (hs : List Holder) (t : ℕ)
-    → ((u v : ℕ) → owns (record { filters = fs; holders = hs }) u ≡ true → owns (record { filters = fs; holders = hs }) v ≡ true → u ≡ v)
-    → is_number t (first_owner fs hs) ≡ owns (record { filters = fs; holders = hs }) t
+    → ((u v : ℕ) → owns (record { filters = fs; holders = hs; posts = [] }) u ≡ true → owns (record { filters = fs; holders = hs; posts = [] }) v ≡ true → u ≡ v)
+    → is_number t (first_owner fs hs) ≡ owns (record { filters = fs; holders = hs; posts = [] }) t
 owner_told fs [] t one = refl
 owner_told fs (h ∷ hs) t one =
-    owner_step (has_alone fs h.filter h.clause) h.thread t (first_owner fs hs) (owns (record { filters = fs; holders = hs }) t)
+    owner_step (has_alone fs h.filter h.clause) h.thread t (first_owner fs hs) (owns (record { filters = fs; holders = hs; posts = [] }) t)
     (λ b r. same b r) (owner_told fs hs t (λ u v a b. one u v (later u a) (later v b)))
   where
-    later : (u : ℕ) → owns (record { filters = fs; holders = hs }) u ≡ true → owns (record { filters = fs; holders = h ∷ hs }) u ≡ true
-    later u a = or_right (has_alone fs h.filter h.clause && (h.thread == u)) (owns (record { filters = fs; holders = hs }) u) a
+    later : (u : ℕ) → owns (record { filters = fs; holders = hs; posts = [] }) u ≡ true → owns (record { filters = fs; holders = h ∷ hs; posts = [] }) u ≡ true
+    later u a = or_right (has_alone fs h.filter h.clause && (h.thread == u)) (owns (record { filters = fs; holders = hs; posts = [] }) u) a
 
-    first : has_alone fs h.filter h.clause ≡ true → owns (record { filters = fs; holders = h ∷ hs }) h.thread ≡ true
-    first b = here (has_alone fs h.filter h.clause) (h.thread == h.thread) (owns (record { filters = fs; holders = hs }) h.thread) b (eq_same h.thread)
+    first : has_alone fs h.filter h.clause ≡ true → owns (record { filters = fs; holders = h ∷ hs; posts = [] }) h.thread ≡ true
+    first b = here (has_alone fs h.filter h.clause) (h.thread == h.thread) (owns (record { filters = fs; holders = hs; posts = [] }) h.thread) b (eq_same h.thread)
       where
         here : (a d r : Bool) → a ≡ true → d ≡ true → ((a && d) || r) ≡ true
         here true true r e g = refl
         here true false r e g = cc
         here false d r e g = cc
 
-    same : has_alone fs h.filter h.clause ≡ true → owns (record { filters = fs; holders = hs }) t ≡ true → (h.thread == t) ≡ true
+    same : has_alone fs h.filter h.clause ≡ true → owns (record { filters = fs; holders = hs; posts = [] }) t ≡ true → (h.thread == t) ≡ true
     same b r = subst (λ z. (h.thread == z) ≡ true) (one h.thread t (first b) (later t r)) (eq_same h.thread)
 
 -- Another thread

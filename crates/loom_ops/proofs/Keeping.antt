@@ -2,20 +2,20 @@
 use Rattle.std.proofs.Common.{ℕ, ◌≤◌, ◌<◌, ◌≡◌, ◌==◌, Bool, true, false, not, ◌&&◌, ◌||◌, List, [], ◌∷◌, ◌++◌, length, refl, sym, ap, ◌∙◌, subst, arith}
 use Rattle.std.specs.List.{AllByRecursion, IsDistinct, filter, list_any}
 use Rattle.std.proofs.lemmas.Bool.{and_parts}
-use Rattle.std.proofs.lemmas.List.{length-append, length-map}
+use Rattle.std.proofs.lemmas.List.{length-append, length-map, length-replicate, map-append}
 use Rattle.std.proofs.lemmas.List.Folds.{list_any-append}
 use Rattle.std.proofs.lemmas.Map.Views.{any-filter_same}
-use Rattle.loom_command.specs.FilterFault.{most_clauses}
+use Rattle.loom_command.specs.FilterFault.{most_clauses, most_events}
 use Rattle.loom_law.specs.Filter.{Plan, is_some, is_unilateral}
 use Rattle.loom_law.specs.Control.{Holder}
 use Rattle.loom_law.specs.Lawful.{filter_limit}
 use Rattle.loom_law.proofs.Holdings.{or_cases, or_left, either_of, same_number}
-use Rattle.loom_ops.specs.Ops.{FilterLocks, Ops, flag_of, is_yes, has_filter, has_lock, has_alone, has_holder, owns, no_filters, locks_in, with_filter, without_filter, with_holder, free_clause, have_one_clause, KeepsLocks}
-use Rattle.loom_ops.proofs.ListCuts.{all_weaker, all_more, any_within, any_weaker, any_whole, all_cut, distinct_cut, length_cut}
+use Rattle.loom_ops.specs.Ops.{FilterLocks, PostTable, Ops, empty_table, flag_of, is_yes, has_filter, has_lock, has_alone, has_holder, owns, no_filters, locks_in, with_filter, without_filter, with_holder, free_clause, have_one_clause, KeepsLocks}
+use Rattle.loom_ops.proofs.ListCuts.{all_weaker, all_more, any_within, any_weaker, any_whole, all_cut, distinct_cut, length_cut, map_cut}
 
 pub none_keeps : KeepsLocks no_filters
 unfolding IsDistinct
-none_keeps = record { few = omega arith; small = tt; there = tt; one = tt; owner = λ t u a b. cc }
+none_keeps = record { few = omega arith; small = tt; there = tt; one = tt; owner = λ t u a b. cc; tables = refl; wide = tt }
 
 -- One filter more
 
@@ -46,6 +46,9 @@ install_keeps o k f s new room small = record {
       o.holders (λ h g. clause_stays o.filters (locks_in k f) h.filter h.clause g) s.there;
   one = s.one;
   owner = λ t u a b. s.owner t u (before t a) (before u b);
+  tables = map-append (λ (t : PostTable). t.number) o.posts (empty_table k ∷ [])
+      ∙ (ap (λ (z : List ℕ). z ++ k ∷ []) s.tables ∙ sym (map-append (λ (g : FilterLocks). g.number) o.filters (locks_in k f ∷ [])));
+  wide = all_more (λ (t : PostTable). length t.counts ≡ most_events) o.posts (empty_table k) s.wide (length-replicate {A = ℕ} most_events 0);
 }
   where
     before : (t : ℕ) → owns (with_filter o k f) t ≡ true → owns o t ≡ true
@@ -76,7 +79,7 @@ clause_left fs k j c other h =
 
 -- who owns something in a part owns it in the whole
 owns_whole : (fs : List FilterLocks) (hs : List Holder) (cut : FilterLocks → Bool) (test : Holder → Bool) (t : ℕ)
-    → owns (record { filters = filter cut fs; holders = filter test hs }) t ≡ true → owns (record { filters = fs; holders = hs }) t ≡ true
+    → owns (record { filters = filter cut fs; holders = filter test hs; posts = [] }) t ≡ true → owns (record { filters = fs; holders = hs; posts = [] }) t ≡ true
 owns_whole fs hs cut test t a =
     any_whole (λ (h : Holder). has_alone fs h.filter h.clause && (h.thread == t)) test hs
     (any_weaker (λ (h : Holder). has_alone (filter cut fs) h.filter h.clause && (h.thread == t)) (λ (h : Holder). has_alone fs h.filter h.clause && (h.thread == t)) (filter test hs)
@@ -96,6 +99,10 @@ remove_keeps o k s = record {
       (λ (h : Holder). not (h.filter == k)) o.holders (λ h m g. clause_left o.filters k h.filter h.clause m g) s.there;
   one = distinct_cut have_one_clause (λ (h : Holder). not (h.filter == k)) o.holders s.one;
   owner = λ t u a b. s.owner t u (before t a) (before u b);
+  tables = map_cut (λ (t : PostTable). t.number) (λ (n : ℕ). not (n == k)) o.posts
+      ∙ (ap (filter (λ (n : ℕ). not (n == k))) s.tables ∙ sym (map_cut (λ (f : FilterLocks). f.number) (λ (n : ℕ). not (n == k)) o.filters));
+  wide = all_cut (λ (t : PostTable). length t.counts ≡ most_events) (λ (t : PostTable). length t.counts ≡ most_events) (λ (t : PostTable). not (t.number == k)) o.posts
+      (λ t m g. g) s.wide;
 }
   where
     before : (t : ℕ) → owns (without_filter o k) t ≡ true → owns o t ≡ true
@@ -120,6 +127,8 @@ enter_keeps o k c t s there free alone = record {
   there = (there, s.there);
   one = (no_holder o.holders k c free, s.one);
   owner = λ u v a b. is_own u a ∙ sym (is_own v b);
+  tables = s.tables;
+  wide = s.wide;
 }
   where
     is_own : (u : ℕ) → owns (with_holder o k c t) u ≡ true → u ≡ t
@@ -135,6 +144,8 @@ leave_keeps o k c s = record {
       (λ (h : Holder). not ((h.filter == k) && (h.clause == c))) o.holders (λ h m g. g) s.there;
   one = distinct_cut have_one_clause (λ (h : Holder). not ((h.filter == k) && (h.clause == c))) o.holders s.one;
   owner = λ t u a b. s.owner t u (before t a) (before u b);
+  tables = s.tables;
+  wide = s.wide;
 }
   where
     before : (t : ℕ) → owns (free_clause o k c) t ≡ true → owns o t ≡ true

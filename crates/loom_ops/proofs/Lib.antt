@@ -5,3 +5,7 @@ pub mod HolderRoom
 pub mod AloneFlags
 pub mod RowChanges
 pub mod LockReplay
+pub mod Befores
+pub mod PostTables
+pub mod PostReplay
+pub mod Waits

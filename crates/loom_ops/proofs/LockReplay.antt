@@ -1,19 +1,20 @@
 -- The locks and the control of a journal.
-use Rattle.std.proofs.Common.{ℕ, ◌≡◌, ◌==◌, Bool, true, false, not, ◌&&◌, ◌||◌, List, [], ◌∷◌, ◌++◌, length, map, Option, Some, None, refl, sym, ap, ◌∙◌, subst, cond}
+use Rattle.std.proofs.Common.{ℕ, ◌<◌, ◌≤◌, ◌≡◌, ◌==◌, if◌then◌else◌, Bool, true, false, not, ◌&&◌, ◌||◌, List, [], ◌∷◌, ◌++◌, length, map, Option, Some, None, refl, sym, ap, ◌∙◌, subst, cond}
 use Rattle.std.specs.List.{AllByRecursion, filter}
 use Rattle.std.proofs.lemmas.Bool.{and_parts}
 use Rattle.std.proofs.lemmas.List.{length-map, map-append}
 use Rattle.std.proofs.lemmas.Map.Views.{any-filter_same}
-use Rattle.loom_law.specs.Filter.{has, is_alone, is_number}
+use Rattle.loom_law.specs.Filter.{Plan, has, is_alone, is_number, before_in}
 use Rattle.loom_law.specs.Walk.{Version, Plans}
 use Rattle.loom_law.specs.Control.{Command, have_one_name, Holder, Control, left_by}
 use Rattle.loom_law.specs.Lawful.{plans, is_installed}
 use Rattle.loom_law.proofs.Holdings.{or_cases, or_left, or_right, either_of, same_number}
-use Rattle.loom_ops.specs.Ops.{FilterLocks, Ops, flag_of, is_yes, has_filter, has_lock, has_alone, is_holder, owns, locks_in, without_filter, KeepsLocks}
+use Rattle.loom_ops.specs.Ops.{FilterLocks, Ops, flag_of, is_yes, before_of, order_before, has_filter, has_lock, has_alone, is_holder, owns, locks_in, without_filter, KeepsLocks}
 use Rattle.loom_ops.specs.Rows.{first_holder}
 use Rattle.loom_ops.specs.Laws.{IsOpsOf, HasReplay, HasSameWords, HasOwners, HasOneHolderEach}
 use Rattle.loom_ops.proofs.ListCuts.{map_cut}
 use Rattle.loom_ops.proofs.AloneFlags.{flag_told}
+use Rattle.loom_ops.proofs.Befores.{before_told}
 use Rattle.loom_ops.proofs.Holders.{eq_same, holder_told}
 use Rattle.loom_ops.proofs.Keeping.{filter_there}
 
@@ -41,18 +42,32 @@ same_alone ps (j ∷ ks) k n =
         taken false r false d e g = g ∙ e
     step false b r h d f g = g
 
+same_before : (ps : Plans) (ks : List ℕ) (k n : ℕ) → has ks k ≡ true → 0 < n → n ≤ length (Plan.watches (ps k))
+    → order_before (map (locks_by ps) ks) k n ≡ before_in n (Plan.rulings (ps k))
+same_before ps [] k n there low high = absurd cc
+same_before ps (j ∷ ks) k n there low high =
+    step (j == k) (λ e. same_number j k e) there (λ h. same_before ps ks k n h low high)
+  where
+    step : (b : Bool) → (b ≡ true → j ≡ k) → (b || has ks k) ≡ true → (has ks k ≡ true → order_before (map (locks_by ps) ks) k n ≡ before_in n (Plan.rulings (ps k)))
+        → (if b then before_of (FilterLocks.befores (locks_by ps j)) n else order_before (map (locks_by ps) ks) k n) ≡ before_in n (Plan.rulings (ps k))
+    step true f h g =
+        ap (λ z. before_of (FilterLocks.befores (locks_by ps z)) n) (f refl) ∙ before_told (ps k) n low high
+    step false f h g = g h
+
 pub same_words : HasSameWords
 same_words = record {
   installed = λ ps c o k is. ap (λ (z : List FilterLocks). has_filter z k) is.filters ∙ same_filters ps (Version.active c.version) k;
   count = λ ps c o is. ap length is.filters ∙ length-map (Version.active c.version) (locks_by ps);
   holds = λ ps c o k n t is. ap (λ (z : List Holder). is_holder z k n t) is.holders;
   alone = λ ps c o k n is. ap (λ (z : List FilterLocks). has_alone z k n) is.filters ∙ same_alone ps (Version.active c.version) k n;
+  before = λ ps c o k n is there low high.
+      ap (λ (z : List FilterLocks). order_before z k n) is.filters ∙ same_before ps (Version.active c.version) k n there low high;
 }
 
 -- Replay
 
 -- cut by what is the same for each that is there
-cut_alike : (p q : ℕ → Bool) (ks : List ℕ) → ((i : ℕ) → has ks i ≡ true → p i ≡ q i) → filter p ks ≡ filter q ks
+pub cut_alike : (p q : ℕ → Bool) (ks : List ℕ) → ((i : ℕ) → has ks i ≡ true → p i ≡ q i) → filter p ks ≡ filter q ks
 cut_alike p q [] f = refl
 cut_alike p q (k ∷ ks) f =
     step (p k) (q k) (f k (or_left (k == k) (has ks k) (eq_same k))) (cut_alike p q ks (λ i h. f i (or_right (k == i) (has ks i) h)))
@@ -117,11 +132,11 @@ replay = record {
 -- Owners
 
 -- one of them owns it
-an_owner : (fs : List FilterLocks) (hs : List Holder) (u : ℕ) → owns (record { filters = fs; holders = hs }) u ≡ true
+an_owner : (fs : List FilterLocks) (hs : List Holder) (u : ℕ) → owns (record { filters = fs; holders = hs; posts = [] }) u ≡ true
     → (k : ℕ) × ((n : ℕ) × ((has_alone fs k n ≡ true) × (is_holder hs k n u ≡ true)))
 an_owner fs [] u h = cc
 an_owner fs (x ∷ hs) u h =
-    either_of (or_cases (has_alone fs x.filter x.clause && (x.thread == u)) (owns (record { filters = fs; holders = hs }) u) h)
+    either_of (or_cases (has_alone fs x.filter x.clause && (x.thread == u)) (owns (record { filters = fs; holders = hs; posts = [] }) u) h)
     (λ m. let two = and_parts (has_alone fs x.filter x.clause) (x.thread == u) m in (
       x.filter,
       (
@@ -141,16 +156,16 @@ an_owner fs (x ∷ hs) u h =
     three true false d e f g = cc
     three false b d e f g = cc
 
-owner_of : (fs : List FilterLocks) (hs : List Holder) (k n u : ℕ) → has_alone fs k n ≡ true → is_holder hs k n u ≡ true → owns (record { filters = fs; holders = hs }) u ≡ true
+owner_of : (fs : List FilterLocks) (hs : List Holder) (k n u : ℕ) → has_alone fs k n ≡ true → is_holder hs k n u ≡ true → owns (record { filters = fs; holders = hs; posts = [] }) u ≡ true
 owner_of fs [] k n u a h = h
 owner_of fs (x ∷ hs) k n u a h =
     either_of (or_cases ((x.filter == k) && ((x.clause == n) && (x.thread == u))) (is_holder hs k n u) h)
     (λ m. let one = and_parts (x.filter == k) ((x.clause == n) && (x.thread == u)) m in
     let two = and_parts (x.clause == n) (x.thread == u) one.1 in
-    or_left (has_alone fs x.filter x.clause && (x.thread == u)) (owns (record { filters = fs; holders = hs }) u)
+    or_left (has_alone fs x.filter x.clause && (x.thread == u)) (owns (record { filters = fs; holders = hs; posts = [] }) u)
     (both (has_alone fs x.filter x.clause) (x.thread == u)
     (subst (λ z. has_alone fs z x.clause ≡ true) (sym (same_number x.filter k one.0)) (subst (λ z. has_alone fs k z ≡ true) (sym (same_number x.clause n two.0)) a)) two.1))
-    (λ m. or_right (has_alone fs x.filter x.clause && (x.thread == u)) (owns (record { filters = fs; holders = hs }) u) (owner_of fs hs k n u a m))
+    (λ m. or_right (has_alone fs x.filter x.clause && (x.thread == u)) (owns (record { filters = fs; holders = hs; posts = [] }) u) (owner_of fs hs k n u a m))
   where
     both : (a b : Bool) → a ≡ true → b ≡ true → (a && b) ≡ true
     both true b e g = g

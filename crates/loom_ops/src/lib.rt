@@ -1,4 +1,4 @@
-//! The installed filters' locks: who holds which clause.
+//! The installed filters' locks and posts: who holds which clause, and how often each event of an order was posted.
 #![tactic(auto)]
 
 pub mod answer;

@@ -1,4 +1,4 @@
-//! Clauses of filters that threads enter and leave.
+//! Clauses of filters that threads enter and leave, and orders whose events they post and wait for.
 ghost use Rattle.std.specs.Prelude.{ℕ, ◌≡◌, true};
 ghost use Rattle.loom_law.specs.Filter.{is_number};
 
@@ -9,8 +9,13 @@ use loom_ops::answer::OpAnswer;
 use loom_ops::ops::Ops;
 use loom_plan::compiled::Compiled;
 use loom_trace::entry::What;
-use rows::{Call, FILTER, PROGRAM, ROWS, Row, Told};
+use rows::{Call, FILTER, ORDER_ROWS, ORDERS, PROGRAM, ROWS, Row, Told};
 use std::test::Fail;
+
+// What `post` asks for.
+const MOST_EVENTS: u8 = 32;
+
+const MOST_POSTS: u32 = 1_000_000;
 
 // Whether it is this thread.
 fn is_thread(o: Option<u8>, t: u8) -> bool
@@ -50,6 +55,7 @@ fn enter(ops: &mut Ops, t: u8, k: u8, clause: u8) -> Told {
     match ops.enter(t, k, clause) {
         OpAnswer::Granted => Told::Done,
         OpAnswer::Held { clause, by } => Told::Held(clause, by),
+        OpAnswer::Short { .. } => unreachable!(),
     }
 }
 
@@ -59,6 +65,25 @@ fn leave(ops: &mut Ops, t: u8, k: u8, clause: u8) -> Told {
     }
     ops.leave(t, k, clause);
     Told::Done
+}
+
+fn post(ops: &mut Ops, k: u8, event: u8) -> Told {
+    if event == 0 || event > MOST_EVENTS {
+        return Told::Not;
+    }
+    if ops.posts(k, event) >= MOST_POSTS {
+        return Told::Not;
+    }
+    ops.post(k, event);
+    Told::Done
+}
+
+fn wait(ops: &Ops, k: u8, event: u8) -> Told {
+    match ops.wait(k, event) {
+        OpAnswer::Granted => Told::Done,
+        OpAnswer::Held { .. } => unreachable!(),
+        OpAnswer::Short { event, posts } => Told::Short(event, posts),
+    }
 }
 
 fn told(ops: &mut Ops, c: &Compiled, call: Call) -> Told {
@@ -71,6 +96,9 @@ fn told(ops: &mut Ops, c: &Compiled, call: Call) -> Told {
         Call::Enter(t, k, clause) => enter(ops, t, k, clause),
         Call::Leave(t, k, clause) => leave(ops, t, k, clause),
         Call::Waits(t, k, clause) => Told::Is(ops.is_disabled(t, What::Enter(k, clause))),
+        Call::Post(k, event) => post(ops, k, event),
+        Call::Wait(k, event) => wait(ops, k, event),
+        Call::Lacks(t, k, event) => Told::Is(ops.is_disabled(t, What::Wait(k, event))),
     }
 }
 
@@ -90,6 +118,15 @@ fn answers_the_rows(rt: HostRuntime) -> Result<(), Fail> {
     let filter = compiled_in(rt.alloc(), &flow, FILTER)?;
     let mut ops = Ops::make();
     assert_eq!(rt; first_wrong(&mut ops, &filter, &ROWS), None);
+    Ok(())
+}
+
+#[test]
+fn answers_the_rows_of_orders(rt: HostRuntime) -> Result<(), Fail> {
+    let flow = flow_of(rt.alloc(), PROGRAM)?;
+    let filter = compiled_in(rt.alloc(), &flow, ORDERS)?;
+    let mut ops = Ops::make();
+    assert_eq!(rt; first_wrong(&mut ops, &filter, &ORDER_ROWS), None);
     Ok(())
 }
 

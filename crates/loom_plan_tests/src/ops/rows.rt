@@ -1,4 +1,4 @@
-//! Calls of threads that enter and leave clauses, row by row.
+//! Calls of threads that enter and leave clauses, post events and wait for them, row by row.
 
 /// A call. A thread stands before the filter, and the clause behind it.
 #[derive(Clone, Copy, Debug, Drop, PartialEq, Eq)]
@@ -13,6 +13,12 @@ pub enum Call {
     Leave(u8, u8, u8),
     /// Whether it is disabled that the thread enters the clause.
     Waits(u8, u8, u8),
+    /// An event of the filter is posted.
+    Post(u8, u8),
+    /// A wait for an event of the filter.
+    Wait(u8, u8),
+    /// Whether it is disabled that the thread waits for an event of the filter.
+    Lacks(u8, u8, u8),
 }
 
 /// What a call told.
@@ -24,6 +30,8 @@ pub enum Told {
     Done,
     /// The clause, and the thread that holds it.
     Held(u8, u8),
+    /// The event before, and how often it was posted.
+    Short(u8, u32),
     /// Whether it is so.
     Is(bool),
 }
@@ -70,4 +78,46 @@ pub const ROWS: [Row; 26] = [
     (Call::Enter(1, 5, 1), Told::Done, None),
     (Call::Enter(2, 5, 1), Told::Held(1, 1), None),
     (Call::Enter(2, 9, 1), Told::Held(1, 1), None),
+];
+
+/// Events 1 to 3 are of one order, 4 and 5 of another one.
+pub const ORDERS: &str = "p.lm:6{2} > p.lm:3 > p.lm:8; p.lm:7 > p.lm:9";
+
+/// Filters 5 and 9, both with these orders.
+pub const ORDER_ROWS: [Row; 29] = [
+    (Call::Install(5), Told::Done, None),
+    // The first event of an order waits for nothing.
+    (Call::Wait(5, 1), Told::Done, None),
+    (Call::Wait(5, 4), Told::Done, None),
+    // Two posts are enough, and one isn't.
+    (Call::Wait(5, 2), Told::Short(1, 0), None),
+    (Call::Lacks(1, 5, 2), Told::Is(true), None),
+    (Call::Post(5, 1), Told::Done, None),
+    (Call::Wait(5, 2), Told::Short(1, 1), None),
+    (Call::Post(5, 1), Told::Done, None),
+    (Call::Wait(5, 2), Told::Done, None),
+    // Nothing is used up.
+    (Call::Wait(5, 2), Told::Done, None),
+    (Call::Lacks(2, 5, 2), Told::Is(false), None),
+    (Call::Post(5, 1), Told::Done, None),
+    (Call::Wait(5, 2), Told::Done, None),
+    // Each event waits for the one before it, in its own order.
+    (Call::Wait(5, 3), Told::Short(2, 0), None),
+    (Call::Post(5, 2), Told::Done, None),
+    (Call::Wait(5, 3), Told::Done, None),
+    (Call::Wait(5, 5), Told::Short(4, 0), None),
+    // The same event of another filter, and events that there aren't.
+    (Call::Install(9), Told::Done, None),
+    (Call::Wait(9, 2), Told::Short(1, 0), None),
+    (Call::Post(9, 1), Told::Done, None),
+    (Call::Wait(9, 2), Told::Short(1, 1), None),
+    (Call::Post(9, 0), Told::Not, None),
+    (Call::Post(9, 33), Told::Not, None),
+    // Behind an installation the counts begin anew, and only those of its filter.
+    (Call::Remove(5), Told::Done, None),
+    (Call::Install(5), Told::Done, None),
+    (Call::Wait(5, 2), Told::Short(1, 0), None),
+    (Call::Wait(9, 2), Told::Short(1, 1), None),
+    (Call::Post(9, 1), Told::Done, None),
+    (Call::Wait(9, 2), Told::Done, None),
 ];

@@ -22,12 +22,12 @@ pub insert-requires : goal.insert-requires
 insert-requires c =
     let found : first_holder (holders_of_rows c.self.inside.holders.items) c.args.k c.args.clause ≡ None
     = sym (c.in-None.ensures ∙ ap (λ (z : List HolderRow). first_holder (holders_of_rows z) c.args.k c.args.clause) c.as_slice.ensures.value) in
-    let there : has_lock (Ops.filters (ops_of c.self.inside.filters.items c.self.inside.holders.items)) c.args.k c.args.clause ≡ true
+    let there : has_lock (Ops.filters (ops_of c.self.inside.filters.items c.self.inside.holders.items c.self.inside.posts.items)) c.args.k c.args.clause ≡ true
     = subst (λ (o : Ops). has_lock o.filters c.args.k c.args.clause ≡ true) (sym c.self.view_is) c.requires.there in
-    let alone : (u : ℕ) → owns (ops_of c.self.inside.filters.items c.self.inside.holders.items) u ≡ true → u ≡ c.args.t
+    let alone : (u : ℕ) → owns (ops_of c.self.inside.filters.items c.self.inside.holders.items c.self.inside.posts.items) u ≡ true → u ≡ c.args.t
     = subst (λ (o : Ops). (u : ℕ) → owns o u ≡ true → u ≡ c.args.t) (sym c.self.view_is) c.requires.alone in
     let room : length (holders_of_rows c.self.inside.holders.items) < 128
-    = has_room (ops_of c.self.inside.filters.items c.self.inside.holders.items) c.args.k c.args.clause c.args.t c.self.invariant there
+    = has_room (ops_of c.self.inside.filters.items c.self.inside.holders.items c.self.inside.posts.items) c.args.k c.args.clause c.args.t c.self.invariant there
     (none_holds (holders_of_rows c.self.inside.holders.items) c.args.k c.args.clause found) alone in
     let few : length c.self.inside.holders.items < 128 = omega (arith, room, length-map c.self.inside.holders.items holder_of) in
     (omega arith, (omega arith, few))
@@ -36,12 +36,12 @@ pub invariant_of-self : goal.invariant_of-self
 invariant_of-self c =
     let found : first_holder (holders_of_rows c.self.inside.holders.items) c.args.k c.args.clause ≡ None
     = sym (c.in-None.ensures ∙ ap (λ (z : List HolderRow). first_holder (holders_of_rows z) c.args.k c.args.clause) c.as_slice.ensures.value) in
-    let there : has_lock (Ops.filters (ops_of c.self.inside.filters.items c.self.inside.holders.items)) c.args.k c.args.clause ≡ true
+    let there : has_lock (Ops.filters (ops_of c.self.inside.filters.items c.self.inside.holders.items c.self.inside.posts.items)) c.args.k c.args.clause ≡ true
     = subst (λ (o : Ops). has_lock o.filters c.args.k c.args.clause ≡ true) (sym c.self.view_is) c.requires.there in
-    let alone : (u : ℕ) → owns (ops_of c.self.inside.filters.items c.self.inside.holders.items) u ≡ true → u ≡ c.args.t
+    let alone : (u : ℕ) → owns (ops_of c.self.inside.filters.items c.self.inside.holders.items c.self.inside.posts.items) u ≡ true → u ≡ c.args.t
     = subst (λ (o : Ops). (u : ℕ) → owns o u ≡ true → u ≡ c.args.t) (sym c.self.view_is) c.requires.alone in
-    subst KeepsLocks (sym (enter_rows c.self.inside.filters.items c.self.inside.holders.items c.insert.new.self.items _ c.insert.ensures.items))
-    (enter_keeps (ops_of c.self.inside.filters.items c.self.inside.holders.items) c.args.k c.args.clause c.args.t c.self.invariant there
+    subst KeepsLocks (sym (enter_rows c.self.inside.filters.items c.self.inside.holders.items c.insert.new.self.items c.self.inside.posts.items _ c.insert.ensures.items))
+    (enter_keeps (ops_of c.self.inside.filters.items c.self.inside.holders.items c.self.inside.posts.items) c.args.k c.args.clause c.args.t c.self.invariant there
     (none_holds (holders_of_rows c.self.inside.holders.items) c.args.k c.args.clause found) alone)
 
 pub returns-in-None : goal.returns-in-None
@@ -50,6 +50,6 @@ returns-in-None c =
     = sym (c.in-None.ensures ∙ ap (λ (z : List HolderRow). first_holder (holders_of_rows z) c.args.k c.args.clause) c.as_slice.ensures.value) in (
       subst (λ (o : Ops). has_holder o.holders c.args.k c.args.clause ≡ false) c.self.view_is
           (none_holds (holders_of_rows c.self.inside.holders.items) c.args.k c.args.clause found),
-      enter_rows c.self.inside.filters.items c.self.inside.holders.items c.insert.new.self.items _ c.insert.ensures.items
+      enter_rows c.self.inside.filters.items c.self.inside.holders.items c.insert.new.self.items c.self.inside.posts.items _ c.insert.ensures.items
           ∙ ap (λ (o : Ops). with_holder o c.args.k c.args.clause c.args.t) c.self.view_is,
     )

@@ -1,5 +1,5 @@
 //! What filters make one thread do.
-ghost use Rattle.std.specs.Prelude.{◌≡◌, ◌↔◌, ◌<◌, ◌≤◌, ℕ, [], ◌∷◌, IfOk, IsTrue, length, Some};
+ghost use Rattle.std.specs.Prelude.{◌≡◌, ◌↔◌, ◌⊎◌, ◌<◌, ◌≤◌, ℕ, [], ◌∷◌, IfOk, IsTrue, length, Some};
 ghost use Rattle.std.specs.List.{AllByRecursion};
 ghost use Rattle.loom_tree.specs.Tree.{Source};
 ghost use Rattle.loom_lang.specs.Places.{place_at};
@@ -378,12 +378,12 @@ impl FilterWalk {
         self.is_blocked = true;
     }
 
-    /// The thread goes over to a newer version, in which new filters stand behind those that stay. Where a statement or a frame has begun, the
-    /// locals are those of the top frame.
+    /// The thread goes over to a newer version, in which new filters stand behind those that stay. Where something is owed at the beginning of a
+    /// statement or a frame, the locals are those of the top frame.
     pub fn cross(&mut self, plans: &Plans, version: Version, locals: &[i64])
         requires at { (p : Source) × (z : Walk) × (IsAt p (plans_in plans.now) self.old z × HasFilters p plans.now version) }
         requires behind { HasNewBehind self.old.version.active version.active }
-        ensures at { (p : Source) (z : Walk) → HasFilters p plans.now version → HasLocalsAt p self.old.spot locals.now z.spot → IsAt p (plans_in plans.now) self.old z → IsAt p (plans_in plans.now) self.new (crossing p (plans_in plans.now) z (version ∷ [])) }
+        ensures at { (p : Source) (z : Walk) → HasFilters p plans.now version → (z.owed ≡ []) ⊎ HasLocalsAt p self.old.spot locals.now z.spot → IsAt p (plans_in plans.now) self.old z → IsAt p (plans_in plans.now) self.new (crossing p (plans_in plans.now) z (version ∷ [])) }
         ensures room { KeepsRoom self.old self.new }
     {
         let staying = count_staying(self.version.active(), &version);

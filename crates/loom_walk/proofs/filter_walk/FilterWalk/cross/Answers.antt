@@ -1,4 +1,4 @@
-use Rattle.std.proofs.Common.{ℕ, ◌-◌, ◌≡◌, true, List, length, refl, sym, ap, subst, ◌∙◌, arith}
+use Rattle.std.proofs.Common.{ℕ, ◌-◌, ◌≡◌, ◌⊎◌, inl, inr, true, List, [], length, refl, sym, ap, subst, ◌∙◌, arith}
 use Rattle.std.specs.Prelude.{◌++◌, take, drop}
 use Rattle.std.specs.List.{AllByRecursion, filter}
 use Rattle.std.proofs.lemmas.List.{length-append, length-drop}
@@ -102,7 +102,8 @@ returns-clause-at c p z filters locals h =
     let part : take (length c.active-2.result.now - c.count_staying-staying.result) (drop c.count_staying-staying.result c.active-2.result.now) ≡ new_filters c.self.inside.version.active c.args.version.active
     = rest_is c.active-2.result.now c.count_staying-staying.result ∙ (ap (drop c.count_staying-staying.result) c.active-2.ensures.is ∙ new_part c.self.inside.version.active c.args.version.active c.count_staying-staying.result behind count) in
     let old = subst (λ (w : FilterWalk). IsAt p (plans_in c.args.plans.now) w z) (sym c.self.view_is) h in
-    let own : HasLocalsAt p c.self.inside.spot c.args.locals.now z.spot = subst (λ (w : FilterWalk). HasLocalsAt p w.spot c.args.locals.now z.spot) (sym c.self.view_is) locals in
+    let own : (z.owed ≡ []) ⊎ HasLocalsAt p c.self.inside.spot c.args.locals.now z.spot
+    = subst (λ (w : FilterWalk). (z.owed ≡ []) ⊎ HasLocalsAt p w.spot c.args.locals.now z.spot) (sym c.self.view_is) locals in
     let among : (k : ℕ) → has (take (length c.active-2.result.now - c.count_staying-staying.result) (drop c.count_staying-staying.result c.active-2.result.now)) k ≡ true → has (new_filters c.self.inside.version.active c.args.version.active) k ≡ true
     = λ k m. subst (λ (js : List ℕ). has js k ≡ true) part m in
     let all : AreThere p c.args.plans.now (take (length c.active-2.result.now - c.count_staying-staying.result) (drop c.count_staying-staying.result c.active-2.result.now))
@@ -113,8 +114,13 @@ returns-clause-at c p z filters locals h =
     (c.go_over-2.ensures.notes (plans_in c.args.plans.now) z.frames old.regions) line
     (queue_across p (plans_in c.args.plans.now) z.spot c.self.inside.version.active c.args.version.active _ (queue c.self.inside.owed) (queue c.keep_filters.new.self) (queue c.append.new.self)
     c.new_owed-more.result c.self.inside.owed.line c.append.ensures.queue c.keep_filters.ensures.queue c.new_owed-more.ensures.grows part c.new_owed-more.ensures.nothing
-    (λ some. c.new_owed-more.ensures.queue p z.spot (holdings_of c.args.version.active z.held) some all old.spot own old.line held
+    (λ some. c.new_owed-more.ensures.queue p z.spot (holdings_of c.args.version.active z.held) some all old.spot (by_owed own old.owed some) old.line held
     (λ k m g. new_free c.self.inside.clauses z.held c.self.inside.version.active c.args.version.active c.self.invariant.rows.filters old.holdings k m (among k g))))
+  where
+    by_owed : (z.owed ≡ []) ⊎ HasLocalsAt p c.self.inside.spot c.args.locals.now z.spot → z.owed ≡ queue c.self.inside.owed → (queue c.self.inside.owed ≡ [] → ⊥)
+        → HasLocalsAt p c.self.inside.spot c.args.locals.now z.spot
+    by_owed (inl none) same some = absurd (some (sym same ∙ none))
+    by_owed (inr there) same some = there
 
 pub returns-clause-room : goal.returns-clause-room
 returns-clause-room c = room_kept c.args.self.now _ _ c.self.view_is refl (omega arith) c.go_over-2.ensures.few

@@ -1,12 +1,22 @@
-//! Runs loom on the command words, the files of the system and standard output, and says on standard error why a call failed.
+//! Runs loom on the command words, the files of the system and standard output, and says on standard error why a call failed, or what was refused.
 #![tactic(auto)]
 
 mod copy;
+mod count_fault;
+mod explanation;
+mod lines;
 mod misfit;
+mod name_fault;
 mod plain;
+mod reading;
+mod reason;
+mod refusal_notes;
 mod report;
+mod statement;
+mod token_fault;
 
 use crate::copy::CopyShelf;
+use crate::refusal_notes::{RefusalNotes, RefusalSink};
 use crate::report::{tell, tell_no_memory};
 use loom_io::adapters::{DirShelf, OutSink};
 use loom_top::alone::loom_alone;
@@ -38,6 +48,14 @@ fn words_of<R: Env + AllocGlobal>(rt: &R) -> Result<Vec<String>, NoMemory> {
     Ok(words)
 }
 
+// Whether the words, if they are a command, name a script or a filter.
+fn name_more(words: &[&str]) -> bool {
+    match words {
+        [_, _, word, ..] => *word != "--steps",
+        _ => false,
+    }
+}
+
 fn status_of<R: Files + Print + Eprint + Env + AllocGlobal>(rt: &R) -> Result<u8, NoMemory> {
     let texts = words_of(rt)?;
     let mut words = Vec::new(rt.alloc());
@@ -53,10 +71,14 @@ fn status_of<R: Files + Print + Eprint + Env + AllocGlobal>(rt: &R) -> Result<u8
         copy: None,
         reads: 0,
     };
-    let mut sink = OutSink {
-        rt,
-        faults: 0,
-        cause: None,
+    let mut sink = RefusalSink {
+        sink: OutSink {
+            rt,
+            faults: 0,
+            cause: None,
+        },
+        notes: RefusalNotes::new(rt.alloc()),
+        is_noting: name_more(&words),
     };
     let status = loom_alone(rt.alloc(), &words, &mut shelf, &mut sink);
     // Where standard error takes nothing, nothing can be said of it.

@@ -1,13 +1,22 @@
-//! What standard error says where a call failed. No contract speaks of it.
+//! What standard error says where a call failed, or something was refused. No contract speaks of it.
+ghost use Rattle.std.specs.Prelude.{◌≤◌, length};
+ghost use Rattle.loom_lang.specs.Limits.{file_limit};
 
 use crate::copy::CopyShelf;
+use crate::explanation::{Explanation, explanation_of};
+use crate::lines::{command_line, line_of};
 use crate::misfit::{Misfit, misfit_of};
-use crate::plain::Plain;
+use crate::plain::{Plain, PlainLine};
+use crate::reading::{Reading, reading_of};
+use crate::reason::reason_text;
+use crate::refusal_notes::{RefusalNote, RefusalSink};
+use crate::token_fault::TokenFault;
 use loom_io::adapters::{DirShelf, OutSink};
 use loom_lang::limits::FILE_LIMIT;
 use loom_lang::parse::{LangError, parse_program};
-use loom_lang::refusal::{Reason, Which};
+use loom_lang::refusal::LangRefusal;
 use loom_script::parse::{ScriptError, parse_script};
+use loom_tree::name::{Name, NoMemory};
 use std::alloc::Global;
 use std::env::FillError;
 use std::io;
@@ -16,6 +25,9 @@ use std::rt::Env;
 
 /// How many bytes the system takes as one word at most.
 const WORD_LIMIT: usize = 131_072;
+
+/// Why a file is no program where its end comes too early.
+const EARLY_END: &str = "the file ends before the program does: something is missing";
 
 /// The forms of commands.
 const FORMS: &str =
@@ -59,73 +71,53 @@ fn tell_misfit<R: Env + Eprint>(rt: &R, words: &[&str]) -> io::Result<()> {
     }
 }
 
-// The reason in words.
-fn reason_text(reason: Reason) -> &'static str {
-    match reason {
-        Reason::Syntax =>
-            "the grammar allows nothing like this here; something may be missing, here or before it; or a number, an expression or a nesting is beyond its limit (docs/LANGUAGE.md, Limits)",
-        Reason::SecondOnLine => "a second statement begins on the line",
-        Reason::UnknownName => "a name isn't known, or isn't of the kind that has to stand here",
-        Reason::NameTwice => "a name is declared a second time",
-        Reason::WrongCount => {
-            "a call has more or fewer arguments than its function parameters, or main has parameters"
-        }
-        Reason::NoMain => "there is no function main",
-        Reason::TooMany(which) => excess_text(which),
-    }
-}
-
-fn excess_text(which: Which) -> &'static str {
-    match which {
-        Which::Functions => "there are more than 64 functions",
-        Which::Params => "the function has more than 4 parameters",
-        Which::Locals => "the function has more than 32 locals",
-        Which::Names => "there are more than 64 words, arrays, mutexes and semaphores",
-        Which::Cells => "the words and arrays have more than 1024 cells",
-        Which::Statements => "there are more than 4096 statements",
-    }
-}
-
-// The line of that number, from 1, with its LF.
-fn line_of(file: &[u8], number: u32) -> &[u8] {
-    let mut rest = file;
-    for _ in 1..number {
-        match rest.iter().position(|b| *b == b'\n') {
-            Some(end) => rest = &rest[end + 1..],
-            None => return b"",
-        }
-    }
-    match rest.iter().position(|b| *b == b'\n') {
-        Some(end) => &rest[..end + 1],
-        None => rest,
-    }
-}
-
 // Says why a file is refused at this line, and the line.
 fn tell_line<R: Eprint>(
     rt: &R,
     name: Plain<'_>,
     file: &[u8],
     number: u32,
-    why: &str,
+    why: Explanation<'_>,
 ) -> io::Result<()> {
-    let line = Plain(line_of(file, number).trim_ascii());
+    let line = PlainLine(line_of(file, number).trim_ascii());
     eprintln!(rt; "loom: {name}: line {number}: {why}\n{number:>6} | {line}")
 }
 
-// Why the file is no program, and the line at which that shows. The same bytes have one refusal, which is the one that was written.
+// Why the file is no program, for this reason at this line: by what stands there, where memory doesn't run out.
+fn tell_program<R: Eprint>(
+    rt: &R,
+    alloc: Global,
+    name: Plain<'_>,
+    file: &[u8],
+    refusal: LangRefusal,
+) -> io::Result<()>
+    requires { length file.now ≤ file_limit }
+{
+    let number = refusal.line;
+    match reading_of(alloc, file) {
+        Ok(Reading::Items(items)) => {
+            let why = explanation_of(alloc, &items.0, refusal);
+            tell_line(rt, name, file, number, why)
+        }
+        Ok(Reading::Stop(Some(token))) => {
+            let why = Explanation::Token(TokenFault::new(file, token));
+            tell_line(rt, name, file, number, why)
+        }
+        Ok(Reading::Stop(None)) => tell_line(rt, name, file, number, Explanation::Text(EARLY_END)),
+        Err(NoMemory) => {
+            let why = Explanation::Text(reason_text(refusal.reason));
+            tell_line(rt, name, file, number, why)
+        }
+    }
+}
+
+// The same of the refusal that the bytes have: the same ones have one, which is that which was written.
 fn tell_refusal<R: Eprint>(rt: &R, alloc: Global, name: Plain<'_>, file: &[u8]) -> io::Result<()> {
     if file.len() > FILE_LIMIT {
         return Ok(());
     }
     match parse_program(alloc, file) {
-        Err(LangError::Refused(refusal)) => tell_line(
-            rt,
-            name,
-            file,
-            refusal.line,
-            reason_text(refusal.reason),
-        ),
+        Err(LangError::Refused(refusal)) => tell_program(rt, alloc, name, file, refusal),
         _ => Ok(()),
     }
 }
@@ -154,10 +146,41 @@ fn tell_no_script<R: Eprint>(
     match parse_script(alloc, file) {
         Err(ScriptError::Refused(refusal)) => {
             let why = script_reason(alloc, line_of(file, refusal.line));
-            tell_line(rt, name, file, refusal.line, why)
+            tell_line(rt, name, file, refusal.line, Explanation::Text(why))
         }
         _ => Ok(()),
     }
+}
+
+// Why a filter is refused, or a command of this script; of a command the line on which it stands.
+fn tell_note<R: Eprint>(
+    rt: &R,
+    name: Plain<'_>,
+    script: &[u8],
+    note: RefusalNote,
+) -> io::Result<()> {
+    if note.command == 0 {
+        return eprintln!(rt; "loom: {note}");
+    }
+    match command_line(script, note.command) {
+        Some(number) => tell_line(rt, name, script, number, Explanation::Command(note)),
+        None => Ok(()),
+    }
+}
+
+// The same of all that are refused. The file is that of the last read.
+fn tell_notes<R: Eprint>(
+    rt: &R,
+    name: Plain<'_>,
+    file: &Option<Name>,
+    notes: &[RefusalNote],
+) -> io::Result<()> {
+    if let Some(file) = file {
+        for note in notes {
+            tell_note(rt, name, file.bytes(), *note)?;
+        }
+    }
+    Ok(())
 }
 
 // Why the output didn't take the text. Where nobody reads it any more there is nobody to tell.
@@ -182,7 +205,7 @@ pub fn tell<R: Env + Eprint, F, P>(
     words: &[&str],
     status: u8,
     shelf: &FileShelf<'_, F>,
-    sink: &OutSink<'_, P>,
+    sink: &RefusalSink<OutSink<'_, P>>,
 ) -> io::Result<()> {
     // the file of the last read: the program is the second word and read first, the script is the third one
     let name = match words.get(shelf.reads) {
@@ -190,6 +213,7 @@ pub fn tell<R: Env + Eprint, F, P>(
         None => Plain(b""),
     };
     match status {
+        0 | 7 | 8 => tell_notes(rt, name, &shelf.copy, sink.notes.notes()),
         1 => {
             tell_misfit(rt, words)?;
             eprintln!(rt; "{FORMS}")
@@ -206,31 +230,9 @@ pub fn tell<R: Env + Eprint, F, P>(
             Some(error) => eprintln!(rt; "loom: {name}: {error}"),
             None => Ok(()),
         },
-        5 => tell_write_fault(rt, sink.cause),
+        5 => tell_write_fault(rt, sink.sink.cause),
         6 => tell_no_memory(rt),
         10 => eprintln!(rt; "loom: {name}: a program or a script has at most {FILE_LIMIT} bytes"),
         _ => Ok(()),
-    }
-}
-
-#[cfg(test)]
-mod tests {
-    use super::*;
-    use std::test::Fail;
-
-    #[test]
-    fn finds_a_line(rt: HostRuntime) -> Result<(), Fail> {
-        let file = b"shared x;\n  x = 1;\t\n\nlast";
-        let rows: [(u32, &[u8]); 5] = [
-            (1, b"shared x;\n"),
-            (2, b"  x = 1;\t\n"),
-            (3, b"\n"),
-            (4, b"last"),
-            (5, b""),
-        ];
-        for (number, line) in &rows {
-            assert_eq!(rt; line_of(file, *number), *line, "at line {number}");
-        }
-        Ok(())
     }
 }

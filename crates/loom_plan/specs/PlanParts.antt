@@ -1,9 +1,9 @@
 -- What the parts of a filter in a program have to do with each other.
-use Rattle.std.specs.Prelude.{ℕ, ◌≡◌, ◌<◌, ◌≤◌, Bool, List, [], ◌∷◌, length, flat_map, map}
+use Rattle.std.specs.Prelude.{ℕ, suc, ◌≡◌, ◌<◌, ◌≤◌, Bool, true, false, List, [], ◌∷◌, length, flat_map, map, Option, Some, None, if◌then◌else◌}
 use Rattle.loom_tree.specs.Tree.{Source}
 use Rattle.loom_lang.specs.Places.{places}
 use Rattle.loom_command.specs.FilterFault.{most_clauses, most_events}
-use Rattle.loom_law.specs.Filter.{Range, Ruling, Plan, has, ranges_of, clauses, waits, posts}
+use Rattle.loom_law.specs.Filter.{Range, Ruling, exclusive, Plan, has, ranges_of, clauses, waits, posts}
 use Rattle.loom_plan.specs.declared.sets.EventSet.{EventSet}
 use Rattle.loom_plan.specs.declared.plan.RegionRow.{RegionRow}
 use Rattle.loom_plan.specs.declared.plan.WatchRow.{WatchRow}
@@ -20,6 +20,16 @@ clause_regions c = of_clause c.0 (ranges_of c.1)
 
 abbrev pub plan_regions : Plan → List (ℕ × Range)
 plan_regions f = flat_map clause_regions (clauses f)
+
+-- An exclusion says of its regions that one thread at most is inside of them.
+abbrev pub is_exclusion : Ruling → Bool
+is_exclusion (exclusive xs) = true
+is_exclusion _ = false
+
+-- the number of the first of these clauses that is no exclusion; the first one has the number n
+abbrev pub first_other : ℕ → List Ruling → Option ℕ
+first_other n [] = None
+first_other n (r ∷ rs) = if is_exclusion r then first_other (suc n) rs else Some n
 
 -- No more than a set of events, of clauses or of regions can have.
 pub record IsSmallPlan (f : Plan) : Type 0 where

@@ -12,13 +12,15 @@ ghost use Rattle.loom_command.specs.FilterFault.{most_clauses, most_events};
 ghost use Rattle.loom_plan.specs.Sets.{event_numbers, clause_numbers, region_numbers};
 ghost use Rattle.loom_plan.specs.PlanView.{site_of, counted_of, watches_of, regions_in, plan_of_rows};
 ghost use Rattle.loom_plan.specs.PlaceEvents.{site_at, watched, names_at, line_of_site};
-ghost use Rattle.loom_plan.specs.PlanParts.{IsSmallPlan, IsFitting, plan_regions};
+ghost use Rattle.loom_plan.specs.PlanParts.{IsSmallPlan, IsFitting, plan_regions, first_other};
 ghost use Rattle.loom_plan.specs.ElementNumbers.{numbers_where};
 ghost use Rattle.loom_plan.specs.Operations.{HoldsThese, IsInsideThese, queue_before, queue_behind, queue_leaves, insides, is_entered, is_staying};
 
 use crate::operations::{Before, Behind};
 use crate::plan::{EventSite, EventWatch, OrderEvent, RegionRow, Rule, WatchRow};
-use crate::rules::{before_in, clauses_of, entered, enters, is_unilateral, leaves, staying};
+use crate::rules::{
+    before_in, clauses_of, entered, enters, first_other, is_unilateral, leaves, staying,
+};
 use crate::sets::{ClauseSet, EventSet, RegionSet};
 use crate::value::matching_in;
 use loom_lang::program::Program;
@@ -161,6 +163,13 @@ impl Compiled {
         ensures { result ≡ is_alone self.now.plan c }
     {
         is_unilateral(&self.rules[(c - 1) as usize])
+    }
+
+    /// The first clause that is no exclusion: an order, or one under which no other thread goes on.
+    pub fn first_other(&self) -> Option<u8>
+        ensures { result ≡ first_other 1 self.now.plan.rulings }
+    {
+        first_other(&self.rules)
     }
 
     /// The events that begin at a place, below the program's number of places: at the in place of their statement, or the entry place of their

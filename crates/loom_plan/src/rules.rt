@@ -8,7 +8,7 @@ ghost use Rattle.loom_plan.specs.Sets.{event_numbers, clause_numbers, region_num
 ghost use Rattle.loom_plan.specs.ElementNumbers.{numbers_where};
 ghost use Rattle.loom_plan.specs.PlanView.{range_of, span_ranges, ruling_of, rulings_of, order_of, counted_of, regions_in};
 ghost use Rattle.loom_plan.specs.Operations.{is_to_enter, is_to_leave, is_entered, is_staying, is_region_among};
-ghost use Rattle.loom_plan.specs.PlanParts.{AreOfClauses};
+ghost use Rattle.loom_plan.specs.PlanParts.{AreOfClauses, is_exclusion, first_other};
 
 use crate::plan::{OrderEvent, RegionRow, RegionSpan, Rule};
 use crate::sets::{ClauseSet, EventSet, RegionSet};
@@ -64,6 +64,31 @@ pub fn is_unilateral(rule: &Rule) -> bool
         Rule::Exclusive(_) => false,
         Rule::Unilateral(_) => true,
     }
+}
+
+fn is_exclusion(rule: &Rule) -> bool
+    ensures { result ≡ is_exclusion (ruling_of rule.now) }
+{
+    match rule {
+        Rule::Order(_) => false,
+        Rule::Exclusive(_) => true,
+        Rule::Unilateral(_) => false,
+    }
+}
+
+/// The number of the first clause, from 1, that is no exclusion.
+pub fn first_other(rules: &[Rule]) -> Option<u8>
+    requires { length rules.now ≤ most_clauses }
+    ensures { result ≡ first_other 1 (rulings_of rules.now) }
+{
+    let mut n = 0;
+    'clauses: for rule in rules {
+        n += 1;
+        if !is_exclusion(rule) {
+            return Some(n);
+        }
+    }
+    None
 }
 
 fn is_to_enter(rule: &Rule, c: u8, events: EventSet, held: ClauseSet) -> bool

@@ -9,8 +9,6 @@ use std::mem::size_of;
 // The most events of an entry in 24 bytes.
 const FEW_EVENTS: usize = 16;
 
-const _: () = prove!(size_of::<ShortEntry>() == 24);
-
 /// An entry in 24 bytes. Its fields are those of the entry, in their order; of the events there are a number and cells, of which so many are in use. An entry
 /// that doesn't fit stands in a list beside, and here is how many stand before it there.
 #[derive(Clone, Copy, Debug, Drop)]
@@ -63,6 +61,7 @@ pub(crate) fn short_of(e: &Entry) -> Option<ShortEntry>
     ensures entry { IfSome result (λ s. StandsFor s e.now) }
     ensures alone { IfSome result (λ s. StandsAlone s) }
 {
+    prove!(size_of::<ShortEntry>() == 24);
     match e {
         Entry::Begin { thread, line } => Some(ShortEntry::Begin(*thread, *line)),
         Entry::End { thread, line } => Some(ShortEntry::End(*thread, *line)),

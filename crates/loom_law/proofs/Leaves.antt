@@ -30,7 +30,7 @@ and_both : (a b : Bool) → a ≡ true → b ≡ true → (a && b) ≡ true
 and_both true b h g = g
 and_both false b h g = cc
 
-eq_same : (n : ℕ) → (n == n) ≡ true
+pub eq_same : (n : ℕ) → (n == n) ≡ true
 eq_same n = grind arith
 
 -- What is owed is held where it is left
@@ -90,11 +90,11 @@ back_left l (o ∷ os) hs h = (tt, h)
 
 -- A clause has its number once
 
-abbrev Away : ℕ → List (ℕ × Ruling) → Type 0
+abbrev pub Away : ℕ → List (ℕ × Ruling) → Type 0
 Away n [] = Unit {0}
 Away n (d ∷ cs) = ((d.0 == n) ≡ false) × Away n cs
 
-abbrev OneEach : List (ℕ × Ruling) → Type 0
+abbrev pub OneEach : List (ℕ × Ruling) → Type 0
 OneEach [] = Unit {0}
 OneEach (c ∷ cs) = Away c.0 cs × OneEach cs
 
@@ -102,7 +102,7 @@ numbered_away : (n m : ℕ) (rs : List Ruling) → n < m → Away n (numbered_fr
 numbered_away n m [] h = tt
 numbered_away n m (r ∷ rs) h = (ne_eqb m n (λ q. omega arith), numbered_away n (suc m) rs (omega arith))
 
-numbered_once : (n : ℕ) (rs : List Ruling) → OneEach (numbered_from n rs)
+pub numbered_once : (n : ℕ) (rs : List Ruling) → OneEach (numbered_from n rs)
 numbered_once n [] = tt
 numbered_once n (r ∷ rs) = (numbered_away n (suc n) rs (omega arith), numbered_once (suc n) rs)
 
@@ -115,7 +115,7 @@ all_still : (gs hs : List (ℕ × ℕ)) (k : ℕ) (cs : List (ℕ × Ruling)) �
 all_still gs hs k [] h = tt
 all_still gs hs k (c ∷ cs) h = (h c.0, all_still gs hs k cs h)
 
-holds_other : (k n : ℕ) (hs : List (ℕ × ℕ)) (j m : ℕ) → ((j == k) && (m == n)) ≡ false → holds hs j m ≡ true → holds (without_clause k n hs) j m ≡ true
+pub holds_other : (k n : ℕ) (hs : List (ℕ × ℕ)) (j m : ℕ) → ((j == k) && (m == n)) ≡ false → holds hs j m ≡ true → holds (without_clause k n hs) j m ≡ true
 holds_other k n hs j m other h = holds_without k n hs j m ∙ and_both (not ((j == k) && (m == n))) (holds hs j m) (ap not other) h
 
 still_less : (gs hs : List (ℕ × ℕ)) (k n : ℕ) (cs : List (ℕ × Ruling)) → Away n cs → Still gs hs k cs → Still gs (without_clause k n hs) k cs
@@ -313,7 +313,7 @@ append_once (j ∷ ks) k o h = (
     or_second true b q = cc
     or_second false b q = q
 
-filter_once : (q : ℕ → Bool) (ks : List ℕ) → AreOnce ks → AreOnce (filter q ks)
+pub filter_once : (q : ℕ → Bool) (ks : List ℕ) → AreOnce ks → AreOnce (filter q ks)
 filter_once q [] o = tt
 filter_once q (k ∷ ks) o =
     pick AreOnce (q k) (k ∷ filter q ks) (filter q ks)
@@ -333,7 +333,7 @@ once_behind cs c (e.Cut k) h s o = o
 once_behind cs c (e.Unreached k) h s o = o
 once_behind cs c _ h s o = o
 
-taken_once : (cs : List Command) (t : ℕ) (c : Control) (es : List Entry) → AreSaid cs c es → IsSound c → AreOnce (Version.active c.version) → HaveOnce (versions_from cs t c es)
+pub taken_once : (cs : List Command) (t : ℕ) (c : Control) (es : List Entry) → AreSaid cs c es → IsSound c → AreOnce (Version.active c.version) → HaveOnce (versions_from cs t c es)
 taken_once cs t c [] h s o = tt
 taken_once cs t c (x ∷ es) h s o =
     let ih : HaveOnce (versions_from cs t (after_entry cs c x) es) = taken_once cs t (after_entry cs c x) es h.1 (sound_behind cs c x h.0 s) (once_behind cs c x h.0 s o) in

@@ -1,11 +1,9 @@
-//! Tests of `loom_flow`, `loom_strand`, `loom_world` and `loom_crew`, by their public calls.
+//! Tests of `loom_flow`, `loom_world` and `loom_crew`, by their public calls.
 #![tactic(auto)]
 
 #[cfg(test)]
 mod crew;
 #[cfg(test)]
 mod flow;
-#[cfg(test)]
-mod strand;
 #[cfg(test)]
 mod world;

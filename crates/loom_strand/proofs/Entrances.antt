@@ -1,7 +1,7 @@
 -- Functions and where they begin.
-use Rattle.std.proofs.Common.{ℕ, suc, zero, ◌+◌, ◌≡◌, ◌<◌, List, [], ◌∷◌, Option, Some, None, refl, sym, ap, subst, ◌∙◌, slice_get, length}
+use Rattle.std.proofs.Common.{ℕ, suc, zero, ◌+◌, ◌≡◌, ◌<◌, List, [], ◌∷◌, Option, Some, None, refl, sym, ap, subst, ◌∙◌, slice_get, get_or, length}
 use Rattle.std.specs.Prelude.{option_map}
-use Rattle.std.proofs.lemmas.Option.{slice_get_within}
+use Rattle.std.proofs.lemmas.Option.{slice_get_within, slice_get-get_or}
 use Rattle.loom_tree.specs.Tree.{Function, Source}
 use Rattle.loom_lang.specs.Rules.{locals_of}
 use Rattle.loom_lang.specs.Places.{entry, places, place_at, line_of_place, line_of_function}
@@ -32,6 +32,13 @@ as_many p at place (f ∷ fs) = ap suc (as_many p (suc (at + size p (locals_of f
 
 pub entrances_within : (c : Flow) (n : ℕ) → IsLowered c → n < length c.program.funcs → n < length c.entrances
 entrances_within c n l h = subst (λ m. n < m) (sym (ap (λ (z : Flow). length z.entrances) l.is ∙ as_many c.program 0 1 c.program.funcs)) h
+
+pub as_many_entrances : (c : Flow) → IsLowered c → length c.entrances ≡ length c.program.funcs
+as_many_entrances c l = ap (λ (z : Flow). length z.entrances) l.is ∙ as_many c.program 0 1 c.program.funcs
+
+-- the one that stands at a function's number in the list that was handed out
+pub entrance_at : (c : Flow) (es : List Entrance) (n : ℕ) (d : Entrance) → IsLowered c → es ≡ c.entrances → n < length c.program.funcs → slice_get c.entrances n ≡ Some (get_or es n d)
+entrance_at c es n d l is h = ap (λ xs. slice_get xs n) (sym is) ∙ slice_get-get_or es n d (subst (λ xs. n < length xs) (sym is) (entrances_within c n l h))
 
 -- Its place has the line of the function.
 

@@ -4,8 +4,10 @@ pub mod PositionRequest
 pub mod StepResult
 pub mod Operator
 pub mod Reply
-pub mod PlainWalk
 pub mod Life
+pub mod Way
+pub mod Halt
+pub mod InPart
 pub mod Strand
 pub mod StrandInvariant
 pub mod PrivateRun

@@ -27,15 +27,14 @@ abbrev pub place_here : Flow → Position → ℕ
 place_here c (before z) = place_of_instr (slice_get c.code z.at)
 place_here c _ = 0
 
--- the mark of an item: of a back edge and of a frame that begins with the number of the place that is passed, of a frame that ends with that of
--- its function
+-- the mark of an item: with the numbers of its places, and of its function
 abbrev pub mark_of : Flow → ℕ → Option Item → Option Mark
 mark_of c place None = None
 mark_of c place (Some (made l a)) = None
-mark_of c place (Some (begins l env)) = Some m.Begins
-mark_of c place (Some (done l)) = Some m.Done
+mark_of c place (Some (begins l env)) = Some (m.Begins place)
+mark_of c place (Some (done l)) = Some (m.Done l place)
 mark_of c place (Some (edge l)) = Some (m.Edge place)
-mark_of c place (Some (enter f env)) = Some (m.Enter (place_of_entrance (slice_get c.entrances f)))
+mark_of c place (Some (enter f env)) = Some (m.Enter f (place_of_entrance (slice_get c.entrances f)))
 mark_of c place (Some (out f)) = Some (m.Out f)
 
 -- From one machine to the next by an instruction of this place: it goes on, or it is as it was.
@@ -49,3 +48,14 @@ StepsTo c place old new result nothing = ⊥
 -- The machine did one step.
 abbrev pub Advances : Flow → Machine → Machine → StepResult → Type 0
 Advances c old new result = StepsTo c (place_here c (position old)) old new result (progress c (position old))
+
+-- the entry or back-edge place that a mark passes, if any
+abbrev pub place_passed : Option Mark → Option ℕ
+place_passed (Some (m.Edge place)) = Some place
+place_passed (Some (m.Enter f place)) = Some place
+place_passed _ = None
+
+-- and the one that comes with the next step of an instruction of this place
+abbrev pub place_coming : Flow → ℕ → Progress → Option ℕ
+place_coming c place (goes mark z) = place_passed (mark_of c place mark)
+place_coming c place _ = None

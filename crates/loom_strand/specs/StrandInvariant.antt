@@ -1,31 +1,36 @@
 -- What a thread keeps between its calls.
-use Rattle.std.specs.Prelude.{ℕ, ◌≡◌, ◌≤◌, ◌<◌, ◌⊎◌, true, false, List, [], ◌∷◌, ◌++◌, length, ℤ, Option, Some, None, slice_get}
+use Rattle.std.specs.Prelude.{ℕ, suc, ◌≡◌, ◌≤◌, ◌<◌, ◌⊎◌, true, false, List, [], ◌∷◌, length, Option, Some, None}
 use Rattle.loom_tree.specs.Tree.{Source}
 use Rattle.loom_lang.specs.Rules.{KeepsRules}
-use Rattle.loom_lang.specs.Places.{line_of_function}
-use Rattle.loom_lang.specs.Trace.{Item, Outcome, Finished, Thread, IsTrace, thread_end}
+use Rattle.loom_lang.specs.Places.{Place, place_at, line_of_place}
 use Rattle.loom_flow.specs.Flow.{Flow}
 use Rattle.loom_flow.specs.State.{Frame, State}
 use Rattle.loom_flow.specs.Position.{Position, before, leaves, over}
-use Rattle.loom_flow.specs.Progress.{progress}
-use Rattle.loom_flow.specs.FlatTrace.{runs, IsFlatTrace}
+use Rattle.loom_flow.specs.Progress.{Progress}
 use Rattle.loom_flow.specs.FlatCode.{lowered}
 use Rattle.loom_flow.specs.Depth.{depth_before, most_values}
-use Rattle.loom_trace.specs.declared.entry.Entry.{Entry}
+use Rattle.loom_flow.specs.Laws.{IsInFunction}
 use Rattle.loom_trace.specs.declared.request.Request.{Request}
 use Rattle.loom_trace.specs.declared.request.Request.TheVariants as r
-use Rattle.loom_event.specs.Answer.{IsBlockedFor, IsFunctionWith}
-use Rattle.loom_law.specs.Walk.{tick_after, tick, PartStep, items, Queue}
+use Rattle.loom_event.specs.Answer.{IsFunctionWith}
+use Rattle.loom_law.specs.Walk.{Version, Operation, wait, enters, at, past, post, leave, back, tick, PartStep, Walk, request_place, Owes}
+use Rattle.loom_law.specs.ThreadPart.{walk_of, IsPart}
 use Rattle.loom_law.specs.TurnLaws.{ends_blocked}
+use Rattle.loom_version.specs.Version.{version_limit}
+use Rattle.loom_walk.specs.Owed.{queue}
+use Rattle.loom_walk.specs.FilterWalk.{first_walk}
 use Rattle.loom_strand.specs.declared.stage.Birth.{Birth}
 use Rattle.loom_strand.specs.declared.stage.Stage.{Stage}
 use Rattle.loom_strand.specs.declared.stage.Stage.TheVariants as stage
 use Rattle.loom_strand.specs.declared.machine.Phase.TheVariants as phase
 use Rattle.loom_strand.specs.Machine.{Machine, HasCall, position, blank, frames_below}
 use Rattle.loom_strand.specs.PositionRequest.{request_at}
-use Rattle.loom_strand.specs.PlainWalk.{IsPlainWalk}
-use Rattle.loom_strand.specs.Life.{has_none, has_ended}
-use Rattle.loom_strand.specs.Strand.{Strand}
+use Rattle.loom_strand.specs.Life.{has_none, has_ended, awaits_end, asks_cross, IsLastBlockedAt}
+use Rattle.loom_strand.specs.Way.{Look, looks_for_grant, IsJoining, end_line, next_step, IsPlaceAhead}
+use Rattle.loom_strand.specs.declared.execution.Execution.{Execution}
+use Rattle.loom_strand.specs.Halt.{IsHalting}
+use Rattle.loom_strand.specs.InPart.{IsInPart}
+use Rattle.loom_strand.specs.Strand.{Strand, own_of, plans, CanTake, IsOutrun, IsWholePart}
 
 -- The machine
 
@@ -59,36 +64,50 @@ IsSoundPosition c (before z) = IsBefore c z
 IsSoundPosition c (leaves z v) = IsLeaving c z
 IsSoundPosition c over = Unit {0}
 
+-- Each frame is in the code of its own function.
+
+abbrev pub AllInOwn : Flow → List Frame → Type 0
+AllInOwn c [] = Unit {0}
+AllInOwn c (f ∷ fs) = ((call : HasCall c.sites f.site) → IsInFunction c f.func call.at) × AllInOwn c fs
+
+abbrev pub IsInOwn : Flow → Position → Type 0
+IsInOwn c (before z) = IsInFunction c z.func z.at × AllInOwn c z.below
+IsInOwn c (leaves z v) = (z.func < length c.entrances) × AllInOwn c z.below
+IsInOwn c over = Unit {0}
+
 -- There is room for as many values as wait at most before an instruction, and for as many frames as there may be.
 pub record HasRoom (c : Flow) (m : Machine) : Type 0 where
   pub values : m.most_values ≡ most_values c
   pub frames : m.most_frames ≡ frames_below
 
--- Items and entries
-
--- What the flat code may give from a position on goes on these items.
-abbrev pub GoesOnFrom : Flow → Thread → ℕ → List ℤ → List Item → Position → Type 0
-GoesOnFrom c t f vs so_far z = (es : List Item) (q : Outcome) (n : ℕ) → runs c t n z es q → IsFlatTrace c f vs (so_far ++ es) q
-
-abbrev pub end_line : Source → ℕ → ℕ
-end_line p f = line_of_function (slice_get p.funcs f)
-
-abbrev pub thread_with : Source → ℕ → Thread
-thread_with p f = record { program = p; stopped = thread_end (end_line p f) }
-
 -- What is asked for
 
--- nothing yet: nothing is owed, and no place more was passed than goes without a tick
-abbrev pub AsksNothing : Option Request → Queue → ℕ → Type 0
-AsksNothing want os n = (want ≡ None) × (os ≡ []) × (n < tick_after)
+-- the request for an operation on this line, if a thread asks for it where it owes it
+abbrev pub operation_request : ℕ → Operation → Option Request
+operation_request l (wait k n) = Some (r.Wait l k n)
+operation_request l (enters k c) = Some (r.Enter l k c)
+operation_request l (at k ns) = Some (r.At l k ns)
+operation_request l (past k ns) = Some (r.Past l k ns)
+operation_request l (post k n) = Some (r.Post l k n)
+operation_request l (leave k c) = Some (r.Leave l k c)
+operation_request l back = Some (r.Back l)
+operation_request l (tick x) = Some (r.Tick l x)
+operation_request l _ = None
 
--- the tick that is owed
-abbrev pub AsksTick : Option Request → Queue → Type 0
-AsksTick want os = (line : ℕ) × (place : ℕ) × (want ≡ Some (r.Tick line place)) × (os ≡ (line, tick place) ∷ [])
+-- What comes next, where nothing is owed; what is owed first; or a newer version, directly before what comes next or what is owed.
+pub data IsAsked (p : Source) (z : Walk) (w : Progress) (line k : ℕ) (newest : Version) (q : Request) : Type 0 where
+  asks_act : z.owed ≡ [] → request_at line w ≡ Some q → place_at p k ≡ Some (request_place z) → IsAsked p z w line k newest q
+  asks_owed : (l : ℕ) (o : Operation) → Owes z.owed l o → operation_request l o ≡ Some q → IsAsked p z w line k newest q
+  asks_version : (x : Place) → IsPlaceAhead z.owed z w x → place_at p k ≡ Some x → q ≡ r.Cross (line_of_place p x) k newest.number (length z.passed) → IsAsked p z w line k newest q
 
--- what comes of the position
-abbrev pub AsksHere : Flow → ℕ → Position → Option Request → Queue → Type 0
-AsksHere c line z want os = (q : Request) × (want ≡ Some q) × (request_at line (progress c z) ≡ Some q) × (os ≡ [])
+abbrev pub AsksIfAny : Source → Walk → Progress → ℕ → ℕ → Version → Option Request → Type 0
+AsksIfAny p z w line k newest None = Unit {0}
+AsksIfAny p z w line k newest (Some q) = IsAsked p z w line k newest q
+
+-- What is asked for was asked for with a version that may be taken.
+abbrev pub MayTake : Strand → Option Request → Type 0
+MayTake s None = Unit {0}
+MayTake s (Some q) = CanTake s s.newest
 
 -- Stages
 
@@ -96,60 +115,91 @@ AsksHere c line z want os = (q : Request) × (want ≡ Some q) × (request_at li
 abbrev pub AsksBegin : ℕ → Option Request → Type 0
 AsksBegin line want = (want ≡ None) ⊎ (want ≡ Some (r.Begin line))
 
-pub record WaitingInvariant (p : Source) (b : Birth) (es : List Entry) (want : Option Request) : Type 0 where
-  pub none : es ≡ []
-  pub function : IsFunctionWith p b.func b.args
-  pub asks : AsksBegin (end_line p b.func) want
+pub record WaitingInvariant (s : Strand) (b : Birth) : Type 0 where
+  pub none : s.entries ≡ []
+  pub versions : s.versions ≡ []
+  pub function : IsFunctionWith s.program b.func b.args
+  pub asks : AsksBegin (end_line s.program b.func) s.want
+  pub place : s.execution.place ≡ 0
 
-pub record RunningInvariant (p : Source) (t : ℕ) (b : Birth) (es : List Entry) (want : Option Request) (n : ℕ) (z : Position) : Type 0 where
-  pub function : IsFunctionWith p b.func b.args
+-- how many versions a thread can have taken, where this is the last one of them: the first of these is the n-th
+abbrev pub HaveNumbersFrom : ℕ → List Version → Type 0
+HaveNumbersFrom n [] = Unit {0}
+HaveNumbersFrom n (v ∷ []) = n ≤ suc v.number
+HaveNumbersFrom n (v ∷ u ∷ us) = HaveNumbersFrom (suc n) (u ∷ us)
+
+abbrev pub HaveNumbers : List Version → Type 0
+HaveNumbers vs = HaveNumbersFrom 1 vs
+
+-- It asks for a newer version exactly where there is one.
+abbrev pub CrossesIfAny : List Version → Version → Option Request → Type 0
+CrossesIfAny vs v None = Unit {0}
+CrossesIfAny vs v (Some q) = (asks_cross q ≡ true → IsOutrun vs v) × (IsOutrun vs v → asks_cross q ≡ true)
+
+-- A thread that was told that its request is disabled stands at the place of the request, can't go on, and asks for that.
+pub record IsWaiting (s : Strand) (b : Birth) (steps : List PartStep) : Type 0 where
+  pub place : place_at s.program s.execution.place ≡ Some (request_place (walk_of s.program (plans s) (own_of s b) steps))
+  pub halts : IsHalting (lowered s.program) s.execution
+  pub asks : (k : ℕ) (v : Version) (q : Request)
+      → IsAsked s.program (walk_of s.program (plans s) (own_of s b) steps) (next_step (lowered s.program) b s.execution.stage s.execution.machine) (end_line s.program b.func) k v q
+      → asks_cross q ≡ false → IsLastBlockedAt s.thread q s.entries
+
+pub record LivingInvariant (s : Strand) (b : Birth) : Type 0 where
+  pub function : IsFunctionWith s.program b.func b.args
+  pub look : Look
   pub steps : List PartStep
-  pub owed : Queue
-  pub walk : IsPlainWalk p t steps es owed n
-  pub goes : GoesOnFrom (lowered p) (thread_with p b.func) b.func b.args (items steps) z
-  pub sound : IsSoundPosition (lowered p) z
-  pub asks : AsksNothing want owed n ⊎ (AsksTick want owed ⊎ AsksHere (lowered p) (end_line p b.func) z want owed)
-  pub begun : has_none es ≡ false
-  pub lives : has_ended es ≡ false
-  pub free : ends_blocked es ≡ false
+  pub there : IsInPart (lowered s.program) s.filters b (own_of s b) s.execution look steps
+  pub joins : look ≡ looks_for_grant → (awaits_end s.entries ≡ true) × IsJoining (next_step (lowered s.program) b s.execution.stage s.execution.machine)
+  pub part : IsPart s.program (plans s) (own_of s b)
+  pub asks : AsksIfAny s.program (walk_of s.program (plans s) (own_of s b) steps) (next_step (lowered s.program) b s.execution.stage s.execution.machine) (end_line s.program b.func)
+      s.execution.place s.newest s.want
+  pub crosses : CrossesIfAny s.versions s.newest s.want
+  pub blocked : s.execution.walk.is_blocked ≡ ends_blocked s.entries
+  pub waits : ends_blocked s.entries ≡ true → IsWaiting s b steps
+  -- its place is one of the program
+  pub within : s.execution.place < length (Flow.sites (lowered s.program))
+  pub begun : has_none s.entries ≡ false
+  pub lives : has_ended s.entries ≡ false
+  pub taken : HaveNumbers s.versions
+  pub events : length (s.execution.walk.events) ≤ length s.entries
+  pub regions : length (s.execution.walk.regions) ≤ length s.entries
 
--- Its last entry tells that its request is disabled: it asks for the same again. But for that entry it runs.
-pub record AsksAgain (p : Source) (t : ℕ) (b : Birth) (es : List Entry) (want : Option Request) (n : ℕ) (z : Position) : Type 0 where
-  pub front : List Entry
-  pub request : Request
-  pub count : ℕ
-  pub runs : RunningInvariant p t b front (Some request) count z
-  pub last : Entry
-  pub blocked : IsBlockedFor t request last
-  pub entries : es ≡ front ++ last ∷ []
-  pub asks : want ≡ Some request
-  pub passed : n ≡ 0
-
-pub record EndInvariant (p : Source) (t : ℕ) (b : Birth) (es : List Entry) (want : Option Request) : Type 0 where
-  pub steps : List PartStep
-  pub owed : Queue
-  pub passed : ℕ
-  pub walk : IsPlainWalk p t steps es owed passed
-  pub whole : IsTrace p b.func b.args (items steps) Finished
-  pub ended : has_ended es ≡ true
-  pub asks : want ≡ None
+pub record EndInvariant (s : Strand) (b : Birth) : Type 0 where
+  pub function : IsFunctionWith s.program b.func b.args
+  pub whole : IsWholePart s.program (plans s) (own_of s b)
+  pub ended : has_ended s.entries ≡ true
+  pub asks : s.want ≡ None
 
 abbrev pub StageInvariant : Stage → Strand → Option Birth → Type 0
-StageInvariant stage.Waits s None = (s.entries ≡ []) × (s.want ≡ None)
-StageInvariant stage.Waits s (Some b) = WaitingInvariant s.program b s.entries s.want
-StageInvariant stage.Runs s (Some b) =
-    RunningInvariant s.program s.thread b s.entries s.want s.execution.passed (position s.execution.machine)
-    ⊎ AsksAgain s.program s.thread b s.entries s.want s.execution.passed (position s.execution.machine)
-StageInvariant stage.Over s (Some b) = EndInvariant s.program s.thread b s.entries s.want
+StageInvariant stage.Waits s None = (s.entries ≡ []) × ((s.versions ≡ []) × ((s.want ≡ None) × (s.execution.place ≡ 0)))
+StageInvariant stage.Waits s (Some b) = WaitingInvariant s b
+StageInvariant stage.Enters s (Some b) = LivingInvariant s b
+StageInvariant stage.Runs s (Some b) = LivingInvariant s b
+StageInvariant stage.Over s (Some b) = EndInvariant s b
 StageInvariant _ s None = ⊥
 
--- The machine of a thread that hasn't begun is as it was made.
-abbrev pub IsBlank : Stage → Machine → Type 0
-IsBlank stage.Waits m = (m.state ≡ blank) × (m.phase ≡ phase.Before)
-IsBlank _ m = Unit {0}
+-- The machine of a thread whose first frame hasn't begun is as it was made, and so is what filters make a thread do that hasn't begun.
+abbrev pub IsBlank : Stage → Execution → Type 0
+IsBlank stage.Waits e = ((e.machine.state ≡ blank) × (e.machine.phase ≡ phase.Before)) × (e.walk ≡ first_walk e.walk.room)
+IsBlank stage.Enters e = ((e.machine.state ≡ blank) × (e.machine.phase ≡ phase.Before)) × (queue e.walk.owed ≡ [])
+IsBlank _ e = Unit {0}
+
+-- Where its frames run the machine is at a position of the code.
+abbrev pub IsSound : Flow → Stage → Machine → Type 0
+IsSound c stage.Runs m = IsSoundPosition c (position m) × IsInOwn c (position m)
+IsSound c _ m = Unit {0}
 
 pub record StrandInvariant (s : Strand) : Type 0 where
   pub lawful : KeepsRules s.program
   pub room : HasRoom (lowered s.program) s.execution.machine
-  pub blank : IsBlank s.execution.stage s.execution.machine
+  pub notes : s.execution.walk.room ≡ s.limit
+  pub newest : s.newest.number ≤ version_limit
+  pub blank : IsBlank s.execution.stage s.execution
+  pub sound : IsSound (lowered s.program) s.execution.stage s.execution.machine
   pub stage : StageInvariant s.execution.stage s s.birth
+  pub takes : MayTake s s.want
+
+-- and it has room for as many versions as there may be
+pub record KeepsRoomFor (room : ℕ) (s : Strand) : Type 0 where
+  pub versions : room ≡ suc version_limit
+  pub kept : StrandInvariant s

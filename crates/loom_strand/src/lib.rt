@@ -3,13 +3,17 @@
 
 mod args;
 mod ask;
+mod execution;
 mod frame;
 mod machine;
+mod newer;
 mod operator;
+mod pass;
+mod place;
 mod reply;
-mod run;
 mod stack;
 pub mod stage;
 mod step;
 mod step_result;
 pub mod strand;
+mod want;

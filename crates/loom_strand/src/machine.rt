@@ -122,6 +122,13 @@ impl Machine {
         self.func
     }
 
+    /// The locals of the newest frame.
+    pub fn locals(&self) -> &[i64]
+        ensures { result.now ≡ self.now.state.locals }
+    {
+        &self.locals
+    }
+
     /// How many frames wait.
     pub fn waiting(&self) -> usize
         ensures { result ≡ length self.now.state.below }

@@ -1,30 +1,36 @@
 //! What an answer does to a thread.
 ghost use Rattle.std.specs.Prelude.{Some, ◌≡◌};
+ghost use Rattle.loom_flow.specs.Code.{IsLowered};
 ghost use Rattle.loom_flow.specs.Progress.{progress};
 ghost use Rattle.loom_strand.specs.Machine.{position, HasPlaceHere, TakesAnswer};
-ghost use Rattle.loom_strand.specs.Reply.{reply_of, want_behind, IsAsking, CanFollow, Follows};
+ghost use Rattle.loom_strand.specs.Reply.{reply_of, want_behind, takes_version, IsAsking, CanFollow, CanWalkBy, Takes};
 
 use crate::ask::take;
+use crate::execution::Execution;
 use crate::machine::Machine;
-use crate::stage::{Birth, Stage};
+use crate::stage::Stage;
 use loom_flow::code::CodeStep;
 use loom_flow::flow::Flow;
 use loom_trace::entry::Entry;
 use loom_trace::request::Request;
+use loom_version::plans::Plans;
+use loom_version::version::Version;
 
 /// What an answer does to a thread.
 #[derive(Clone, Copy, Debug, Drop)]
 pub(crate) enum Reply {
     /// The thread begins.
     Begins,
-    /// It goes on behind its tick.
-    Ticks,
+    /// What was to be made first is made.
+    Makes,
+    /// It goes over to a newer version.
+    Crosses,
     /// Its request is disabled, and waits for another answer.
     Waits,
     /// Its instruction takes this value; of no account where it gives none.
     Gives(i64),
-    /// It goes to its end.
-    Traps,
+    /// It traps on this line, and goes to its end.
+    Traps(u32),
     /// It has ended.
     Ends,
 }
@@ -36,8 +42,7 @@ pub(crate) fn reply_of(e: &Entry) -> Option<Reply>
     match e {
         Entry::Begin { .. } => Some(Reply::Begins),
         Entry::End { .. } => Some(Reply::Ends),
-        Entry::Trap { .. } => Some(Reply::Traps),
-        Entry::Tick { .. } => Some(Reply::Ticks),
+        Entry::Trap { line, .. } => Some(Reply::Traps(*line)),
         Entry::Blocked { .. } => Some(Reply::Waits),
         Entry::Read { value, .. } => Some(Reply::Gives(*value)),
         Entry::Spawn { child, .. } => Some(Reply::Gives(*child as i64)),
@@ -48,15 +53,16 @@ pub(crate) fn reply_of(e: &Entry) -> Option<Reply>
         | Entry::Up { .. }
         | Entry::Join { .. }
         | Entry::Print { .. } => Some(Reply::Gives(0)),
-        Entry::At { .. }
+        Entry::Tick { .. }
+        | Entry::At { .. }
         | Entry::Past { .. }
         | Entry::Back { .. }
         | Entry::Enter { .. }
         | Entry::Leave { .. }
         | Entry::Post { .. }
-        | Entry::Wait { .. }
-        | Entry::Cross { .. }
-        | Entry::Asked { .. }
+        | Entry::Wait { .. } => Some(Reply::Makes),
+        Entry::Cross { .. } => Some(Reply::Crosses),
+        Entry::Asked { .. }
         | Entry::Refused { .. }
         | Entry::Installed { .. }
         | Entry::Removed { .. }
@@ -73,11 +79,27 @@ pub(crate) fn want_behind(answer: Reply, want: Option<Request>) -> Option<Reques
 {
     match answer {
         Reply::Begins => None,
-        Reply::Ticks => None,
+        Reply::Makes => None,
+        Reply::Crosses => None,
         Reply::Waits => want,
         Reply::Gives(_) => None,
-        Reply::Traps => None,
+        Reply::Traps(_) => None,
         Reply::Ends => None,
+    }
+}
+
+/// Whether the thread takes the newest version with it.
+pub(crate) fn takes_version(answer: Reply) -> bool
+    ensures { result ≡ takes_version answer }
+{
+    match answer {
+        Reply::Begins => true,
+        Reply::Makes => false,
+        Reply::Crosses => true,
+        Reply::Waits => false,
+        Reply::Gives(_) => false,
+        Reply::Traps(_) => false,
+        Reply::Ends => false,
     }
 }
 
@@ -94,33 +116,33 @@ fn give(machine: &mut Machine, flow: &Flow, v: i64)
     }
 }
 
-/// What an answer leaves: how far the thread is, and how many entry and back-edge places it passed since its last entry. Behind its begin it
-/// is in its first frame.
-pub(crate) fn follow(
-    machine: &mut Machine,
-    flow: &Flow,
-    birth: Birth,
-    answer: Reply,
-) -> (Stage, u32)
-    requires { CanFollow flow.now machine.old birth answer }
-    ensures { Follows flow.now machine.old machine.new birth answer result.0 result.1 }
-{
-    match answer {
-        Reply::Begins => {
-            let entrance = flow.entrances()[birth.func as usize];
-            machine.begin(birth.func, entrance, birth.args);
-            (Stage::Runs, 1)
+impl Execution {
+    /// Takes an answer; `newest` is the version that the thread takes where the answer says so.
+    pub(crate) fn take(&mut self, flow: &Flow, plans: &Plans, newest: Version, answer: Reply)
+        requires follow { CanFollow flow.now self.old.machine answer }
+        requires walk { CanWalkBy flow.now.program plans.now newest self.old.walk answer }
+        ensures { Takes flow.now plans.now newest self.old self.new answer }
+    {
+        match answer {
+            Reply::Begins => {
+                self.walk.begin(newest);
+                self.stage = Stage::Enters;
+            }
+            Reply::Makes => self.walk.make_owed(plans),
+            Reply::Crosses => self.walk.cross(plans, newest, self.machine.locals()),
+            Reply::Waits => self.walk.block(),
+            Reply::Gives(v) => {
+                give(&mut self.machine, flow, v);
+                self.walk.act();
+            }
+            Reply::Traps(line) => {
+                self.machine.stop();
+                self.walk.trap(plans, line);
+            }
+            Reply::Ends => {
+                self.walk.act();
+                self.stage = Stage::Over;
+            }
         }
-        Reply::Ticks => (Stage::Runs, 0),
-        Reply::Waits => (Stage::Runs, 0),
-        Reply::Gives(value) => {
-            give(machine, flow, value);
-            (Stage::Runs, 0)
-        }
-        Reply::Traps => {
-            machine.stop();
-            (Stage::Runs, 0)
-        }
-        Reply::Ends => (Stage::Over, 0),
     }
 }

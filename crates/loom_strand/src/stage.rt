@@ -17,7 +17,9 @@ pub struct Birth {
 pub(crate) enum Stage {
     /// It hasn't begun.
     Waits,
-    /// It has begun, and hasn't ended.
+    /// It has begun, and is before its first frame.
+    Enters,
+    /// Its frames run, or the last one has ended.
     Runs,
     /// It has ended.
     Over,
@@ -28,6 +30,8 @@ pub(crate) enum Stage {
 pub enum Want {
     /// The thread asks for this.
     Ask(Request),
+    /// It stands at a flagged place, of this number.
+    Place(u16),
     /// The thread has ended.
     Ended,
 }

@@ -104,7 +104,7 @@ fn call(machine: &mut Machine, flow: &Flow, i: &Instr, func: u8, n: u8) -> StepR
     let entrance = flow.entrances()[func as usize];
     let args = machine.take_arguments(n);
     machine.enter(entrance, func, args, i.place);
-    StepResult::Goes(Some(Mark::Enter(entrance.place)))
+    StepResult::Goes(Some(Mark::Enter(func, entrance.place)))
 }
 
 // Where an instruction leads.
@@ -120,11 +120,11 @@ fn control(machine: &mut Machine, flow: &Flow, i: &Instr, x: Control) -> StepRes
     match x {
         Control::Begin => {
             machine.forward();
-            StepResult::Goes(Some(Mark::Begins))
+            StepResult::Goes(Some(Mark::Begins(i.place)))
         }
         Control::Done => {
             machine.forward();
-            StepResult::Goes(Some(Mark::Done))
+            StepResult::Goes(Some(Mark::Done(i.line, i.place)))
         }
         Control::Edge(to) => {
             machine.jump(to);
@@ -141,7 +141,7 @@ fn control(machine: &mut Machine, flow: &Flow, i: &Instr, x: Control) -> StepRes
         Control::Call(func, n) => call(machine, flow, i, func, n),
         Control::Return(a) => {
             machine.leave(a);
-            StepResult::Goes(Some(Mark::Done))
+            StepResult::Goes(Some(Mark::Done(i.line, i.place)))
         }
         Control::Out => {
             machine.leave(Operand::Number(0));

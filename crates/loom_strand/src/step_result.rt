@@ -16,14 +16,14 @@ pub(crate) const FRAMES: u8 = 6;
 /// A mark that a thread passes: an edge of a statement or of a frame, or a loop's back edge.
 #[derive(Clone, Copy, Debug, Drop)]
 pub(crate) enum Mark {
-    /// A statement begins.
-    Begins,
-    /// A statement is complete.
-    Done,
+    /// The statement at this in place begins.
+    Begins(u16),
+    /// The statement of this line, at this in place, is complete.
+    Done(u32, u16),
     /// The back edge of this place.
     Edge(u16),
-    /// A frame begins, at this entry place.
-    Enter(u16),
+    /// A frame of the function of this number begins, at this entry place.
+    Enter(u8, u16),
     /// A frame of the function of this number has ended.
     Out(u8),
 }
@@ -39,12 +39,17 @@ pub(crate) enum StepResult {
     Ends,
 }
 
-/// What a private run comes to.
+/// Why a private run stops.
 #[derive(Clone, Copy, Debug, Drop)]
 pub(crate) enum Stop {
+    /// The next instruction asks for this.
     Asks(Request),
-    /// A tick of this line, at this place: the thousandth entry or back-edge place since the last entry.
-    Ticks(u32, u16),
     /// The thread is to end.
     Ends,
+    /// Something is to be made where the thread is, before it goes on.
+    Owes,
+    /// A newer version is to be taken directly before this entry or back-edge place.
+    Crosses(u16),
+    /// The next entry or back-edge place is this one, and is flagged.
+    Flagged(u16),
 }

@@ -6,4 +6,4 @@ use Rattle.loom_strand.proofs.strand.Strand.start.Goals as goal
 pub args_of-args-requires : goal.args_of-args-requires
 args_of-args-requires c =
     few_params c.args.self.now.program c.args.func (length c.args.args.now)
-    (let P : Strand → Type 0 = λ s. Rattle.loom_lang.specs.Rules.KeepsRules s.program in subst P c.self.view_is c.self.invariant.lawful) c.requires.function
+    (let P : Strand → Type 0 = λ s. Rattle.loom_lang.specs.Rules.KeepsRules s.program in subst P c.self.view_is c.self.invariant.kept.lawful) c.requires.function

@@ -12,7 +12,7 @@ use Rattle.loom_world.specs.BookInvariant.{Notes, NoneGoesOn, HasCommands}
 use Rattle.loom_world.proofs.ControlState.{numbered, counted}
 
 abbrev pub book_with : Book → Entry → Store → Book
-book_with b x st = record { program = b.program; commands = b.commands; limit = b.limit; entries = b.entries ++ x ∷ []; store = st }
+book_with b x st = record b { entries = b.entries ++ x ∷ []; store = st }
 
 -- the room that is left
 pub room_with : (b : Book) (x : Entry) (old room : ℕ) → length b.entries + old ≡ b.limit + control_limit → room + 1 ≡ old → length (b.entries ++ x ∷ []) + room ≡ b.limit + control_limit

@@ -18,11 +18,12 @@ abbrev pub owed_answers : Option ℕ → ℕ
 owed_answers None = 0
 owed_answers (Some k) = 1
 
--- The next command has a number, and the one that is asked stands before it.
+-- The next command has a number, and the one that is asked stands before it; none is asked once the end is chosen.
 pub record IsNumbered (cs : List Command) (c : Control) : Type 0 where
   pub first : 1 ≤ c.next
   pub last : c.next ≤ suc (length cs)
   pub before : (k : ℕ) → c.asked ≡ Some k → (1 ≤ k) × (suc k ≡ c.next)
+  pub not_closing : (k : ℕ) → c.asked ≡ Some k → c.closing ≡ false
 
 -- So many entries stand, and so many of threads: two control entries at most for each command before the next, and one fewer where an answer is owed.
 pub record IsCounted (s : Setting) (c : Control) (all made : ℕ) : Type 0 where
@@ -66,21 +67,23 @@ moved s c d all made h same ne =
         first = omega (arith, h.numbers.first, same.0);
         last = omega (arith, h.numbers.last, same.0);
         before = λ k g. (let was = h.numbers.before k (sym same.1.0 ∙ g) in (was.0, was.1 ∙ sym same.0));
+        not_closing = λ k g. same.1.1 ∙ h.numbers.not_closing k (sym same.1.0 ∙ g);
       };
       few = omega (arith, ne, h.few);
       count = omega (arith, owed, same.0, h.count);
     }
 
 -- of the command that is asked
-asked_one : (s : Setting) (c : Control) (k all made : ℕ) → IsCounted s c all made → c.asked ≡ None → k ≡ c.next → c.next ≤ length s.commands
+asked_one : (s : Setting) (c : Control) (k all made : ℕ) → IsCounted s c all made → c.asked ≡ None → c.closing ≡ false → k ≡ c.next → c.next ≤ length s.commands
     → IsCounted s (record c { asked = Some k; next = suc k }) (suc all) made
-asked_one s c k all made h none next most =
+asked_one s c k all made h none not_closing next most =
     let owed : owed_answers c.asked ≡ 0 = ap owed_answers none in
     record {
       numbers = record {
         first = omega arith;
         last = omega (arith, next, most);
         before = λ j g. (let same : k ≡ j = cc in (omega (arith, same, next, h.numbers.first), omega (arith, same)));
+        not_closing = λ j g. not_closing;
       };
       few = h.few;
       count = omega (arith, owed, next, h.count);
@@ -96,6 +99,7 @@ answered_one s c d k all made h is next none =
         first = omega (arith, h.numbers.first, next);
         last = omega (arith, h.numbers.last, next);
         before = λ j g. (let no : None ≡ Some j = sym none ∙ g in cc);
+        not_closing = λ j g. (let no : None ≡ Some j = sym none ∙ g in cc);
       };
       few = h.few;
       count = omega (arith, owed, paid, next, h.count);
@@ -112,6 +116,7 @@ left_one s c d k all made h none next most on same =
         first = omega (arith, on);
         last = omega (arith, on, most);
         before = λ j g. (let no : None ≡ Some j = sym (same ∙ none) ∙ g in cc);
+        not_closing = λ j g. (let no : None ≡ Some j = sym (same ∙ none) ∙ g in cc);
       };
       few = h.few;
       count = omega (arith, owed, still, on, next, h.count);
@@ -124,7 +129,7 @@ controlled : (s : Setting) (f : Front) (x : Entry) (rest : List Entry) (all made
     → IsLast x rest ⊎ IsCounted s (after_entry s.commands f.control x) (suc all) made
 controlled s f (e.Finish kind) rest all made h may = inl (kind, (refl, may.0))
 controlled s f (e.Asked k) rest all made h may =
-    inr (asked_one s f.control k all made h may.0.answered may.1 (number_within s.commands f.control.next may.0.command may.0.is))
+    inr (asked_one s f.control k all made h may.0.answered may.0.not_closing may.1 (number_within s.commands f.control.next may.0.command may.0.is))
 controlled s f (e.Refused k n m) rest all made h may = inr (answered_one s f.control _ k all made h may.0 refl refl)
 controlled s f (e.Installed k v ps) rest all made h may = inr (answered_one s f.control _ k all made h may.1.asked refl refl)
 controlled s f (e.Removed k v ps) rest all made h may = inr (answered_one s f.control _ k all made h may.1.asked refl refl)
@@ -182,7 +187,7 @@ counted_from s es h front (x ∷ rest) is c =
 
 none_counted : (s : Setting) → IsCountedSo s []
 none_counted s = record {
-  numbers = record { first = omega arith; last = omega arith; before = λ k g. cc };
+  numbers = record { first = omega arith; last = omega arith; before = λ k g. cc; not_closing = λ k g. cc };
   few = omega arith;
   count = omega arith;
 }

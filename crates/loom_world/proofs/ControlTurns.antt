@@ -1,16 +1,15 @@
 -- Which control entry stands next in a book.
-use Rattle.std.proofs.Common.{ℕ, zero, suc, ◌<◌, ◌≤◌, ◌≡◌, ◌⊎◌, inl, inr, false, List, [], ◌∷◌, length, Option, Some, None, refl, sym, ◌∙◌, arith}
+use Rattle.std.proofs.Common.{ℕ, zero, suc, ◌<◌, ◌≤◌, ◌≡◌, ◌⊎◌, inl, inr, Bool, true, false, List, [], ◌∷◌, length, Option, Some, None, refl, sym, ap, ◌∙◌, subst, arith}
 use Rattle.loom_trace.specs.declared.entry.Entry.{Entry}
 use Rattle.loom_trace.specs.declared.entry.Entry.TheVariants as e
 use Rattle.loom_trace.specs.declared.entry.Ending.{Ending}
 use Rattle.loom_event.specs.Entries.{thread_of}
 use Rattle.loom_law.specs.Control.{Command, command_at, Control}
-use Rattle.loom_law.specs.Lawful.{refusal, refusal_of, IsDue, Ends, EndsSo, MayControl}
+use Rattle.loom_law.specs.Lawful.{run_is_over, refusal, IsDue, Ends, EndsSo, MayControl}
 use Rattle.loom_world.specs.Book.{Book, setting, front, HasLawfulJournal}
+use Rattle.loom_world.specs.Answers.{AreFound, IsFoundStalled, StandsNext}
 use Rattle.loom_world.specs.Idle.{IsAskedInVain, CommandGoesFirst}
 use Rattle.loom_world.proofs.ControlState.{numbered}
-use Rattle.loom_world.proofs.FirstVersion.{refusal_is, always_refused}
-use Rattle.loom_world.proofs.Ends.{plain_book}
 
 -- a number up to that of the last command is one of a command
 command_there : (cs : List Command) (k : ℕ) → 1 ≤ k → k ≤ length cs → (x : Command) × (command_at cs k ≡ Some x)
@@ -28,30 +27,25 @@ asked_there b h k is =
     let before = n.before k is in
     command_there b.commands k before.0 (omega (arith, before.1, n.last))
 
--- It is refused.
-refused_with : (b : Book) → HasLawfulJournal b → (k : ℕ) → Control.asked (front b).control ≡ Some k → (r : ℕ × ℕ) × (refusal (setting b) (front b).control k ≡ Some r)
-refused_with b h k is =
-    let there = asked_there b h k is in
-    always_refused (setting b) (front b).control (plain_book b h).version h.installs k there.0 there.1
+-- It is asked in vain where it is refused.
+pub in_vain : (b : Book) (k : ℕ) (r : ℕ × ℕ) → Control.asked (front b).control ≡ Some k → refusal (setting b) (front b).control k ≡ Some r → IsAskedInVain b
+in_vain b k r is why = record { command = k; asked = is; refused = λ accepted. (let no : None ≡ Some r = sym accepted ∙ why in cc) }
 
-pub in_vain : (b : Book) → HasLawfulJournal b → (k : ℕ) → Control.asked (front b).control ≡ Some k → IsAskedInVain b
-in_vain b h k is =
-    let r = refused_with b h k is in
-    record { command = k; asked = is; refused = λ accepted. (let no : None ≡ Some r.0 = sym accepted ∙ r.1 in cc) }
-
--- Where no command goes first none is asked.
-pub none_asked : (b : Book) → HasLawfulJournal b → (CommandGoesFirst b → ⊥) → Control.asked (front b).control ≡ None
-none_asked b h none = by_asked (Control.asked (front b).control) refl
-  where
-    by_asked : (o : Option ℕ) → Control.asked (front b).control ≡ o → Control.asked (front b).control ≡ None
-    by_asked None is = is
-    by_asked (Some k) is = absurd (none (inr (in_vain b h k is)))
+-- Where it isn't, and none is due, no command goes first.
+pub not_first : (b : Book) (k : ℕ) → Control.asked (front b).control ≡ Some k → refusal (setting b) (front b).control k ≡ None → CommandGoesFirst b → ⊥
+not_first b k is accepted (inl due) = let no : None ≡ Some k = sym due.answered ∙ is in cc
+not_first b k is accepted (inr vain) =
+    let same : vain.command ≡ k = cc (vain.asked, is) in
+    vain.refused (ap (λ z. refusal (setting b) (front b).control z) same ∙ accepted)
 
 -- What may stand
 
-pub may_refuse : (b : Book) → HasLawfulJournal b → (k : ℕ) (x : Command) (n m : ℕ) → Control.asked (front b).control ≡ Some k → command_at b.commands k ≡ Some x
-    → refusal_of x.action false 0 ≡ Some (n, m) → MayControl (setting b) (front b) (e.Refused k n m) []
-may_refuse b h k x n m is there why = (is, refusal_is (setting b) (front b).control (plain_book b h).version k x there ∙ why)
+pub may_refuse : (b : Book) (k n m : ℕ) → Control.asked (front b).control ≡ Some k → refusal (setting b) (front b).control k ≡ Some (n, m)
+    → MayControl (setting b) (front b) (e.Refused k n m) []
+may_refuse b k n m is why = (is, why)
+
+pub may_cut : (b : Book) (k : ℕ) → Control.asked (front b).control ≡ Some k → run_is_over (setting b) (front b) ≡ true → MayControl (setting b) (front b) (e.Cut k) []
+may_cut b k is over = (over, is)
 
 pub may_ask : (b : Book) → IsDue (setting b) (front b) → (k : ℕ) → k ≡ Control.next (front b).control → MayControl (setting b) (front b) (e.Asked k) []
 may_ask b due k is = (due, is)
@@ -71,20 +65,36 @@ none_so o k none is = let no : None ≡ Some k = sym none ∙ is in cc
 
 -- where none is asked or due, and the run doesn't end
 pub no_control : (b : Book) → Control.asked (front b).control ≡ None → (IsDue (setting b) (front b) → ⊥) → ((kind : Ending) → Ends (setting b) (front b) kind → ⊥)
-    → (x : Entry) → thread_of x ≡ None → MayControl (setting b) (front b) x [] → ⊥
-no_control b none not_due never (e.Asked k) of may = not_due may.0
-no_control b none not_due never (e.Refused k n m) of may = none_so _ k none may.0
-no_control b none not_due never (e.Installed k v ps) of may = none_so _ k none may.1.asked
-no_control b none not_due never (e.Removed k v ps) of may = none_so _ k none may.1.asked
-no_control b none not_due never (e.Stalled k t l) of may = none_so _ k none may.1.asked
-no_control b none not_due never (e.Cut k) of may = none_so _ k none may.1
-no_control b none not_due never (e.Unreached k) of may = never may.1.1.1.0 may.1.1.1.1
-no_control b none not_due never (e.Finish kind) of may = never kind may.1.1.1
-no_control b none not_due never _ of may = absurd may
+    → (x : Entry) → thread_of x ≡ None → StandsNext b x → ⊥
+no_control b none not_due never (e.Asked k) of next = not_due next.may.0
+no_control b none not_due never (e.Refused k n m) of next = none_so _ k none next.may.0
+no_control b none not_due never (e.Installed k v ps) of next = none_so _ k none next.may.1.asked
+no_control b none not_due never (e.Removed k v ps) of next = none_so _ k none next.may.1.asked
+no_control b none not_due never (e.Stalled k t l) of next = none_so _ k none next.may.1.asked
+no_control b none not_due never (e.Cut k) of next = none_so _ k none next.may.1
+no_control b none not_due never (e.Unreached k) of next = never next.may.1.1.1.0 next.may.1.1.1.1
+no_control b none not_due never (e.Finish kind) of next = never kind next.may.1.1.1
+no_control b none not_due never _ of next = absurd next.may
+
+-- where a command is asked, which isn't refused, and has no answer by where threads were found
+pub no_answer : (b : Book) (k : ℕ) → Control.asked (front b).control ≡ Some k → refusal (setting b) (front b).control k ≡ None → run_is_over (setting b) (front b) ≡ false
+    → ((row : List ℕ) → AreFound b k row → ⊥) → ((t l : ℕ) → IsFoundStalled b k t l → ⊥) → (x : Entry) → thread_of x ≡ None → StandsNext b x → ⊥
+no_answer b k is accepted goes_on no_row no_stall (e.Asked j) of next = none_so _ k next.may.0.answered is
+no_answer b k is accepted goes_on no_row no_stall (e.Refused j n m) of next =
+    let same : j ≡ k = cc (next.may.0, is) in
+    let pair : ℕ × ℕ = (n, m) in
+    let no : None ≡ Some pair = sym accepted ∙ (ap (λ z. refusal (setting b) (front b).control z) (sym same) ∙ next.may.1) in cc
+no_answer b k is accepted goes_on no_row no_stall (e.Installed j v ps) of next = let same : j ≡ k = cc (next.may.1.asked, is) in no_row ps (subst (λ z. AreFound b z ps) same next.found)
+no_answer b k is accepted goes_on no_row no_stall (e.Removed j v ps) of next = let same : j ≡ k = cc (next.may.1.asked, is) in no_row ps (subst (λ z. AreFound b z ps) same next.found)
+no_answer b k is accepted goes_on no_row no_stall (e.Stalled j t l) of next = let same : j ≡ k = cc (next.may.1.asked, is) in no_stall t l (subst (λ z. IsFoundStalled b z t l) same next.found)
+no_answer b k is accepted goes_on no_row no_stall (e.Cut j) of next = let no : true ≡ false = sym next.may.0 ∙ goes_on in cc
+no_answer b k is accepted goes_on no_row no_stall (e.Unreached j) of next = none_so _ k next.may.0 is
+no_answer b k is accepted goes_on no_row no_stall (e.Finish kind) of next = none_so _ k next.may.1.0 is
+no_answer b k is accepted goes_on no_row no_stall _ of next = absurd next.may
 
 -- Some control entry stands
 
-less_or : (m n : ℕ) → (m < n) ⊎ (n ≤ m)
+pub less_or : (m n : ℕ) → (m < n) ⊎ (n ≤ m)
 less_or m zero = inr (omega arith)
 less_or zero (suc n) = inl (omega arith)
 less_or (suc m) (suc n) = step (less_or m n)
@@ -93,23 +103,33 @@ less_or (suc m) (suc n) = step (less_or m n)
     step (inl h) = inl (omega (arith, h))
     step (inr h) = inr (omega (arith, h))
 
-abbrev NoneMay : Book → Type 0
-NoneMay b = (x : Entry) → thread_of x ≡ None → MayControl (setting b) (front b) x [] → ⊥
+-- No control entry stands next.
+abbrev pub NoneStands : Book → Type 0
+NoneStands b = (x : Entry) → thread_of x ≡ None → StandsNext b x → ⊥
 
--- where a command is asked, where one is due, and where the run ends
-pub not_asked : (b : Book) → HasLawfulJournal b → NoneMay b → Control.asked (front b).control ≡ None
-not_asked b h none = by_asked (Control.asked (front b).control) refl
+-- where the command that is asked is refused, where one is due, and where the run ends
+pub not_refused : (b : Book) → NoneStands b → (k : ℕ) → Control.asked (front b).control ≡ Some k → refusal (setting b) (front b).control k ≡ None
+not_refused b none k is = by_refusal (refusal (setting b) (front b).control k) refl
   where
-    by_asked : (o : Option ℕ) → Control.asked (front b).control ≡ o → Control.asked (front b).control ≡ None
-    by_asked None is = is
-    by_asked (Some k) is = let r = refused_with b h k is in absurd (none (e.Refused k r.0.0 r.0.1) refl (is, r.1))
+    by_refusal : (o : Option (ℕ × ℕ)) → refusal (setting b) (front b).control k ≡ o → refusal (setting b) (front b).control k ≡ None
+    by_refusal None why = why
+    by_refusal (Some r) why = absurd (none (e.Refused k r.0 r.1) refl (record { may = may_refuse b k r.0 r.1 is why; found = tt }))
 
-pub not_due : (b : Book) → NoneMay b → IsDue (setting b) (front b) → ⊥
-not_due b none due = none (e.Asked (Control.next (front b).control)) refl (due, refl)
+pub not_cut : (b : Book) → NoneStands b → (k : ℕ) → Control.asked (front b).control ≡ Some k → run_is_over (setting b) (front b) ≡ false
+not_cut b none k is = by_end (run_is_over (setting b) (front b)) refl
+  where
+    by_end : (c : Bool) → run_is_over (setting b) (front b) ≡ c → run_is_over (setting b) (front b) ≡ false
+    by_end false over = over
+    by_end true over = absurd (none (e.Cut k) refl (record { may = may_cut b k is over; found = tt }))
 
-pub not_over : (b : Book) → HasLawfulJournal b → NoneMay b → (kind : Ending) → Ends (setting b) (front b) kind → ⊥
-not_over b h none kind ends = by_next (less_or (length b.commands) (Control.next (front b).control))
+pub not_due : (b : Book) → NoneStands b → IsDue (setting b) (front b) → ⊥
+not_due b none due = none (e.Asked (Control.next (front b).control)) refl (record { may = (due, refl); found = tt })
+
+pub not_over : (b : Book) → NoneStands b → Control.asked (front b).control ≡ None → (kind : Ending) → Ends (setting b) (front b) kind → ⊥
+not_over b none asked kind ends = by_next (less_or (length b.commands) (Control.next (front b).control))
   where
     by_next : (length b.commands < Control.next (front b).control) ⊎ (Control.next (front b).control ≤ length b.commands) → ⊥
-    by_next (inl all) = none (e.Finish kind) refl (may_finish b (not_asked b h none) all kind ends)
-    by_next (inr most) = none (e.Unreached (Control.next (front b).control)) refl (may_leave_out b (not_asked b h none) (Control.next (front b).control) refl most (kind, ends))
+    by_next (inl all) = none (e.Finish kind) refl (record { may = may_finish b asked all kind ends; found = tt })
+    by_next (inr most) =
+        none (e.Unreached (Control.next (front b).control)) refl
+        (record { may = may_leave_out b asked (Control.next (front b).control) refl most (kind, ends); found = tt })

@@ -1,22 +1,20 @@
 -- Where a run ends, and where it goes on.
-use Rattle.std.proofs.Common.{ℕ, ◌≡◌, ◌⊎◌, inl, inr, ◌==◌, Bool, true, false, ◌||◌, Option, Some, None, refl, sym, ap, ◌∙◌, subst}
+use Rattle.std.proofs.Common.{ℕ, ◌≡◌, ◌⊎◌, inl, inr, ◌==◌, Bool, true, false, ◌||◌, List, [], ◌∷◌, Option, Some, None, refl, sym, ap, ◌∙◌, subst}
 use Rattle.loom_trace.specs.declared.entry.Entry.{Entry}
 use Rattle.loom_trace.specs.declared.entry.Entry.TheVariants as e
 use Rattle.loom_trace.specs.declared.entry.Ending.{Ending}
 use Rattle.loom_trace.specs.declared.entry.Ending.TheVariants as k
 use Rattle.loom_trace.specs.declared.entry.What.{What}
-use Rattle.loom_trace.specs.declared.entry.What.TheVariants as w
 use Rattle.loom_event.specs.Entries.{thread_entries, last_of_thread}
-use Rattle.loom_event.specs.Replay.{Store, IsDisabled, AllEnded}
+use Rattle.loom_event.specs.Replay.{Store, AllEnded}
 use Rattle.loom_event.proofs.Stops.{never_stopped}
-use Rattle.loom_law.specs.Control.{control}
+use Rattle.loom_law.specs.Control.{control, listed_places}
 use Rattle.loom_law.specs.Lawful.{front_of, run_is_over, Lives, IsDisabledFor, IsBlockedBy, IsBlocked, IsHeldOff, IsDue, Ends}
-use Rattle.loom_store.specs.Answer.{CanWait}
 use Rattle.loom_world.specs.Book.{Book, setting, front, HasLawfulJournal}
 use Rattle.loom_world.specs.Idle.{CanGoOn}
-use Rattle.loom_world.specs.BookInvariant.{wait_in, NoneGoesOn}
-use Rattle.loom_world.proofs.FirstVersion.{IsPlain, plain, nobody_off}
-use Rattle.loom_world.proofs.Notes.{blocked_entry}
+use Rattle.loom_world.specs.BookInvariant.{wait_in, wait_unless, NoneGoesOn}
+use Rattle.loom_world.proofs.NoOrders.{nobody_off}
+use Rattle.loom_world.proofs.LastEntries.{blocked_entry}
 
 -- The end of a book's journal is that of its entries and events.
 pub front_is : (b : Book) (h : HasLawfulJournal b) → front_of (setting b) b.entries h.lawful.events ≡ front b
@@ -30,41 +28,35 @@ pub not_yes : (c : Bool) → (c ≡ true → ⊥) → c ≡ false
 not_yes true h = absurd (h refl)
 not_yes false h = refl
 
-pub plain_book : (b : Book) → HasLawfulJournal b → IsPlain (setting b) b.entries
-plain_book b h = plain (setting b) b.entries h.lawful h.installs
-
 -- Nobody is held off.
 pub not_held_off : (b : Book) (h : HasLawfulJournal b) (t : ℕ) → IsHeldOff (setting b) (front b) t → ⊥
-not_held_off b h t g = nobody_off (setting b) (front b) (plain_book b h).version t g
+not_held_off b h t g = nobody_off (setting b) (front b) h.plans.exclusions t g
 
 -- Blocked threads
 
-pub disabled_for : (b : Book) (t : ℕ) (what : What) → CanWait b.store what → IsDisabled b.store what → IsDisabledFor (setting b) (front b) t what
-disabled_for b t (w.Lock m) can h = h
-disabled_for b t (w.Down m) can h = h
-disabled_for b t (w.Join c) can h = h
-disabled_for b t (w.Enter k c) can h = absurd can
-disabled_for b t (w.Wait k n) can h = absurd can
+-- it is noted where no place is listed alone
+record WaitsFor (ls : List ℕ) (o : Option What) (what : What) : Type 0 where
+  none : ls ≡ []
+  is : o ≡ Some what
 
-pub disabled_in : (b : Book) (t : ℕ) (what : What) → CanWait b.store what → IsDisabledFor (setting b) (front b) t what → IsDisabled b.store what
-disabled_in b t (w.Lock m) can h = h
-disabled_in b t (w.Down m) can h = h
-disabled_in b t (w.Join c) can h = h
-disabled_in b t (w.Enter k c) can h = absurd can
-disabled_in b t (w.Wait k n) can h = absurd can
+waits_for : (ls : List ℕ) (o : Option What) (what : What) → wait_unless ls o ≡ Some what → WaitsFor ls o what
+waits_for [] o what h = record { none = refl; is = h }
+waits_for (y ∷ ys) o what h = cc
 
--- by what its last entry says
-pub blocked_by : (b : Book) (h : HasLawfulJournal b) (t : ℕ) (what : What) → wait_in (last_of_thread t None b.entries) ≡ Some what → CanWait b.store what → IsDisabled b.store what
-    → IsBlocked (setting b) (front b) t
-blocked_by b h t what says can disabled =
-    let o = blocked_entry (last_of_thread t None b.entries) what says in
-    subst (λ z. IsBlockedBy (setting b) (front b) t z) (sym o.is) (disabled_for b t what can disabled, (plain_book b h).lists t)
+-- by what is noted
+pub blocked_by : (b : Book) (t : ℕ) (what : What) → wait_unless (listed_places t b.entries) (wait_in (last_of_thread t None b.entries)) ≡ Some what
+    → IsDisabledFor (setting b) (front b) t what → IsBlocked (setting b) (front b) t
+blocked_by b t what says disabled =
+    let x = waits_for (listed_places t b.entries) (wait_in (last_of_thread t None b.entries)) what says in
+    let o = blocked_entry (last_of_thread t None b.entries) what x.is in
+    subst (λ z. IsBlockedBy (setting b) (front b) t z) (sym o.is) (disabled, x.none)
 
-pub free_by : (b : Book) (t : ℕ) (what : What) → wait_in (last_of_thread t None b.entries) ≡ Some what → CanWait b.store what → (IsDisabled b.store what → ⊥)
-    → IsBlocked (setting b) (front b) t → ⊥
-free_by b t what says can enabled blocked =
-    let o = blocked_entry (last_of_thread t None b.entries) what says in
-    enabled (disabled_in b t what can (subst (λ z. IsBlockedBy (setting b) (front b) t z) o.is blocked).0)
+pub free_by : (b : Book) (t : ℕ) (what : What) → wait_unless (listed_places t b.entries) (wait_in (last_of_thread t None b.entries)) ≡ Some what
+    → (IsDisabledFor (setting b) (front b) t what → ⊥) → IsBlocked (setting b) (front b) t → ⊥
+free_by b t what says enabled blocked =
+    let x = waits_for (listed_places t b.entries) (wait_in (last_of_thread t None b.entries)) what says in
+    let o = blocked_entry (last_of_thread t None b.entries) what x.is in
+    enabled (subst (λ z. IsBlockedBy (setting b) (front b) t z) o.is blocked).0
 
 pub free_without : (b : Book) (t : ℕ) (o : Option Entry) → wait_in o ≡ None → IsBlockedBy (setting b) (front b) t o → ⊥
 free_without b t None says blocked = absurd blocked
@@ -98,6 +90,17 @@ free_without b t (Some (e.Stalled k u l)) says blocked = absurd blocked
 free_without b t (Some (e.Cut k)) says blocked = absurd blocked
 free_without b t (Some (e.Unreached k)) says blocked = absurd blocked
 free_without b t (Some (e.Finish kind)) says blocked = absurd blocked
+
+-- where nothing is noted
+pub free_unnoted : (b : Book) (t : ℕ) → wait_unless (listed_places t b.entries) (wait_in (last_of_thread t None b.entries)) ≡ None → IsBlocked (setting b) (front b) t → ⊥
+free_unnoted b t says blocked = by_wait (wait_in (last_of_thread t None b.entries)) refl
+  where
+    by_wait : (w : Option What) → wait_in (last_of_thread t None b.entries) ≡ w → ⊥
+    by_wait None is = free_without b t (last_of_thread t None b.entries) is blocked
+    by_wait (Some what) is =
+        let o = blocked_entry (last_of_thread t None b.entries) what is in
+        let none : listed_places t b.entries ≡ [] = (subst (λ z. IsBlockedBy (setting b) (front b) t z) o.is blocked).1 in
+        let no : Some what ≡ None = sym is ∙ (sym (ap (λ ls. wait_unless ls (wait_in (last_of_thread t None b.entries))) none) ∙ says) in cc
 
 -- Ends
 

@@ -4,15 +4,15 @@ use Rattle.std.proofs.lemmas.Option.{slice_get_read, slice_get_within}
 use Rattle.loom_trace.specs.Limits.{thread_limit}
 use Rattle.loom_trace.specs.declared.entry.What.{What}
 use Rattle.loom_event.specs.Entries.{thread_entries, last_of_thread}
-use Rattle.loom_event.specs.Replay.{ThreadState, Store, thread_at, IsDisabled, AllEnded}
-use Rattle.loom_law.specs.Lawful.{run_is_over, Lives, IsBlocked}
+use Rattle.loom_event.specs.Replay.{ThreadState, Store, thread_at, AllEnded}
+use Rattle.loom_law.specs.Control.{listed_places}
+use Rattle.loom_law.specs.Lawful.{run_is_over, Lives, IsDisabledFor, IsBlocked}
 use Rattle.loom_law.proofs.Earlier.{same_number}
 use Rattle.loom_law.proofs.Turns.{eq_same}
-use Rattle.loom_store.specs.Answer.{CanWait}
 use Rattle.loom_world.specs.Book.{Book, setting, front}
 use Rattle.loom_world.specs.Idle.{HasFinish, IsClosed}
-use Rattle.loom_world.specs.BookInvariant.{Notes, wait_in, IsAtEnd, BookInvariant}
-use Rattle.loom_world.proofs.Ends.{over_is, blocked_by, free_by, free_without}
+use Rattle.loom_world.specs.BookInvariant.{Notes, wait_in, wait_unless, CanAwait, IsAtEnd, BookInvariant}
+use Rattle.loom_world.proofs.Ends.{over_is, blocked_by, free_by, free_unnoted}
 
 end_if : (b : Book) (f c : Bool) → f ≡ c → IsAtEnd b f → IsAtEnd b c
 end_if b f c is h = subst (λ z. IsAtEnd b z) is h
@@ -71,28 +71,29 @@ note_at b n k t o w first last is same =
 next : (t : ℕ) → 1 ≤ t → suc (t - 1) ≡ t
 next t h = omega (arith, h)
 
-pub note_says : (b : Book) (n : Notes) (k : BookInvariant b n) (t : ℕ) (o w : Option What) → 1 ≤ t → t ≤ thread_limit → o ≡ get_or n.waits (t - 1) o → o ≡ w
-    → wait_in (last_of_thread t None b.entries) ≡ w
+-- what is noted of a thread
+abbrev pub wait_at : Book → ℕ → Option What
+wait_at b t = wait_unless (listed_places t b.entries) (wait_in (last_of_thread t None b.entries))
+
+pub note_says : (b : Book) (n : Notes) (k : BookInvariant b n) (t : ℕ) (o w : Option What) → 1 ≤ t → t ≤ thread_limit → o ≡ get_or n.waits (t - 1) o → o ≡ w → wait_at b t ≡ w
 note_says b n k t o w first last is same =
     let each = k.waits.each (t - 1) w (note_at b n k t o w first last is same) in
-    ap (λ z. wait_in (last_of_thread z None b.entries)) (sym (next t first)) ∙ sym each
+    ap (wait_at b) (sym (next t first)) ∙ sym each
 
-pub note_can : (b : Book) (n : Notes) (k : BookInvariant b n) (t : ℕ) (o : Option What) (w : What) → 1 ≤ t → t ≤ thread_limit → o ≡ get_or n.waits (t - 1) o → o ≡ Some w → CanWait b.store w
+pub note_can : (b : Book) (n : Notes) (k : BookInvariant b n) (t : ℕ) (o : Option What) (w : What) → 1 ≤ t → t ≤ thread_limit → o ≡ get_or n.waits (t - 1) o → o ≡ Some w → CanAwait b.store w
 note_can b n k t o w first last is same = k.waits.can (t - 1) w (note_at b n k t o (Some w) first last is same)
 
-pub is_blocked_at : (b : Book) (n : Notes) (k : BookInvariant b n) (t : ℕ) (o : Option What) (w : What) → 1 ≤ t → t ≤ thread_limit → o ≡ get_or n.waits (t - 1) o → o ≡ Some w → IsDisabled b.store w
-    → IsBlocked (setting b) (front b) t
-is_blocked_at b n k t o w first last is same disabled =
-    blocked_by b k.journal t w (note_says b n k t o (Some w) first last is same) (note_can b n k t o w first last is same) disabled
+pub is_blocked_at : (b : Book) (n : Notes) (k : BookInvariant b n) (t : ℕ) (o : Option What) (w : What) → 1 ≤ t → t ≤ thread_limit → o ≡ get_or n.waits (t - 1) o → o ≡ Some w
+    → IsDisabledFor (setting b) (front b) t w → IsBlocked (setting b) (front b) t
+is_blocked_at b n k t o w first last is same disabled = blocked_by b t w (note_says b n k t o (Some w) first last is same) disabled
 
-pub is_free_at : (b : Book) (n : Notes) (k : BookInvariant b n) (t : ℕ) (o : Option What) (w : What) → 1 ≤ t → t ≤ thread_limit → o ≡ get_or n.waits (t - 1) o → o ≡ Some w → (IsDisabled b.store w → ⊥)
-    → IsBlocked (setting b) (front b) t → ⊥
-is_free_at b n k t o w first last is same enabled =
-    free_by b t w (note_says b n k t o (Some w) first last is same) (note_can b n k t o w first last is same) enabled
+pub is_free_at : (b : Book) (n : Notes) (k : BookInvariant b n) (t : ℕ) (o : Option What) (w : What) → 1 ≤ t → t ≤ thread_limit → o ≡ get_or n.waits (t - 1) o → o ≡ Some w
+    → (IsDisabledFor (setting b) (front b) t w → ⊥) → IsBlocked (setting b) (front b) t → ⊥
+is_free_at b n k t o w first last is same enabled = free_by b t w (note_says b n k t o (Some w) first last is same) enabled
 
 pub is_free_without : (b : Book) (n : Notes) (k : BookInvariant b n) (t : ℕ) (o : Option What) → 1 ≤ t → t ≤ thread_limit → o ≡ get_or n.waits (t - 1) o → o ≡ None
     → IsBlocked (setting b) (front b) t → ⊥
-is_free_without b n k t o first last is same = free_without b t (last_of_thread t None b.entries) (note_says b n k t o None first last is same)
+is_free_without b n k t o first last is same = free_unnoted b t (note_says b n k t o None first last is same)
 
 -- Threads have the numbers that there may be.
 pub live_number : (b : Book) (n : Notes) → BookInvariant b n → (t : ℕ) → Lives b.store t → (1 ≤ t) × (t ≤ thread_limit)
@@ -109,7 +110,7 @@ before_first u h = omega (arith, h)
 pub none_first : (s : Store) (u : ℕ) (x : ThreadState) → u < 1 → thread_at s u ≡ Some x → x.ended ≡ true
 none_first s u x h is = let no : None ≡ Some x = sym (ap (thread_at s) (before_first u h)) ∙ is in cc
 
-up_to : (u t : ℕ) → u < t + 1 → (u < t) ⊎ (u ≡ t)
+pub up_to : (u t : ℕ) → u < t + 1 → (u < t) ⊎ (u ≡ t)
 up_to u t h = by_test (u == t) refl
   where
     by_test : (c : Bool) → (u == t) ≡ c → (u < t) ⊎ (u ≡ t)

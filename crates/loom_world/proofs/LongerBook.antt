@@ -1,8 +1,8 @@
 -- A book with the entry that an answer makes.
-use Rattle.std.proofs.Common.{ℕ, suc, ◌+◌, ◌-◌, ◌<◌, ◌≤◌, ◌≡◌, ◌⊎◌, inl, inr, ◌==◌, Bool, true, false, List, [], ◌∷◌, ◌++◌, ℤ, pos, negsuc, length, get_or, slice_get, Option, Some, None, refl, sym, ap, ◌∙◌, subst, arith}
+use Rattle.std.proofs.Common.{ℕ, ◌+◌, ◌-◌, ◌<◌, ◌≤◌, ◌≡◌, inl, inr, ◌==◌, ◌&&◌, Bool, true, false, List, [], ◌∷◌, ◌++◌, ℤ, pos, negsuc, Option, Some, None, refl, sym, ap, ◌∙◌, subst, arith}
 use Rattle.std.specs.Prelude.{slice_set}
-use Rattle.std.proofs.lemmas.Option.{slice_get-get_or}
-use Rattle.loom_trace.specs.Limits.{thread_limit}
+use Rattle.std.specs.List.{list_any}
+use Rattle.std.proofs.lemmas.Bool.{eq-eqb}
 use Rattle.loom_tree.specs.Tree.{Source}
 use Rattle.loom_lang.specs.Trace.{Cause, Act, begin, end, trap, read, write, lock, unlock, down, up, spawn, join, print}
 use Rattle.loom_lang.specs.Acts.{Deed}
@@ -12,232 +12,106 @@ use Rattle.loom_trace.specs.declared.entry.What.{What}
 use Rattle.loom_trace.specs.declared.entry.What.TheVariants as w
 use Rattle.loom_trace.specs.declared.request.Request.{Request}
 use Rattle.loom_trace.specs.declared.request.Request.TheVariants as r
-use Rattle.loom_event.specs.TargetEvent.{event_of_deed}
-use Rattle.loom_event.specs.Answer.{grant_deed, trap_deed, trap_at, cause_of, request_for, IsEntryOf, IsAnswerTo, IsBlockedFor, IsFunctionWith, HasNumbers}
-use Rattle.loom_event.specs.Answer as event
-use Rattle.loom_event.specs.Entries.{thread_of, is_thread, thread_entries, is_some_thread, last_of_thread}
+use Rattle.loom_event.specs.TargetEvent.{entry_by, event_of_deed}
+use Rattle.loom_event.specs.Answer.{asks_begin, asks_operation, trap_deed, trap_at, cause_of, request_for, IsEntryOf, IsBlockedAt, IsFunctionWith, HasNumbers}
+use Rattle.loom_event.specs.Entries.{thread_of, thread_entries, is_some_thread}
 use Rattle.loom_event.specs.Replay.{ThreadState, Store, thread_at, after_event, after_act, IsDisabled}
-use Rattle.loom_law.specs.Control.{Control, control, first_control, entries_of}
-use Rattle.loom_law.specs.Lawful.{Lives, IsBlocked, IsBlockedBy, IsOpen}
+use Rattle.loom_law.specs.Walk.{Version}
+use Rattle.loom_law.specs.Control.{Holder, Command, Control, control, first_control, after_entry, entries_of}
+use Rattle.loom_lang.specs.Places.{nowhere}
+use Rattle.loom_law.specs.Filter.{has}
+use Rattle.loom_law.specs.Lawful.{plans, running_thread, Lives, IsDisabledFor, IsHeldByOther, IsBlocked, IsOpen, refusal}
 use Rattle.loom_law.specs.Laws.{IsUnfinished}
-use Rattle.loom_law.specs.TurnLaws.{is_blocked_entry, blocked_behind, ends_blocked}
-use Rattle.loom_law.proofs.Earlier.{IsOf, act_keeps, by_test, entry_thread}
+use Rattle.loom_law.specs.TurnLaws.{ends_blocked}
+use Rattle.loom_law.proofs.Earlier.{IsOf, act_keeps, entry_thread}
 use Rattle.loom_law.proofs.Obedience.{control_after_last}
-use Rattle.loom_strand.specs.Life.{IsLastBlockedFor}
+use Rattle.loom_ops.specs.Ops.{Ops}
+use Rattle.loom_ops.specs.Laws.{IsOpsOf, HasReplay}
+use Rattle.loom_ops.proofs.LockReplay.{replay}
+use Rattle.loom_strand.specs.Life.{awaits_end, asks_cross}
 use Rattle.loom_strand.specs.Strand.{IsReplyTo}
 use Rattle.loom_store.specs.declared.answer.Answer.{Answer}
 use Rattle.loom_store.specs.declared.answer.Answer.TheVariants as a
-use Rattle.loom_store.specs.Answer.{CanWait, Answers, IsTrapped, given_deed, deed_of}
+use Rattle.loom_store.specs.Answer.{CanWait, Answers, given_deed, deed_of}
 use Rattle.loom_store.specs.Laws.{LeadsTo}
 use Rattle.loom_store.proofs.Deeds.{deeds}
 use Rattle.loom_store.proofs.Sizes.{all_wait, lasting_waits}
+use Rattle.loom_world.specs.declared.operate.Made.{Made}
 use Rattle.loom_world.specs.Book.{Book, setting, front, HasLawfulJournal}
+use Rattle.loom_world.specs.Flags.{IsUnderWay, IsFlaggedNow}
 use Rattle.loom_world.specs.Idle.{IsClosed, CommandGoesFirst}
 use Rattle.loom_world.specs.Threads.{HasSameCall, KeepsThreads}
 use Rattle.loom_world.specs.Asking.{Asks, MakesAnswer}
-use Rattle.loom_world.specs.BookInvariant.{Notes, wait_in, wait_of, IsAtEnd, NoneGoesOn, BookInvariant}
+use Rattle.loom_world.specs.BookInvariant.{Notes, wait_in, wait_of, CanAwait, IsAtEnd, NoneGoesOn, HasVersion, BookInvariant}
 use Rattle.loom_world.specs.Entry.{line_in, IsGrantWith, IsEntryFor}
+use Rattle.loom_world.specs.Operating.{IsLockedFor, Locks, IsMade, Operates, Acts}
 use Rattle.loom_world.proofs.Counts.{count_last}
 use Rattle.loom_world.proofs.ControlState.{thread_keeps}
-use Rattle.loom_world.proofs.States.{IsSpawnedBy, fresh_state}
-use Rattle.loom_world.proofs.OpenTurns.{TakesEntries}
+use Rattle.loom_world.proofs.States.{IsSpawnedBy, fresh_state, other_state}
 use Rattle.loom_world.proofs.Going.{IsGoing}
-use Rattle.loom_world.proofs.LongerJournal.{IsAsking, answer_goes}
+use Rattle.loom_world.proofs.OpenTurns.{IsAsking}
+use Rattle.loom_world.proofs.LongerJournal.{answer_goes, operation_made}
 use Rattle.loom_world.proofs.Notes.{wait_of_entry, waits_more}
-use Rattle.loom_world.proofs.Ends.{front_is, plain_book, disabled_for, not_yes}
-use Rattle.loom_world.proofs.ControlTurns.{none_asked}
+use Rattle.loom_world.proofs.OwnVersions.{version_stays}
+use Rattle.loom_world.proofs.Replies.{not_told, store_replies, operation_replies}
+use Rattle.loom_world.proofs.StandsBehind.{runs_as, book_behind, stands_behind}
+use Rattle.loom_world.proofs.Ends.{front_is, not_yes}
+use Rattle.loom_world.proofs.ControlTurns.{asked_there, in_vain}
+use Rattle.loom_world.proofs.Switches.{nowhere_flagged}
 use Rattle.loom_world.proofs.InvariantReadings.{full_over, less_goes_on, not_full, not_finished}
-use Rattle.loom_world.proofs.CommandNotes.{book_with, room_with, noted}
+use Rattle.loom_world.proofs.CommandNotes.{room_with, noted}
 
--- The last entry of a thread
+-- The thread asks, and the run goes on
 
-abbrev last_in : Option Entry → List Entry → Option Entry
-last_in o [] = o
-last_in o (x ∷ xs) = last_in (Some x) xs
+less : (b : Book) (n : Notes) (k : BookInvariant b n) → (IsClosed b → ⊥) → (n.entry_count == b.limit) ≡ false
+less b n k goes_on = not_yes (n.entry_count == b.limit) (λ full. goes_on (inl (full_over b n k full)))
 
-last_is : (t : ℕ) (o : Option Entry) (es : List Entry) → last_of_thread t o es ≡ last_in o (entries_of t es)
-last_is t o [] = refl
-last_is t o (x ∷ xs) = by_test (is_thread t (thread_of x)) (last_of_thread t o (x ∷ xs) ≡ last_in o (entries_of t (x ∷ xs)))
-    (λ h. rw h (last_is t (Some x) xs))
-    (λ h. rw h (last_is t o xs))
-
-last_last : (o : Option Entry) (xs : List Entry) (x : Entry) → last_in o (xs ++ x ∷ []) ≡ Some x
-last_last o [] x = refl
-last_last o (y ∷ xs) x = last_last (Some y) xs x
-
--- the last of some entries is `Blocked`
-record EndsBlocked (es : List Entry) : Type 0 where
-  front : List Entry
-  last : Entry
-  is : es ≡ front ++ last ∷ []
-  blocked : is_blocked_entry last ≡ true
-
-ends_from : (x : Entry) (xs : List Entry) → blocked_behind (is_blocked_entry x) xs ≡ true → EndsBlocked (x ∷ xs)
-ends_from x [] h = record { front = []; last = x; is = refl; blocked = h }
-ends_from x (y ∷ xs) h = let more = ends_from y xs h in record { front = x ∷ more.front; last = more.last; is = ap (λ zs. x ∷ zs) more.is; blocked = more.blocked }
-
-ends_so : (es : List Entry) → ends_blocked es ≡ true → EndsBlocked es
-ends_so [] h = cc
-ends_so (x ∷ xs) h = ends_from x xs h
-
--- what a request is blocked at
-what_in : (t : ℕ) (q : Request) (x : Entry) → IsBlockedFor t q x → (k : ℕ) (what : What) → request_for k what ≡ Some q → x ≡ e.Blocked t k what
-what_in t q x h k (w.Lock n) is = let same : r.Lock k n ≡ q = cc in subst (λ z. IsBlockedFor t z x) (sym same) h
-what_in t q x h k (w.Down n) is = let same : r.Down k n ≡ q = cc in subst (λ z. IsBlockedFor t z x) (sym same) h
-what_in t q x h k (w.Join c) is = let same : r.Join k (pos c) ≡ q = cc in subst (λ z. IsBlockedFor t z x) (sym same) h
-what_in t q x h k (w.Enter i c) is = cc
-what_in t q x h k (w.Wait i n) is = cc
-
--- Where its last entry is `Blocked`, it is so for what its request waits for.
-last_what : (b : Book) (t : ℕ) (q : Request) → IsLastBlockedFor t q (entries_of t b.entries) → ends_blocked (entries_of t b.entries) ≡ true → (k : ℕ) (what : What) → request_for k what ≡ Some q
-    → last_of_thread t None b.entries ≡ Some (e.Blocked t k what)
-last_what b t q last told k what is =
-    let l = ends_so (entries_of t b.entries) told in
-    let named : l.last ≡ e.Blocked t k what = what_in t q l.last (last l.front l.last l.is l.blocked) k what is in
-    last_is t None b.entries ∙ (ap (last_in None) l.is ∙ (last_last None l.front l.last ∙ ap Some named))
-
--- A disabled request, where the thread isn't blocked: its last entry isn't `Blocked`.
-not_told : (b : Book) (n : Notes) (k : BookInvariant b n) (t : ℕ) (q : Request) → Asks b t q → (IsBlocked (setting b) (front b) t → ⊥) → (l : ℕ) (what : What) → request_for l what ≡ Some q → IsDisabled b.store what
-    → ends_blocked (entries_of t b.entries) ≡ false
-not_told b n k t q asks free l what is disabled = by_last (ends_blocked (entries_of t b.entries)) refl
+-- Where a thread can go on no command was left out.
+not_closing : (b : Book) (n : Notes) (k : BookInvariant b n) → (IsClosed b → ⊥) → (t : ℕ) → Lives b.store t → (IsBlocked (setting b) (front b) t → ⊥) → n.closing ≡ false
+not_closing b n k goes_on t lives free = not_yes n.closing (λ is. none (k.commands.ends is))
   where
-    by_last : (c : Bool) → ends_blocked (entries_of t b.entries) ≡ c → ends_blocked (entries_of t b.entries) ≡ false
-    by_last false told = told
-    by_last true told =
-        let last = last_what b t q asks.blocked told l what is in
-        let blocked : IsBlocked (setting b) (front b) t =
-        subst (λ z. IsBlockedBy (setting b) (front b) t z) (sym last) (disabled_for b t what (all_wait b.store what disabled) disabled, (plain_book b k.journal).lists t) in
-        absurd (free blocked)
+    none : NoneGoesOn b → ⊥
+    none (inl over) = goes_on (inl over)
+    none (inr blocked) = free (blocked t lives)
 
--- What the entry says
-
-grant_answers : (t : ℕ) (q : Request) (v : ℤ) (x : Entry) → IsGrantWith t q v x → IsAnswerTo t q x
-grant_answers t (r.Begin l) v x h = inl (v, h)
-grant_answers t (r.End l) v x h = inl (v, h)
-grant_answers t (r.Trap l n) v x h = inr h
-grant_answers t (r.Read l w) v x h = inl (v, h)
-grant_answers t (r.Write l w u) v x h = inl (v, h)
-grant_answers t (r.Lock l m) v x h = inl (v, h)
-grant_answers t (r.Unlock l m) v x h = inl (v, h)
-grant_answers t (r.Down l k) v x h = inl (v, h)
-grant_answers t (r.Up l k) v x h = inl (v, h)
-grant_answers t (r.Spawn l g us) v x h = inl (v, h)
-grant_answers t (r.Join l u) v x h = inl (v, h)
-grant_answers t (r.Print l u) v x h = inl (v, h)
-grant_answers t (r.Tick l k) v x h = h
-grant_answers t _ v x h = absurd h
-
-trap_answers : (t : ℕ) (q : Request) (x : Entry) → IsEntryOf t (trap_deed q) x → IsAnswerTo t q x
-trap_answers t (r.Begin l) x h = inr h
-trap_answers t (r.End l) x h = inr h
-trap_answers t (r.Trap l n) x h = inr h
-trap_answers t (r.Read l w) x h = inr h
-trap_answers t (r.Write l w u) x h = inr h
-trap_answers t (r.Lock l m) x h = inr h
-trap_answers t (r.Unlock l m) x h = inr h
-trap_answers t (r.Down l k) x h = inr h
-trap_answers t (r.Up l k) x h = inr h
-trap_answers t (r.Spawn l g us) x h = inr h
-trap_answers t (r.Join l u) x h = inr h
-trap_answers t (r.Print l u) x h = inr h
-trap_answers t _ x h = absurd h
-
-line_of_what : (k : ℕ) (what : What) (q : Request) → request_for k what ≡ Some q → line_in q ≡ k
-line_of_what k (w.Lock n) q is = let same : r.Lock k n ≡ q = cc in ap line_in (sym same)
-line_of_what k (w.Down n) q is = let same : r.Down k n ≡ q = cc in ap line_in (sym same)
-line_of_what k (w.Join c) q is = let same : r.Join k (pos c) ≡ q = cc in ap line_in (sym same)
-line_of_what k (w.Enter i c) q is = cc
-line_of_what k (w.Wait i n) q is = cc
-
-told_blocked : (t k : ℕ) (what : What) (q : Request) (x : Entry) → request_for k what ≡ Some q → x ≡ e.Blocked t k what → IsBlockedFor t q x
-told_blocked t k (w.Lock n) q x is h = let same : r.Lock k n ≡ q = cc in subst (λ z. IsBlockedFor t z x) same h
-told_blocked t k (w.Down n) q x is h = let same : r.Down k n ≡ q = cc in subst (λ z. IsBlockedFor t z x) same h
-told_blocked t k (w.Join c) q x is h = let same : r.Join k (pos c) ≡ q = cc in subst (λ z. IsBlockedFor t z x) same h
-told_blocked t k (w.Enter i c) q x is h = cc
-told_blocked t k (w.Wait i n) q x is h = cc
-
--- Behind `Blocked` the answer grants: the request isn't disabled, and what a thread can wait for is no trap.
-
--- the request of an entry that tells it as blocked
-record IsWaiting (t : ℕ) (q : Request) (x : Entry) : Type 0 where
-  line : ℕ
-  what : What
-  request : request_for line what ≡ Some q
-  is : x ≡ e.Blocked t line what
-
-waiting : (t : ℕ) (q : Request) (x : Entry) → IsBlockedFor t q x → IsWaiting t q x
-waiting t (r.Lock l m) x h = record { line = l; what = w.Lock m; request = refl; is = h }
-waiting t (r.Down l m) x h = record { line = l; what = w.Down m; request = refl; is = h }
-waiting t (r.Join l (pos c)) x h = record { line = l; what = w.Join c; request = refl; is = h }
-waiting t (r.Join l (negsuc c)) x h = absurd h
-waiting t _ x h = absurd h
-
-no_trap : (st : Store) (t l k : ℕ) (what : What) (q : Request) → request_for l what ≡ Some q → CanWait st what → IsTrapped st t q k → ⊥
-no_trap st t l k (w.Lock m) q is can h = let same : r.Lock l m ≡ q = cc in subst (λ z. IsTrapped st t z k) (sym same) h
-no_trap st t l k (w.Down m) q is can h = let same : r.Down l m ≡ q = cc in subst (λ z. IsTrapped st t z k) (sym same) h
-no_trap st t l k (w.Join c) q is can h =
-    let same : r.Join l (pos c) ≡ q = cc in
-    let trap_there : IsTrapped st t (r.Join l (pos c)) k = subst (λ z. IsTrapped st t z k) (sym same) h in
-    let none : thread_at st c ≡ None = trap_there.1.1 c refl in
-    let no : None ≡ Some can.0 = sym none ∙ can.1 in cc
-no_trap st t l k (w.Enter i c) q is can h = cc
-no_trap st t l k (w.Wait i n) q is can h = cc
-
-same_what : (l m : ℕ) (what that : What) (q : Request) → request_for l what ≡ Some q → request_for m that ≡ Some q → (t : ℕ) → e.Blocked t l what ≡ e.Blocked t m that
-same_what l m what that q is so t = what_in t q (e.Blocked t l what) (told_blocked t l what q (e.Blocked t l what) is refl) m that so
-
-grant_so : (t l : ℕ) (what : What) (q : Request) (v : ℤ) (x : Entry) → request_for l what ≡ Some q → IsGrantWith t q v x → event.IsGrantOf t q x
-grant_so t l (w.Lock m) q v x is h = let same : r.Lock l m ≡ q = cc in (v, subst (λ z. IsEntryOf t (grant_deed z v) x) same (subst (λ z. IsGrantWith t z v x) (sym same) h))
-grant_so t l (w.Down m) q v x is h = let same : r.Down l m ≡ q = cc in (v, subst (λ z. IsEntryOf t (grant_deed z v) x) same (subst (λ z. IsGrantWith t z v x) (sym same) h))
-grant_so t l (w.Join c) q v x is h = let same : r.Join l (pos c) ≡ q = cc in (v, subst (λ z. IsEntryOf t (grant_deed z v) x) same (subst (λ z. IsGrantWith t z v x) (sym same) h))
-grant_so t l (w.Enter i c) q v x is h = cc
-grant_so t l (w.Wait i n) q v x is h = cc
-
-next : (t : ℕ) → 1 ≤ t → suc (t - 1) ≡ t
-next t h = omega (arith, h)
-
--- what it is blocked at, a thread can wait for
-can_still : (b : Book) (n : Notes) (k : BookInvariant b n) (t l : ℕ) (what : What) → 1 ≤ t → t ≤ thread_limit → last_of_thread t None b.entries ≡ Some (e.Blocked t l what) → CanWait b.store what
-can_still b n k t l what first last is =
-    let there : t - 1 < length n.waits = omega (arith, first, last, k.waits.count) in
-    let note : slice_get n.waits (t - 1) ≡ Some (get_or n.waits (t - 1) None) = slice_get-get_or n.waits (t - 1) None there in
-    let says : get_or n.waits (t - 1) None ≡ Some what =
-    k.waits.each (t - 1) (get_or n.waits (t - 1) None) note ∙ ap wait_in (ap (λ z. last_of_thread z None b.entries) (next t first) ∙ is) in
-    k.waits.can (t - 1) what (note ∙ ap Some says)
-
--- Where it was told so, what it waits for isn't disabled now.
-enabled : (b : Book) (n : Notes) (k : BookInvariant b n) (t : ℕ) (l : ℕ) (what : What) → (IsBlocked (setting b) (front b) t → ⊥) → last_of_thread t None b.entries ≡ Some (e.Blocked t l what)
-    → IsDisabled b.store what → ⊥
-enabled b n k t l what free last disabled =
-    free (subst (λ z. IsBlockedBy (setting b) (front b) t z) (sym last) (disabled_for b t what (all_wait b.store what disabled) disabled, (plain_book b k.journal).lists t))
-
-blocked_what : (t l m : ℕ) (what that : What) → e.Blocked t l what ≡ e.Blocked t m that → what ≡ that
-blocked_what t l m what that h = cc
-
--- The entry replies to the request.
-replies : (b : Book) (n : Notes) (k : BookInvariant b n) (t : ℕ) (q : Request) → 1 ≤ t → t ≤ thread_limit → Asks b t q → (IsBlocked (setting b) (front b) t → ⊥)
-    → (y : Answer) (x : Entry) (new : Store) → Answers b.store t q y new → IsEntryFor t q y x → IsReplyTo (ends_blocked (entries_of t b.entries)) t (Some q) x
-replies b n k t q first last asks free y x new answers tells = by_last (ends_blocked (entries_of t b.entries)) refl
+not_refused_there : (b : Book) → (CommandGoesFirst b → ⊥) → (j : ℕ) → Control.asked (front b).control ≡ Some j → refusal (setting b) (front b).control j ≡ None
+not_refused_there b no_command j is = by_why (refusal (setting b) (front b).control j) refl
   where
-    fresh : (y : Answer) → Answers b.store t q y new → IsEntryFor t q y x → IsAnswerTo t q x ⊎ IsBlockedFor t q x
-    fresh (a.Granted v) h g = inl (grant_answers t q v x g)
-    fresh (a.Trapped m) h g = inl (trap_answers t q x g)
-    fresh (a.Disabled what) h g = inr (told_blocked t h.0.0 what q x h.0.1 (g ∙ ap (λ z. e.Blocked t z what) (line_of_what h.0.0 what q h.0.1)))
+    by_why : (o : Option (ℕ × ℕ)) → refusal (setting b) (front b).control j ≡ o → refusal (setting b) (front b).control j ≡ None
+    by_why None why = why
+    by_why (Some x) why = absurd (no_command (inr (in_vain b j x is why)))
 
-    again : (y : Answer) → (l : ℕ) (what : What) → request_for l what ≡ Some q → CanWait b.store what → (IsDisabled b.store what → ⊥) → Answers b.store t q y new → IsEntryFor t q y x → event.IsGrantOf t q x
-    again (a.Granted v) l what is can not h g = grant_so t l what q v x is g
-    again (a.Trapped m) l what is can not h g = absurd (no_trap b.store t l m what q is can h.0)
-    again (a.Disabled that) l what is can not h g =
-        absurd (not (subst (IsDisabled b.store) (sym (blocked_what t l h.0.0 what that (same_what l h.0.0 what that q is h.0.1 t))) h.1.0))
+-- a command that is asked isn't refused, where none goes first
+pub under_way : (b : Book) → (CommandGoesFirst b → ⊥) → (j : ℕ) → Control.asked (front b).control ≡ Some j → IsUnderWay b j
+under_way b no_command j is = record { asked = is; not_refused = not_refused_there b no_command j is }
 
-    by_last : (c : Bool) → ends_blocked (entries_of t b.entries) ≡ c → IsReplyTo (ends_blocked (entries_of t b.entries)) t (Some q) x
-    by_last false told = subst (λ c. IsReplyTo c t (Some q) x) (sym told) (fresh y answers tells)
-    by_last true told =
-        let l = ends_so (entries_of t b.entries) told in
-        let waits = waiting t q l.last (asks.blocked l.front l.last l.is l.blocked) in
-        let there = last_what b t q asks.blocked told waits.line waits.what waits.request in
-        subst (λ c. IsReplyTo c t (Some q) x) (sym told)
-        (again y waits.line waits.what waits.request (can_still b n k t waits.line waits.what first last there) (enabled b n k t waits.line waits.what free there) answers tells)
+-- and it flags place 0
+pub flags_nowhere : (b : Book) → HasLawfulJournal b → (j : ℕ) → IsUnderWay b j → IsFlaggedNow b nowhere
+flags_nowhere b h j u =
+    let there = asked_there b h j u.asked in
+    record { command = j; under_way = u; flagged = nowhere_flagged b j there.0 there.1 u.not_refused }
+
+pub asking : (b : Book) (n : Notes) (k : BookInvariant b n) → (IsClosed b → ⊥) → (CommandGoesFirst b → ⊥) → (t : ℕ) (q : Request) → Asks b t q → (IsBlocked (setting b) (front b) t → ⊥) → IsAsking b t q
+asking b n k goes_on no_command t q asks free = record {
+  going = record {
+    lawful = k.journal.lawful;
+    store = k.journal.store;
+    exclusions = k.journal.plans.exclusions;
+    goes_on = λ kind h. goes_on (inr (kind, h));
+    far = k.far;
+    few = k.few_threads;
+  };
+  goes_on = subst (IsOpen (setting b)) (sym (front_is b k.journal))
+      (record {
+        runs = less_goes_on b n k (less b n k goes_on);
+        not_closing = sym k.commands.closing ∙ not_closing b n k goes_on t (record { state = asks.state; is = asks.there; not_ended = asks.lives }) free;
+        not_due = λ due. no_command (inl due);
+        not_refused = λ j is. not_refused_there b no_command j is;
+      });
+  under_way = under_way b no_command;
+  flagged = flags_nowhere b k.journal;
+  asks = asks;
+}
 
 -- The store behind an answer
 
@@ -251,17 +125,6 @@ keeps_deed st new t q (Some d) h u x is = found (thread_at new u) refl
     found : (o : Option ThreadState) → thread_at new u ≡ o → (y : ThreadState) × (thread_at new u ≡ Some y) × HasSameCall x y
     found None e = absurd (subst (IsOf (Some x)) e kept)
     found (Some y) e = let k = subst (IsOf (Some x)) e kept in (y, e, record { func = sym k.0; args = sym k.1 })
-
-waits_last : (st new : Store) (t : ℕ) (q : Request) (o : Option Deed) → LeadsTo st t q o new → (what : What) → CanWait st what → CanWait new what
-waits_last st new t q None h what can = subst (λ z. CanWait z what) (sym h) can
-waits_last st new t q (Some d) h what can = subst (λ z. CanWait z what) (sym h.1.1) (lasting_waits st (event_of_deed t d ∷ []) what can)
-
-waits_now : (st new : Store) (t : ℕ) (q : Request) (y : Answer) → Answers st t q y new → (what : What) → wait_of y ≡ Some what → CanWait new what
-waits_now st new t q (a.Granted v) h what is = cc
-waits_now st new t q (a.Trapped m) h what is = cc
-waits_now st new t q (a.Disabled that) h what is =
-    let same : that ≡ what = cc in
-    subst (λ z. CanWait z what) (sym h.1.1) (all_wait st what (subst (IsDisabled st) same h.1.0))
 
 -- Threads have functions of the program
 
@@ -344,60 +207,6 @@ functions_more : (p : Source) (st new : Store) (t : ℕ) (q : Request) (o : Opti
 functions_more p st new t q None h g leads = subst (HaveFunctions p) (sym leads) h
 functions_more p st new t q (Some d) h g leads = subst (HaveFunctions p) (sym leads.1.1) (act_functions p st t d.act h g)
 
--- The whole
-
-going : (b : Book) (n : Notes) (k : BookInvariant b n) → (IsClosed b → ⊥) → IsGoing b.program b.commands b.limit b.entries b.store
-going b n k goes_on = record {
-  lawful = k.journal.lawful;
-  store = k.journal.store;
-  installs = k.journal.installs;
-  goes_on = λ kind h. goes_on (inr (kind, h));
-  far = k.far;
-  versions = k.versions;
-  few = k.few_threads;
-}
-
-less : (b : Book) (n : Notes) (k : BookInvariant b n) → (IsClosed b → ⊥) → (n.entry_count == b.limit) ≡ false
-less b n k goes_on = not_yes (n.entry_count == b.limit) (λ full. goes_on (inl (full_over b n k full)))
-
--- Where a thread can go on no command was left out.
-not_closing : (b : Book) (n : Notes) (k : BookInvariant b n) → (IsClosed b → ⊥) → (t : ℕ) → Lives b.store t → (IsBlocked (setting b) (front b) t → ⊥) → n.closing ≡ false
-not_closing b n k goes_on t lives free = not_yes n.closing (λ is. none (k.commands.ends is))
-  where
-    none : NoneGoesOn b → ⊥
-    none (inl over) = goes_on (inl over)
-    none (inr blocked) = free (blocked t lives)
-
-takes : (b : Book) (n : Notes) (k : BookInvariant b n) → (IsClosed b → ⊥) → (CommandGoesFirst b → ⊥) → (t : ℕ) → Lives b.store t → (IsBlocked (setting b) (front b) t → ⊥)
-    → TakesEntries (setting b) b.entries k.journal.lawful
-takes b n k goes_on no_command t lives free =
-    let none = none_asked b k.journal no_command in
-    record {
-      installs = k.journal.installs;
-      unfinished = λ kind h. goes_on (inr (kind, h));
-      goes_on = subst (IsOpen (setting b)) (sym (front_is b k.journal))
-          (record {
-            runs = less_goes_on b n k (less b n k goes_on);
-            not_closing = sym k.commands.closing ∙ not_closing b n k goes_on t lives free;
-            not_due = λ due. no_command (inl due);
-            not_refused = λ j is. (let no : None ≡ Some j = sym none ∙ is in cc);
-          });
-      answered = none;
-    }
-
-asking : (b : Book) (n : Notes) (k : BookInvariant b n) (goes_on : IsClosed b → ⊥) → (CommandGoesFirst b → ⊥) → (t : ℕ) (q : Request) → Asks b t q → (IsBlocked (setting b) (front b) t → ⊥)
-    → IsAsking b.program b.commands b.limit b.entries b.store t q
-unfolding going
-asking b n k goes_on no_command t q asks free = record {
-  going = going b n k goes_on;
-  takes = takes b n k goes_on no_command t (record { state = asks.state; is = asks.there; not_ended = asks.lives }) free;
-  state = asks.state;
-  there = asks.there;
-  lives = asks.lives;
-  next = asks.next;
-  begins = asks.begins;
-}
-
 entry_of_deed : (t : ℕ) (o : Option Deed) (x : Entry) → IsEntryOf t o x → thread_of x ≡ Some t
 entry_of_deed t None x h = absurd h
 entry_of_deed t (Some d) x h = ap thread_of h ∙ entry_thread t d.line d.act
@@ -423,55 +232,307 @@ entry_by_thread t q (a.Granted v) x h = entry_of_grant t q v x h
 entry_by_thread t q (a.Disabled what) x h = ap thread_of h
 entry_by_thread t q (a.Trapped m) x h = entry_of_deed t (trap_deed q) x h
 
+waits_last : (st new : Store) (t : ℕ) (q : Request) (o : Option Deed) → LeadsTo st t q o new → (what : What) → CanWait st what → CanWait new what
+waits_last st new t q None h what can = subst (λ z. CanWait z what) (sym h) can
+waits_last st new t q (Some d) h what can = subst (λ z. CanWait z what) (sym h.1.1) (lasting_waits st (event_of_deed t d ∷ []) what can)
+
+awaits_last : (st new : Store) (t : ℕ) (q : Request) (o : Option Deed) → LeadsTo st t q o new → (what : What) → CanAwait st what → CanAwait new what
+awaits_last st new t q o h (w.Enter k c) can = tt
+awaits_last st new t q o h (w.Lock m) can = waits_last st new t q o h (w.Lock m) can
+awaits_last st new t q o h (w.Down m) can = waits_last st new t q o h (w.Down m) can
+awaits_last st new t q o h (w.Join c) can = waits_last st new t q o h (w.Join c) can
+awaits_last st new t q o h (w.Wait k n) can = waits_last st new t q o h (w.Wait k n) can
+
+can_await : (st : Store) (what : What) → CanWait st what → CanAwait st what
+can_await st (w.Enter k c) can = tt
+can_await st (w.Lock m) can = can
+can_await st (w.Down m) can = can
+can_await st (w.Join c) can = can
+can_await st (w.Wait k n) can = can
+
+waits_now : (st new : Store) (t : ℕ) (q : Request) (y : Answer) → Answers st t q y new → (what : What) → wait_of y ≡ Some what → CanAwait new what
+waits_now st new t q (a.Granted v) h what is = cc
+waits_now st new t q (a.Trapped m) h what is = cc
+waits_now st new t q (a.Disabled that) h what is =
+    let same : that ≡ what = cc in
+    can_await new what (subst (λ z. CanWait z what) (sym h.1.1) (all_wait st what (subst (IsDisabled st) same h.1.0)))
+
+-- Threads that run
+
+still_none : (st : Store) (t u : ℕ) (c : Act) → thread_at (after_act st t c) u ≡ None → thread_at st u ≡ None
+still_none st t u c none = by_there (thread_at st u) refl
+  where
+    by_there : (o : Option ThreadState) → thread_at st u ≡ o → thread_at st u ≡ None
+    by_there None is = is
+    by_there (Some x) is = absurd (subst (IsOf (Some x)) none (subst (λ z. IsOf z (thread_at (after_act st t c) u)) is (act_keeps st t c u)))
+
+differ : (m n : ℕ) → (m == n) ≡ false → m ≡ n → ⊥
+differ m n other same = let yes : (m == n) ≡ true = eq-eqb m n same in let no : true ≡ false = sym yes ∙ other in cc
+
+runs_behind : (st new : Store) (t : ℕ) (q : Request) (o : Option Deed) → LeadsTo st t q o new → (u : ℕ) → (t == u) ≡ false → running_thread (thread_at new u) ≡ running_thread (thread_at st u)
+runs_behind st new t q None h u other = ap (λ (z : Store). running_thread (thread_at z u)) h
+runs_behind st new t q (Some d) h u other =
+    ap (λ (z : Store). running_thread (thread_at z u)) h.1.1
+    ∙ runs_as st (thread_at (after_act st t d.act) u) u (λ y is. other_state st t u d.act y (differ t u other) is) (still_none st t u d.act)
+
+-- Locks
+
+act_control : (cs : List Command) (c : Control) (t l : ℕ) (d : Act) → after_entry cs c (entry_by t l d) ≡ c
+act_control cs c t l begin = refl
+act_control cs c t l end = refl
+act_control cs c t l (trap x) = refl
+act_control cs c t l (read x v) = refl
+act_control cs c t l (write x v) = refl
+act_control cs c t l (lock m) = refl
+act_control cs c t l (unlock m) = refl
+act_control cs c t l (down m) = refl
+act_control cs c t l (up m) = refl
+act_control cs c t l (spawn u f vs) = refl
+act_control cs c t l (join u) = refl
+act_control cs c t l (print v) = refl
+
+deed_control : (cs : List Command) (c : Control) (t : ℕ) (o : Option Deed) (x : Entry) → IsEntryOf t o x → after_entry cs c x ≡ c
+deed_control cs c t None x h = absurd h
+deed_control cs c t (Some d) x h = ap (after_entry cs c) h ∙ act_control cs c t d.line d.act
+
+grant_control : (cs : List Command) (c : Control) (t : ℕ) (q : Request) (v : ℤ) (x : Entry) → IsGrantWith t q v x → after_entry cs c x ≡ c
+grant_control cs c t (r.Begin l) v x h = deed_control cs c t (given_deed (r.Begin l) v) x h
+grant_control cs c t (r.End l) v x h = deed_control cs c t (given_deed (r.End l) v) x h
+grant_control cs c t (r.Trap l n) v x h = deed_control cs c t (given_deed (r.Trap l n) v) x h
+grant_control cs c t (r.Read l i) v x h = deed_control cs c t (given_deed (r.Read l i) v) x h
+grant_control cs c t (r.Write l i u) v x h = deed_control cs c t (given_deed (r.Write l i u) v) x h
+grant_control cs c t (r.Lock l m) v x h = deed_control cs c t (given_deed (r.Lock l m) v) x h
+grant_control cs c t (r.Unlock l m) v x h = deed_control cs c t (given_deed (r.Unlock l m) v) x h
+grant_control cs c t (r.Down l m) v x h = deed_control cs c t (given_deed (r.Down l m) v) x h
+grant_control cs c t (r.Up l m) v x h = deed_control cs c t (given_deed (r.Up l m) v) x h
+grant_control cs c t (r.Spawn l g us) v x h = deed_control cs c t (given_deed (r.Spawn l g us) v) x h
+grant_control cs c t (r.Join l u) v x h = deed_control cs c t (given_deed (r.Join l u) v) x h
+grant_control cs c t (r.Print l u) v x h = deed_control cs c t (given_deed (r.Print l u) v) x h
+grant_control cs c t (r.Tick l k) v x h = ap (after_entry cs c) h
+grant_control cs c t _ v x h = absurd h
+
+answer_control : (cs : List Command) (c : Control) (t : ℕ) (q : Request) (y : Answer) (x : Entry) → IsEntryFor t q y x → after_entry cs c x ≡ c
+answer_control cs c t q (a.Granted v) x h = grant_control cs c t q v x h
+answer_control cs c t q (a.Disabled what) x h = ap (after_entry cs c) h
+answer_control cs c t q (a.Trapped n) x h = deed_control cs c t (trap_deed q) x h
+
+-- What came of it
+
+-- with the entry the journal goes on, and what the book notes is right
+pub record IsOutcome (b : Book) (n : Notes) (t : ℕ) (q : Request) (m : Made) (st : Store) (o : Ops) : Type 0 where
+  pub of : thread_of m.entry ≡ Some t
+  pub more : IsGoing b.program b.commands b.limit (b.entries ++ m.entry ∷ []) st
+  pub replies : IsReplyTo (ends_blocked (entries_of t b.entries)) (awaits_end (entries_of t b.entries)) t (Some q) m.entry
+  pub runs : (u : ℕ) → (t == u) ≡ false → running_thread (thread_at st u) ≡ running_thread (thread_at b.store u)
+  pub locks : IsOpsOf (plans (setting b)) (after_entry b.commands (front b).control m.entry) o
+  pub says : wait_in (Some m.entry) ≡ m.wait
+  pub await_still : (what : What) → CanAwait b.store what → CanAwait st what
+  pub await_now : (what : What) → m.wait ≡ Some what → CanAwait st what
+  pub functions : HaveFunctions b.program st
+  pub threads : KeepsThreads b.store st
+
+-- what is disabled of a store
+disabled_named : (t l : ℕ) (what : What) (q : Request) → request_for l what ≡ Some q → (asks_begin q ≡ false) × ((asks_cross q ≡ false) × ((line_in q ≡ l) × IsBlockedAt t q (e.Blocked t l what)))
+disabled_named t l (w.Lock m) q is = let same : r.Lock l m ≡ q = cc in subst (λ z. (asks_begin z ≡ false) × ((asks_cross z ≡ false) × ((line_in z ≡ l) × IsBlockedAt t z (e.Blocked t l (w.Lock m))))) same (refl, (refl, (refl, refl)))
+disabled_named t l (w.Down m) q is = let same : r.Down l m ≡ q = cc in subst (λ z. (asks_begin z ≡ false) × ((asks_cross z ≡ false) × ((line_in z ≡ l) × IsBlockedAt t z (e.Blocked t l (w.Down m))))) same (refl, (refl, (refl, refl)))
+disabled_named t l (w.Join c) q is = let same : r.Join l (pos c) ≡ q = cc in subst (λ z. (asks_begin z ≡ false) × ((asks_cross z ≡ false) × ((line_in z ≡ l) × IsBlockedAt t z (e.Blocked t l (w.Join c))))) same (refl, (refl, (refl, refl)))
+disabled_named t l (w.Enter k c) q is = cc
+disabled_named t l (w.Wait k n) q is = cc
+
+disabled_there : (b : Book) (t : ℕ) (what : What) → IsDisabled b.store what → IsDisabledFor (setting b) (front b) t what
+disabled_there b t (w.Lock m) d = d
+disabled_there b t (w.Down m) d = d
+disabled_there b t (w.Join c) d = d
+disabled_there b t (w.Enter k c) d = absurd d
+disabled_there b t (w.Wait k n) d = absurd d
+
+pub act_outcome : (b : Book) (n : Notes) (k : BookInvariant b n) (t : ℕ) (q : Request) → IsAsking b t q → (IsBlocked (setting b) (front b) t → ⊥) → asks_operation q ≡ false → (m : Made) (st : Store) (o : Ops)
+    → Acts b.store t q m st → o ≡ n.ops → IsOutcome b n t q m st o
+act_outcome b n k t q h free act m st o acts same =
+    let y : Answer = acts.answer in
+    let leads = deeds b.store t q y st acts.answers in
+    let told : (what : What) → y ≡ a.Disabled what → IsBlockedAt t q m.entry × (ends_blocked (entries_of t b.entries) ≡ false) =
+    λ what is. (
+    let d = subst (λ z. Answers b.store t q z st) is acts.answers in
+    let named = disabled_named t d.0.0 what q d.0.1 in
+    let entry : m.entry ≡ e.Blocked t d.0.0 what = subst (λ z. IsEntryFor t q z m.entry) is acts.entry ∙ ap (λ z. e.Blocked t z what) named.1.1.0 in
+    (subst (IsBlockedAt t q) (sym entry) named.1.1.1, not_told h.asks free named.0 named.1.0 d.0.0 what named.1.1.1 (disabled_there b t what d.1.0)))
+    in
+    let stays : after_entry b.commands (front b).control m.entry ≡ (front b).control = answer_control b.commands (front b).control t q y m.entry acts.entry in
+    record {
+      of = entry_by_thread t q y m.entry acts.entry;
+      more = answer_goes q h y m.entry st acts.answers acts.entry (λ what is. (told what is).1);
+      replies = store_replies h act y m.entry st acts.answers acts.entry told;
+      runs = runs_behind b.store st t q (deed_of q y) leads;
+      locks = subst (λ c. IsOpsOf (plans (setting b)) c o) (sym stays) (subst (IsOpsOf (plans (setting b)) (front b).control) (sym same) k.version.ops);
+      says = wait_of_entry t q y m.entry acts.entry ∙ sym acts.wait;
+      await_still = awaits_last b.store st t q (deed_of q y) leads;
+      await_now = λ what is. waits_now b.store st t q y acts.answers what (sym acts.wait ∙ is);
+      functions = functions_more b.program b.store st t q (deed_of q y) k.functions (deed_function b.program q y (h.asks.numbers act)) leads;
+      threads = keeps_deed b.store st t q (deed_of q y) leads;
+    }
+
+-- the entry of an operation, and what it does to the locks
+record IsOperation (b : Book) (t : ℕ) (q : Request) (m : Made) (o : Ops) : Type 0 where
+  of : thread_of m.entry ≡ Some t
+  locks : IsOpsOf (plans (setting b)) (after_entry b.commands (front b).control m.entry) o
+  says : wait_in (Some m.entry) ≡ m.wait
+  awaits : (what : What) → m.wait ≡ Some what → CanAwait b.store what
+  told : (what : What) → m.wait ≡ Some what → IsBlockedAt t q m.entry × (ends_blocked (entries_of t b.entries) ≡ false)
+
+-- where nothing is waited for
+operation_by : (b : Book) (t : ℕ) (q : Request) (m : Made) (o : Ops) (x : Entry) → m.entry ≡ x → m.wait ≡ None → thread_of x ≡ Some t → wait_in (Some x) ≡ None
+    → IsOpsOf (plans (setting b)) (after_entry b.commands (front b).control x) o → IsOperation b t q m o
+operation_by b t q m o x is none of says locks = record {
+  of = ap thread_of is ∙ of;
+  locks = subst (λ y. IsOpsOf (plans (setting b)) (after_entry b.commands (front b).control y) o) (sym is) locks;
+  says = ap (λ y. wait_in (Some y)) is ∙ (says ∙ sym none);
+  awaits = λ what some. (let no : None ≡ Some what = sym none ∙ some in cc);
+  told = λ what some. (let no : None ≡ Some what = sym none ∙ some in cc);
+}
+
+operation : (b : Book) (n : Notes) (k : BookInvariant b n) (t : ℕ) (q : Request) → Asks b t q → (IsBlocked (setting b) (front b) t → ⊥) → asks_operation q ≡ true → (m : Made) (o : Ops)
+    → Operates n.ops t q m o → IsOperation b t q m o
+operation b n k t (r.At l j ns) asks free is m o op =
+    operation_by b t (r.At l j ns) m o (e.At t l j ns) (subst (λ z. IsMade t (r.At l j ns) z m) op.0.0 op.1) op.0.0 refl refl (subst (IsOpsOf (plans (setting b)) (front b).control) (sym op.0.1) k.version.ops)
+operation b n k t (r.Past l j ns) asks free is m o op =
+    operation_by b t (r.Past l j ns) m o (e.Past t l j ns) (subst (λ z. IsMade t (r.Past l j ns) z m) op.0.0 op.1) op.0.0 refl refl (subst (IsOpsOf (plans (setting b)) (front b).control) (sym op.0.1) k.version.ops)
+operation b n k t (r.Back l) asks free is m o op =
+    operation_by b t (r.Back l) m o (e.Back t l) (subst (λ z. IsMade t (r.Back l) z m) op.0.0 op.1) op.0.0 refl refl (subst (IsOpsOf (plans (setting b)) (front b).control) (sym op.0.1) k.version.ops)
+operation b n k t (r.Cross l y v i) asks free is m o op =
+    operation_by b t (r.Cross l y v i) m o (e.Cross t l y v i) (subst (λ z. IsMade t (r.Cross l y v i) z m) op.0.0 op.1) op.0.0 refl refl (subst (IsOpsOf (plans (setting b)) (front b).control) (sym op.0.1) k.version.ops)
+operation b n k t (r.Post l j i) asks free is m o op =
+    operation_by b t (r.Post l j i) m o (e.Post t l j i) (subst (λ z. IsMade t (r.Post l j i) z m) op.0.0 op.1) op.0.0 refl refl (subst (IsOpsOf (plans (setting b)) (front b).control) (sym op.0.1) k.version.ops)
+operation b n k t (r.Wait l j i) asks free is m o op =
+    operation_by b t (r.Wait l j i) m o (e.Wait t l j i) (subst (λ z. IsMade t (r.Wait l j i) z m) op.0.0 op.1) op.0.0 refl refl (subst (IsOpsOf (plans (setting b)) (front b).control) (sym op.0.1) k.version.ops)
+operation b n k t (r.Leave l j c) asks free is m o op =
+    operation_by b t (r.Leave l j c) m o (e.Leave t l j c) (subst (λ z. IsMade t (r.Leave l j c) z m) op.0.0 op.1) op.0.0 refl refl
+    (subst (IsOpsOf (plans (setting b)) (after_entry b.commands (front b).control (e.Leave t l j c))) (sym op.0.1)
+    (HasReplay.leave replay (plans (setting b)) b.commands (front b).control n.ops t l j c k.version.ops))
+operation b n k t (r.Enter l j c) asks free is m o op = by_wait m.wait refl op.0 op.1
+  where
+    by_wait : (x : Option What) → m.wait ≡ x → Locks n.ops t (r.Enter l j c) x o → IsMade t (r.Enter l j c) x m → IsOperation b t (r.Enter l j c) m o
+    by_wait None none locks made =
+        operation_by b t (r.Enter l j c) m o (e.Enter t l j c) made none refl refl
+        (subst (IsOpsOf (plans (setting b)) (after_entry b.commands (front b).control (e.Enter t l j c))) (sym locks.1)
+        (HasReplay.enter replay (plans (setting b)) b.commands (front b).control n.ops t l j c k.version.ops))
+    by_wait (Some what) waits locks made =
+        let entry : m.entry ≡ e.Blocked t l (w.Enter j c) = made ∙ ap (λ z. e.Blocked t l z) locks.0 in
+        let lock : IsLockedFor n.ops t j c = locks.1.0 in
+        let off : IsHeldByOther (front b) j c t = record {
+          by = lock.by;
+          other = lock.other;
+          holds = subst (λ hs. list_any (λ (g : Holder). (g.filter == j) && ((g.clause == c) && (g.thread == lock.by))) hs ≡ true) k.version.ops.holders lock.holds;
+        } in
+        record {
+          of = ap thread_of entry;
+          locks = subst (λ y. IsOpsOf (plans (setting b)) (after_entry b.commands (front b).control y) o) (sym entry)
+              (subst (IsOpsOf (plans (setting b)) (front b).control) (sym locks.1.1) k.version.ops);
+          says = ap (λ y. wait_in (Some y)) entry ∙ (ap Some (sym locks.0) ∙ sym waits);
+          awaits = λ that some.
+              let both : Some what ≡ Some that = sym waits ∙ some in
+              let same : w.Enter j c ≡ that = sym locks.0 ∙ (let it : what ≡ that = cc (both) in it) in
+              subst (CanAwait b.store) same tt;
+          told = λ that some. (entry, not_told asks free refl refl l (w.Enter j c) refl off);
+        }
+operation b n k t _ asks free is m o op = cc
+
+pub operation_outcome : (b : Book) (n : Notes) (k : BookInvariant b n) (t : ℕ) (q : Request) → IsAsking b t q → (IsBlocked (setting b) (front b) t → ⊥) → asks_operation q ≡ true → (m : Made) (o : Ops)
+    → Operates n.ops t q m o → IsOutcome b n t q m b.store o
+operation_outcome b n k t q h free is m o op =
+    let x = operation b n k t q h.asks free is m o op in
+    record {
+      of = x.of;
+      more = operation_made q h n.ops k.version.ops m o is op (λ what some. (x.told what some).1);
+      replies = operation_replies q h is m op.1 x.told;
+      runs = λ u other. refl;
+      locks = x.locks;
+      says = x.says;
+      await_still = λ what can. can;
+      await_now = x.awaits;
+      functions = k.functions;
+      threads = λ u y there. (y, there, record { func = refl; args = refl });
+    }
+
+-- Whatever it asked for
+pub outcome : (b : Book) (n : Notes) (k : BookInvariant b n) (t : ℕ) (q : Request) → IsAsking b t q → (IsBlocked (setting b) (front b) t → ⊥) → (m : Made) (st : Store) (o : Ops)
+    → (asks_operation q ≡ false → Acts b.store t q m st × (o ≡ n.ops)) → (asks_operation q ≡ true → Operates n.ops t q m o × (st ≡ b.store)) → IsOutcome b n t q m st o
+outcome b n k t q h free m st o acts operates = by_kind (asks_operation q) refl
+  where
+    by_kind : (c : Bool) → asks_operation q ≡ c → IsOutcome b n t q m st o
+    by_kind false is = act_outcome b n k t q h free is m st o (acts is).0 (acts is).1
+    by_kind true is = subst (λ z. IsOutcome b n t q m z o) (sym (operates is).1) (operation_outcome b n k t q h free is m o (operates is).0)
+
+-- The book behind it
+
+version_more : (b : Book) (n : Notes) (t : ℕ) (x : Entry) (st : Store) (count room : ℕ) (ws : List (Option What)) (o : Ops) → HasVersion b n → thread_of x ≡ Some t
+    → IsOpsOf (plans (setting b)) (after_entry b.commands (front b).control x) o → HasVersion (book_behind b t x st) (record n { entry_count = count; room = room; waits = ws; ops = o })
+version_more b n t x st count room ws o h of locks =
+    let behind : (front (book_behind b t x st)).control ≡ after_entry b.commands (front b).control x = control_after_last b.commands first_control b.entries x in
+    let same : Control.version (front (book_behind b t x st)).control ≡ Control.version (front b).control = ap Control.version behind ∙ version_stays b.commands (front b).control x t of in
+    record {
+      version = h.version ∙ sym same;
+      ops = subst (λ c. IsOpsOf (plans (setting b)) c o) (sym behind) locks;
+      below = h.below;
+      number = h.number;
+      names = λ i j one two name. h.names i j (subst (λ (v : Version). has v.active i ≡ true) same one) (subst (λ (v : Version). has v.active j ≡ true) same two) name;
+      there = λ j is. h.there j (subst (λ (v : Version). has v.active j ≡ true) same is);
+    }
+
 unfinished_at_end : (b : Book) (f : Bool) → f ≡ false → IsUnfinished b.entries → IsAtEnd b f
 unfinished_at_end b f is h = subst (λ z. IsAtEnd b z) (sym is) h
 
--- A book keeps what it keeps with the entry that an answer makes.
-pub kept_more : (b : Book) (n : Notes) (k : BookInvariant b n) (goes_on : IsClosed b → ⊥) → (CommandGoesFirst b → ⊥) → (t : ℕ) (q : Request) → 1 ≤ t → t ≤ thread_limit → Asks b t q
-    → (IsBlocked (setting b) (front b) t → ⊥) → (y : Answer) (x : Entry) (new : Store) (room : ℕ) → Answers b.store t q y new → IsEntryFor t q y x → room + 1 ≡ n.room
-    → BookInvariant (book_with b x new)
-    (record { entry_count = n.entry_count + 1; finished = n.finished; room = room; next = n.next; asked = n.asked; closing = n.closing; waits = slice_set n.waits (t - 1) (wait_of y) })
-kept_more b n k goes_on no_command t q first last asks free y x new room answers tells left =
-    let of : thread_of x ≡ Some t = entry_by_thread t q y x tells in
-    let leads = deeds b.store t q y new answers in
-    let free_told : (what : What) → y ≡ a.Disabled what → ends_blocked (entries_of t b.entries) ≡ false =
-    λ what is. (let h = subst (λ z. Answers b.store t q z new) is answers in not_told b n k t q asks free h.0.0 what h.0.1 h.1.0) in
-    let more : IsGoing b.program b.commands b.limit (b.entries ++ x ∷ []) new = answer_goes q (asking b n k goes_on no_command t q asks free) y x new answers tells free_told in
+pub journal_more : (b : Book) (n : Notes) (k : BookInvariant b n) (t : ℕ) (q : Request) (m : Made) (st : Store) (o : Ops) → IsOutcome b n t q m st o → HasLawfulJournal (book_behind b t m.entry st)
+journal_more b n k t q m st o x = record {
+  rules = k.journal.rules;
+  lawful = x.more.lawful;
+  store = x.more.store;
+  plans = record { filters = k.journal.plans.filters; same = k.journal.plans.same; there = k.journal.plans.there; exclusions = k.journal.plans.exclusions };
+  stands = stands_behind b t m.entry st k.journal.stands x.of x.runs;
+}
+
+-- A book keeps what it keeps with the entry that it makes.
+pub kept_more : (b : Book) (n : Notes) (k : BookInvariant b n) (goes_on : IsClosed b → ⊥) → (t : ℕ) (q : Request) → 1 ≤ t → Lives b.store t → (IsBlocked (setting b) (front b) t → ⊥)
+    → (m : Made) (st : Store) (o : Ops) (room : ℕ) → IsOutcome b n t q m st o → room + 1 ≡ n.room
+    → BookInvariant (book_behind b t m.entry st) (record n { entry_count = n.entry_count + 1; room = room; waits = slice_set n.waits (t - 1) m.wait; ops = o })
+kept_more b n k goes_on t q first lives free m st o room x left =
+    let new : Book = book_behind b t m.entry st in
     let unfinished : n.finished ≡ false = not_finished b n k goes_on in
     let full = not_full b n k goes_on in
-    let counted : n.entry_count + 1 ≡ thread_entries (b.entries ++ x ∷ []) = (let one = count_last b.entries x (ap is_some_thread of) in omega (arith, one, k.entry_count)) in
-    let journal : HasLawfulJournal (book_with b x new) = record { lawful = more.lawful; store = more.store; installs = more.installs } in
-    let behind = control_after_last b.commands first_control b.entries x in
-    let same = thread_keeps b.commands (control b.commands b.entries) x t of in
-    let open_ : n.closing ≡ false = not_closing b n k goes_on t (record { state = asks.state; is = asks.there; not_ended = asks.lives }) free in
+    let counted : n.entry_count + 1 ≡ thread_entries (b.entries ++ m.entry ∷ []) = (let one = count_last b.entries m.entry (ap is_some_thread x.of) in omega (arith, one, k.entry_count)) in
+    let journal : HasLawfulJournal new = journal_more b n k t q m st o x in
+    let behind = control_after_last b.commands first_control b.entries m.entry in
+    let same = thread_keeps b.commands (control b.commands b.entries) m.entry t x.of in
+    let open_ : n.closing ≡ false = not_closing b n k goes_on t lives free in
     record {
       journal = journal;
       least = k.least;
       most = k.most;
       entry_count = counted;
       few = omega (arith, full);
-      end = unfinished_at_end (book_with b x new) n.finished unfinished more.goes_on;
+      end = unfinished_at_end new n.finished unfinished x.more.goes_on;
       commands =
-          noted (book_with b x new) _ journal k.commands.few counted (k.commands.next ∙ (sym same.0 ∙ sym (ap Control.next behind))) (k.commands.asked ∙ (sym same.1.0 ∙ sym (ap Control.asked behind)))
-          (k.commands.closing ∙ (sym same.1.1 ∙ sym (ap Control.closing behind))) (room_with b x n.room room k.commands.room left) (λ is. more.goes_on)
+          noted new _ journal k.commands.few counted (k.commands.next ∙ (sym same.0 ∙ sym (ap Control.next behind))) (k.commands.asked ∙ (sym same.1.0 ∙ sym (ap Control.asked behind)))
+          (k.commands.closing ∙ (sym same.1.1 ∙ sym (ap Control.closing behind))) (room_with b m.entry n.room room k.commands.room left) (λ is. x.more.goes_on)
           (λ is. let no : true ≡ false = sym is ∙ open_ in cc);
-      far = more.far;
-      functions = functions_more b.program b.store new t q (deed_of q y) k.functions (deed_function b.program q y asks.numbers) leads;
-      versions = more.versions;
-      few_threads = more.few;
-      waits = waits_more b (book_with b x new) n.waits t x (wait_of y) k.waits first of refl (wait_of_entry t q y x tells)
-          (λ what can. waits_last b.store new t q (deed_of q y) leads what can) (λ what is. waits_now b.store new t q y answers what is);
+      far = x.more.far;
+      functions = x.functions;
+      version = version_more b n t m.entry st (n.entry_count + 1) room (slice_set n.waits (t - 1) m.wait) o k.version x.of x.locks;
+      flags = record { each = k.flags.each; there = k.flags.there; all = k.flags.all; none = k.flags.none };
+      few_threads = x.more.few;
+      waits = waits_more b new n.waits t m.entry m.wait k.waits first x.of refl x.says x.await_still x.await_now;
     }
 
 -- And the answer is the one that was asked for.
-pub answered_so : (b : Book) (n : Notes) (k : BookInvariant b n) (goes_on : IsClosed b → ⊥) → (CommandGoesFirst b → ⊥) → (t : ℕ) (q : Request) → 1 ≤ t → t ≤ thread_limit → Asks b t q
-    → (IsBlocked (setting b) (front b) t → ⊥) → (y : Answer) (x : Entry) (new : Store) → Answers b.store t q y new → IsEntryFor t q y x → MakesAnswer b t q x (book_with b x new)
-answered_so b n k goes_on no_command t q first last asks free y x new answers tells = record {
-  run = record { program = refl; commands = refl; limit = refl };
+pub answered_so : (b : Book) (n : Notes) (k : BookInvariant b n) (goes_on : IsClosed b → ⊥) → (CommandGoesFirst b → ⊥) → (t : ℕ) (q : Request) → (IsBlocked (setting b) (front b) t → ⊥)
+    → (m : Made) (st : Store) (o : Ops) → IsOutcome b n t q m st o → MakesAnswer b t q m.entry (book_behind b t m.entry st)
+answered_so b n k goes_on no_command t q free m st o x = record {
+  run = record { program = refl; filters = refl; commands = refl; limit = refl };
   appended = refl;
-  thread = entry_by_thread t q y x tells;
-  replies = replies b n k t q first last asks free y x new answers tells;
-  threads = keeps_deed b.store new t q (deed_of q y) (deeds b.store t q y new answers);
+  thread = x.of;
+  replies = x.replies;
+  threads = x.threads;
+  noted = refl;
   goes_on = goes_on;
   no_command = no_command;
   free = free;

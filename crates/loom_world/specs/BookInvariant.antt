@@ -1,21 +1,28 @@
 -- What a book keeps between its calls.
-use Rattle.std.specs.Prelude.{ℕ, suc, ◌≡◌, ◌⊎◌, ◌+◌, ◌*◌, ◌≤◌, Bool, true, false, not, List, length, Option, Some, None, slice_get}
+use Rattle.std.specs.Prelude.{ℕ, suc, ◌≡◌, ◌⊎◌, ◌+◌, ◌*◌, ◌≤◌, Bool, true, false, not, ◌<◌, List, [], ◌∷◌, length, Option, Some, None, slice_get}
 use Rattle.loom_trace.specs.declared.entry.Entry.{Entry}
 use Rattle.loom_trace.specs.declared.entry.Entry.TheVariants as e
 use Rattle.loom_trace.specs.declared.entry.What.{What}
 use Rattle.loom_event.specs.Answer.{IsFunctionWith}
 use Rattle.loom_event.specs.Entries.{thread_entries, last_of_thread}
 use Rattle.loom_trace.specs.Limits.{thread_limit, entry_limit, control_limit}
-use Rattle.loom_event.specs.Replay.{ThreadState, thread_at}
+use Rattle.loom_event.specs.Replay.{ThreadState, Store, thread_at}
 use Rattle.loom_command.specs.Script.{most_commands}
-use Rattle.loom_law.specs.Control.{Control, versions_of, entries_of}
-use Rattle.loom_law.specs.Lawful.{run_is_over, Lives, IsBlocked}
+use Rattle.loom_law.specs.Walk.{Version}
+use Rattle.loom_law.specs.Filter.{Plan}
+use Rattle.loom_law.specs.Control.{Command, command_at, install, means, have_one_name, Control, entries_of, listed_places}
+use Rattle.loom_law.specs.Lawful.{plans, run_is_over, Lives, IsBlocked, is_installed}
 use Rattle.loom_law.specs.Laws.{IsUnfinished}
-use Rattle.loom_strand.specs.Life.{has_none, has_ended, versions_with}
+use Rattle.loom_strand.specs.Life.{has_none, has_ended}
+use Rattle.loom_version.specs.Version.{AreBelow}
+use Rattle.loom_ops.specs.Ops.{Ops}
+use Rattle.loom_ops.specs.Laws.{IsOpsOf}
 use Rattle.loom_store.specs.declared.answer.Answer.{Answer}
 use Rattle.loom_store.specs.declared.answer.Answer.TheVariants as a
 use Rattle.loom_store.specs.Answer.{CanWait}
+use Rattle.loom_trace.specs.declared.entry.What.TheVariants as v
 use Rattle.loom_world.specs.Book.{Book, setting, front, HasLawfulJournal}
+use Rattle.loom_world.specs.Flags.{HasFlagSets}
 use Rattle.loom_world.specs.Idle.{HasFinish}
 
 -- What a book keeps beside its journal and its store.
@@ -31,8 +38,15 @@ pub record Notes : Type 0 where
   pub asked : Option ℕ
   -- a command wasn't reached
   pub closing : Bool
-  -- for each thread what its last entry is blocked at
+  -- for each thread what its last entry is blocked at, unless it goes over to a newer version next
   pub waits : List (Option What)
+  -- the newest version, and the locks of its filters
+  pub version : Version
+  pub ops : Ops
+  -- the flags of each command that puts a filter in, all places, and none
+  pub flags : List (Option (List ℕ))
+  pub all_places : List ℕ
+  pub no_places : List ℕ
 
 -- The journal is finished, or it isn't.
 abbrev pub IsAtEnd : Book → Bool → Type 0
@@ -68,11 +82,43 @@ abbrev pub wait_in : Option Entry → Option What
 wait_in (Some (e.Blocked t l what)) = Some what
 wait_in _ = None
 
+-- a thread for which places are listed isn't blocked
+abbrev pub wait_unless : List ℕ → Option What → Option What
+wait_unless [] o = o
+wait_unless (y ∷ ys) o = None
+
+-- A thread can wait for what the store has, and for a clause.
+abbrev pub CanAwait : Store → What → Type 0
+CanAwait s (v.Enter k c) = Unit {0}
+CanAwait s x = CanWait s x
+
 -- It has a note for each thread: what its last entry is blocked at, which it can wait for.
 pub record HasWaits (b : Book) (waits : List (Option What)) : Type 0 where
   pub count : length waits ≡ thread_limit
-  pub each : (i : ℕ) (w : Option What) → slice_get waits i ≡ Some w → w ≡ wait_in (last_of_thread (suc i) None b.entries)
-  pub can : (i : ℕ) (w : What) → slice_get waits i ≡ Some (Some w) → CanWait b.store w
+  pub each : (i : ℕ) (w : Option What) → slice_get waits i ≡ Some w → w ≡ wait_unless (listed_places (suc i) b.entries) (wait_in (last_of_thread (suc i) None b.entries))
+  pub can : (i : ℕ) (w : What) → slice_get waits i ≡ Some (Some w) → CanAwait b.store w
+
+-- Two installed filters have two names.
+abbrev pub HasOneOfEachName : Book → Type 0
+HasOneOfEachName b = (i j : ℕ) → is_installed (front b).control i ≡ true → is_installed (front b).control j ≡ true → have_one_name b.commands i j ≡ true → i ≡ j
+
+-- the number of the command that is asked, or of the next one
+abbrev pub latest : Notes → ℕ
+latest n = latest_of n.asked n.next
+  where
+    latest_of : Option ℕ → ℕ → ℕ
+    latest_of None k = k
+    latest_of (Some k) j = k
+
+-- It has noted the newest version and its locks. Filters that are installed are those of earlier commands, and there was at most one change for each.
+pub record HasVersion (b : Book) (n : Notes) : Type 0 where
+  pub version : n.version ≡ Control.version (front b).control
+  pub ops : IsOpsOf (plans (setting b)) (front b).control n.ops
+  pub below : AreBelow (latest n) n.version.active
+  pub number : n.version.number < latest n
+  pub names : HasOneOfEachName b
+  -- each was put in by an install that meant something
+  pub there : (k : ℕ) → is_installed (front b).control k ≡ true → (c : Command) × ((f : Plan) × ((command_at b.commands k ≡ Some c) × (c.action ≡ install (means f))))
 
 pub record BookInvariant (b : Book) (n : Notes) : Type 0 where
   pub journal : HasLawfulJournal b
@@ -85,8 +131,8 @@ pub record BookInvariant (b : Book) (n : Notes) : Type 0 where
   pub far : (t : ℕ) (x : ThreadState) → thread_at b.store t ≡ Some x → IsAsFar (entries_of t b.entries) x
   -- each thread has a function of the program, with as many arguments as parameters
   pub functions : (t : ℕ) (x : ThreadState) → thread_at b.store t ≡ Some x → IsFunctionWith b.program x.func x.args
-  -- of the versions a thread has taken the first, with its begin
-  pub versions : (t : ℕ) → versions_of b.commands t b.entries ≡ versions_with (entries_of t b.entries)
+  pub version : HasVersion b n
+  pub flags : HasFlagSets b n.flags n.all_places n.no_places
   pub few_threads : length b.store.spawned ≤ thread_limit
   pub waits : HasWaits b n.waits
 
@@ -95,5 +141,12 @@ abbrev pub wait_of : Answer → Option What
 wait_of (a.Disabled what) = Some what
 wait_of _ = None
 
+-- there is a note for each thread that there may be, and none says anything
+abbrev pub AreEmptyNotes : {A : Type 0} → List (Option A) → Type 0
+AreEmptyNotes {A} xs = (length xs ≡ thread_limit) × ((i : ℕ) (x : Option A) → slice_get xs i ≡ Some x → x ≡ None)
+
 abbrev pub AreNoWaits : List (Option What) → Type 0
-AreNoWaits ws = (length ws ≡ thread_limit) × ((i : ℕ) (w : Option What) → slice_get ws i ≡ Some w → w ≡ None)
+AreNoWaits ws = AreEmptyNotes ws
+
+abbrev pub AreNoStands : List (Option ℕ) → Type 0
+AreNoStands xs = AreEmptyNotes xs

@@ -1,20 +1,22 @@
 -- When a turn makes no entry, and why.
-use Rattle.std.specs.Prelude.{ℕ, ◌≡◌, ◌⊎◌, true, false, [], Some, None}
+use Rattle.std.specs.Prelude.{ℕ, ◌≡◌, ◌⊎◌, true, false, not, Option, Some, None}
+use Rattle.loom_lang.specs.Places.{nowhere}
 use Rattle.loom_trace.specs.declared.entry.Entry.{Entry}
 use Rattle.loom_trace.specs.declared.entry.Ending.{Ending}
 use Rattle.loom_event.specs.Answer.{IsFunctionWith}
 use Rattle.loom_event.specs.Entries.{thread_of, IsFinished}
-use Rattle.loom_event.specs.Replay.{thread_at, HasEnded}
-use Rattle.loom_law.specs.Control.{entries_of}
-use Rattle.loom_law.specs.Control.{Control}
-use Rattle.loom_law.specs.Lawful.{run_is_over, Lives, IsBlocked, refusal, IsDue, MayControl}
+use Rattle.loom_event.specs.Replay.{ThreadState, thread_at, HasEnded}
+use Rattle.loom_law.specs.Control.{Control, entries_of}
+use Rattle.loom_law.specs.Lawful.{running_thread, run_is_over, Lives, IsBlocked, refusal, IsDue}
 use Rattle.loom_strand.specs.declared.stage.Birth.{Birth}
-use Rattle.loom_strand.specs.Life.{has_ended}
+use Rattle.loom_strand.specs.Life.{has_none, has_ended}
 use Rattle.loom_world.specs.declared.choice.Choice.{Choice}
 use Rattle.loom_world.specs.declared.choice.Choice.TheVariants as c
 use Rattle.loom_world.specs.declared.choice.Why.{Why}
 use Rattle.loom_world.specs.declared.choice.Why.TheVariants as why
-use Rattle.loom_world.specs.Book.{Book, setting, front}
+use Rattle.loom_world.specs.Book.{Book, setting, front, IsStandOf}
+use Rattle.loom_world.specs.Flags.{IsFlaggedNow}
+use Rattle.loom_world.specs.Answers.{StandsNext}
 
 -- The journal is finished.
 abbrev pub HasFinish : Book → Type 0
@@ -40,30 +42,66 @@ pub record IsAskedInVain (b : Book) : Type 0 where
 abbrev pub CommandGoesFirst : Book → Type 0
 CommandGoesFirst b = IsDue (setting b) (front b) ⊎ IsAskedInVain b
 
+-- A thread that runs stands at a flagged place.
+pub record StandsAtFlag (b : Book) (t k : ℕ) (state : ThreadState) : Type 0 where
+  pub stand : IsStandOf b t state k
+  pub flagged : IsFlaggedNow b stand.place
+
+-- A thread that hasn't begun stands at place 0, which is flagged where any is.
+abbrev pub IsAtFlagBy : Book → ℕ → ℕ → Option ThreadState → Type 0
+IsAtFlagBy b t k None = (k ≡ 0) × IsFlaggedNow b nowhere
+IsAtFlagBy b t k (Some x) = StandsAtFlag b t k x
+
+-- Thread t, which lives, is at flagged place k.
+abbrev pub IsAtFlag : Book → ℕ → ℕ → Type 0
+IsAtFlag b t k = IsAtFlagBy b t k (running_thread (thread_at b.store t))
+
+-- Threads may make entries, and thread t lives.
+pub record CanTurn (b : Book) (t : ℕ) : Type 0 where
+  pub goes_on : IsClosed b → ⊥
+  pub no_command : CommandGoesFirst b → ⊥
+  pub lives : Lives b.store t
+
+-- The thread is blocked.
+pub record IsIdleBlocked (b : Book) (t : ℕ) : Type 0 where
+  pub turns : CanTurn b t
+  pub blocked : IsBlocked (setting b) (front b) t
+
 -- Why thread t makes no entry now: the first of these that applies.
 abbrev pub IsIdleThread : Book → ℕ → Why → Type 0
 IsIdleThread b t why.Over = IsClosed b
 IsIdleThread b t why.Ended = (IsClosed b → ⊥) × HasEnded b.store t
 IsIdleThread b t why.Unborn = (IsClosed b → ⊥) × (thread_at b.store t ≡ None)
 IsIdleThread b t why.Due = (IsClosed b → ⊥) × (Lives b.store t × CommandGoesFirst b)
-IsIdleThread b t why.Blocked = (IsClosed b → ⊥) × ((CommandGoesFirst b → ⊥) × (Lives b.store t × IsBlocked (setting b) (front b) t))
+IsIdleThread b t (why.Flagged k) = CanTurn b t × IsAtFlag b t k
+IsIdleThread b t why.Blocked = IsIdleBlocked b t
 IsIdleThread b t why.Nothing = ⊥
+
+-- What keeps thread t from making an entry: each of these, but of flagged places that of a thread that hasn't begun alone. One that runs comes to one
+-- in its turn.
+abbrev pub HindersThread : Book → ℕ → Why → Type 0
+HindersThread b t (why.Flagged k) = CanTurn b t × ((running_thread (thread_at b.store t) ≡ None) × IsFlaggedNow b nowhere)
+HindersThread b t w = IsIdleThread b t w
 
 -- No control entry stands next.
 abbrev pub IsIdleControl : Book → Why → Type 0
-IsIdleControl b why.Nothing = HasFinish b ⊎ ((x : Entry) → thread_of x ≡ None → MayControl (setting b) (front b) x [] → ⊥)
+IsIdleControl b why.Nothing = HasFinish b ⊎ ((x : Entry) → thread_of x ≡ None → StandsNext b x → ⊥)
 IsIdleControl b _ = ⊥
 
 abbrev pub IsIdle : Book → Choice → Why → Type 0
 IsIdle b (c.Thread t) w = IsIdleThread b t w
 IsIdle b c.Control w = IsIdleControl b w
 
+abbrev pub Hinders : Book → Choice → Why → Type 0
+Hinders b (c.Thread t) w = HindersThread b t w
+Hinders b c.Control w = IsIdleControl b w
+
 -- Thread t lives and isn't blocked.
 pub record CanGoOn (b : Book) (t : ℕ) : Type 0 where
   pub lives : Lives b.store t
   pub free : IsBlocked (setting b) (front b) t → ⊥
 
--- The run goes on, no command goes first, and thread t lives, with this function and these arguments.
+-- The run goes on, no command goes first, and thread t lives, with this function and these arguments. Where it hasn't begun no flags are up.
 pub record IsLive (b : Book) (t : ℕ) (x : Birth) : Type 0 where
   pub goes_on : IsClosed b → ⊥
   pub no_command : CommandGoesFirst b → ⊥
@@ -73,3 +111,6 @@ pub record IsLive (b : Book) (t : ℕ) (x : Birth) : Type 0 where
   -- it is a function of the program, and has as many parameters
   pub function : IsFunctionWith b.program x.func x.args
   pub not_ended : has_ended (entries_of t b.entries) ≡ false
+  pub begins : lives.state.begun ≡ false → IsFlaggedNow b nowhere → ⊥
+  -- it has begun where it has made an entry
+  pub begun : lives.state.begun ≡ not (has_none (entries_of t b.entries))

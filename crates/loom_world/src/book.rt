@@ -1,33 +1,47 @@
-//! The book of a run: its commands, its journal, and the store that the journal's events leave.
+//! The book of a run: its commands, its journal, the store that the journal's events leave, and the locks of its filters.
 ghost use Rattle.std.specs.Prelude.{ℕ, ◌≡◌, ◌<◌, ◌≤◌, length, IfOk, IfErr, IfSome, IfNone, Some, None, true, false};
+ghost use Rattle.std.specs.List.{AllByRecursion};
 ghost use Rattle.std.specs.Arc.{arc_value};
-ghost use Rattle.loom_event.specs.Replay.{AllEnded};
 ghost use Rattle.loom_command.specs.Script.{at, most_commands};
-ghost use Rattle.loom_law.specs.Control.{Command as Ordered, Control, command_at};
-ghost use Rattle.loom_law.specs.Lawful.{Ends, EndsSo, Lives, IsBlocked, IsDue};
-ghost use Rattle.loom_trace.specs.declared.entry.Ending.{Ending as Kind};
+ghost use Rattle.loom_law.specs.Control.{Command as Ordered, Control, command_at, have_one_name, listed_places};
+ghost use Rattle.loom_law.specs.Lawful.{IsBlocked, IsDisabledFor, IsDue, running_thread, is_installed, is_name_used, refusal};
+ghost use Rattle.loom_event.specs.Replay.{ThreadState, thread_at};
 ghost use Rattle.loom_trace.specs.Limits.{thread_limit, entry_limit};
+ghost use Rattle.loom_world.specs.CommandView.{law_commands};
+ghost use Rattle.loom_world.specs.CommandFilters.{HaveFilters};
+ghost use Rattle.loom_version.specs.Plans.{plans_in};
+ghost use Rattle.loom_walk.specs.FilterWalk.{HasFilters};
+ghost use Rattle.loom_world.specs.Book.{IsNewBook, HasLawfulJournal, IsStandOf, setting, front};
+ghost use Rattle.loom_world.specs.Flags.{AreFlags, AreAllPlaces, AreFlagsFor};
+ghost use Rattle.loom_world.specs.Idle.{HasFinish, IsClosed, MayAsk, CommandGoesFirst, IsLive};
+ghost use Rattle.loom_world.specs.Turned.{IsNoted, Turns};
+ghost use Rattle.loom_world.specs.BookInvariant.{wait_of, CanAwait, AreNoWaits, AreNoStands};
+ghost use Rattle.loom_event.specs.Answer.{asks_operation};
 ghost use Rattle.loom_world.specs.declared.choice.Choice.TheVariants as choice;
 ghost use Rattle.loom_world.specs.declared.choice.Turned.TheVariants as turned;
-ghost use Rattle.loom_world.specs.CommandView.{law_commands};
-ghost use Rattle.loom_world.specs.Book.{IsNewBook, IsOfSameRun, HasLawfulJournal, setting, front};
-ghost use Rattle.loom_world.specs.Idle.{HasFinish, IsClosed, MayAsk, CommandGoesFirst, IsIdleThread, CanGoOn, IsLive};
-ghost use Rattle.loom_world.specs.Turned.{Turns};
-ghost use Rattle.loom_world.specs.BookInvariant.{wait_of, AreNoWaits};
+ghost use Rattle.loom_world.specs.Commands.{HaveExclusions};
+ghost use Rattle.loom_world.specs.Operating.{CanOperate, Operates, MayAskStore, Acts};
+ghost use Rattle.loom_world.specs.Refusals.{IsRefusal, IsTextRefusal};
 ghost use Rattle.loom_world.specs.Asking.{Asks, MakesAnswer};
 
-use crate::choice::{Turned, Why};
-use crate::command::Command;
+use crate::choice::Why;
+use crate::command::{Action, Command, Judged};
 use crate::entry::entry_for;
+use crate::operate::{Made, is_operation, operate};
+use loom_filter::parse::FilterRefusal;
 use loom_lang::program::Program;
+use loom_ops::ops::Ops;
 use loom_store::answer::Answer;
 use loom_store::store::Store;
 use loom_strand::stage::Birth;
-use loom_trace::entry::{Ending, Entry, What};
+use loom_trace::entry::{Entry, What};
 use loom_trace::journal::Journal;
 use loom_trace::limits::THREAD_LIMIT;
+use loom_trace::places::Places;
 use loom_trace::request::Request;
 use loom_tree::name::NoMemory;
+use loom_version::plans::Plans;
+use loom_version::version::Version;
 use std::alloc::Global;
 use std::marker::Model;
 use std::sync::Arc;
@@ -35,55 +49,81 @@ use std::sync::Arc;
 /// The most threads of a run; they have the numbers from 1 on.
 pub(crate) const THREADS: u8 = THREAD_LIMIT as u8;
 
-/// The book of a run: its commands, its journal, and the store that the journal's events leave.
+/// The number of a refusal: an installed filter has the name.
+const NAME_TAKEN: u8 = 11;
+
+/// No installed filter has it.
+const NOT_INSTALLED: u8 = 12;
+
+/// As many filters are installed as may be.
+const SLOTS_FULL: u8 = 14;
+
+/// The book of a run: its commands, its journal, the store that the journal's events leave, and the locks of its filters.
 #[derive(Debug, Drop)]
 pub(crate) struct Book {
-    program: Arc<Program>,
-    commands: Vec<Command>,
-    limit: u32,
-    journal: Journal,
-    store: Store,
-    // how many entries threads made
-    entry_count: u32,
-    finished: bool,
-    // the number of the next command, from 1
-    next: u8,
-    // the command that is asked
-    asked: Option<u8>,
-    // a command wasn't reached
-    closing: bool,
-    // for each thread what its last entry is blocked at
-    waits: Vec<Option<What>>,
+    pub(crate) program: Arc<Program>,
+    /// The filters that commands put in, by the commands' numbers.
+    pub(crate) plans: Arc<Plans>,
+    pub(crate) commands: Vec<Command>,
+    pub(crate) limit: u32,
+    pub(crate) journal: Journal,
+    pub(crate) store: Store,
+    /// How many entries threads made.
+    pub(crate) entry_count: u32,
+    pub(crate) finished: bool,
+    /// The number of the next command, from 1.
+    pub(crate) next: u8,
+    /// The command that is asked.
+    pub(crate) asked: Option<u8>,
+    /// A command was cut or wasn't reached.
+    pub(crate) closing: bool,
+    /// For each thread what its last entry is blocked at, unless it goes over to a newer version next.
+    pub(crate) waits: Vec<Option<What>>,
+    /// For each thread the number of the place at which its latest turn found it to stand, if it did.
+    pub(crate) stands: Vec<Option<u16>>,
+    /// The newest version.
+    pub(crate) version: Version,
+    /// The locks of its filters.
+    pub(crate) ops: Ops,
+    /// Each place, which are the flags of a removal.
+    pub(crate) all_places: Places,
+    pub(crate) no_places: Places,
 }
 
 impl Model for Book {
     ghost use Rattle.std.specs.Arc.{arc_value};
     ghost use Rattle.std.specs.Coded.{codes};
     ghost use Rattle.loom_tree.specs.Code.{source_code};
+    ghost use Rattle.loom_plan.specs.Compiled.{compiled_code};
+    ghost use Rattle.loom_version.specs.Plans.{plans_in};
     ghost use Rattle.loom_world.specs.Book.{Book};
     ghost use Rattle.loom_world.specs.BookInvariant.{BookInvariant};
     ghost use Rattle.loom_world.specs.CommandCode.{command_code};
-    ghost use Rattle.loom_world.specs.CommandView.{law_commands};
+    ghost use Rattle.loom_world.specs.CommandView.{law_commands, flag_sets};
 
     ghost Value = { Book };
 
-    ghost coded = { Prim.hlevel (codes, source_code, command_code) };
+    ghost coded = { Prim.hlevel (codes, source_code, compiled_code, command_code) };
 
     ghost view = { λ b. record {
       program = arc_value b.program;
-      commands = law_commands b.commands.items;
+      filters = arc_value b.plans;
+      commands = law_commands (plans_in (arc_value b.plans)) b.commands.items;
       limit = b.limit;
       entries = b.journal.entries;
       store = b.store;
+      stands = b.stands.items;
     } };
 
     ghost invariant = { λ b. BookInvariant
         (record {
           program = arc_value b.program;
-          commands = law_commands b.commands.items;
+          filters = arc_value b.plans;
+          commands = law_commands (plans_in (arc_value b.plans)) b.commands.items;
           limit = b.limit;
           entries = b.journal.entries;
           store = b.store;
+          stands = b.stands.items;
         })
         (record {
           entry_count = b.entry_count;
@@ -93,6 +133,11 @@ impl Model for Book {
           asked = b.asked;
           closing = b.closing;
           waits = b.waits.items;
+          version = b.version;
+          ops = b.ops;
+          flags = flag_sets b.commands.items;
+          all_places = b.all_places;
+          no_places = b.no_places;
         }) };
 }
 
@@ -118,19 +163,64 @@ fn no_waits(alloc: Global) -> Result<Vec<Option<What>>, NoMemory>
     Ok(waits)
 }
 
+// No thread was found to stand.
+fn no_stands(alloc: Global) -> Result<Vec<Option<u16>>, NoMemory>
+    ensures { IfOk result (λ xs. AreNoStands xs.items) }
+{
+    let mut stands = Vec::with_capacity(alloc, THREADS as usize)?;
+    'threads: for _ in 0..THREADS {
+        stands.push_reserved(None);
+    }
+    Ok(stands)
+}
+
+// Why the text of a filter is refused, if it is.
+fn text_refusal(judged: &Judged) -> Option<FilterRefusal>
+    ensures { IsTextRefusal judged.now result }
+{
+    match judged {
+        Judged::Refused(refusal) => Some(*refusal),
+        Judged::Flags(_) => None,
+    }
+}
+
+// What comes of a request of thread `t`, in the locks or in the store.
+fn perform(store: &mut Store, ops: &mut Ops, t: u8, request: &Request) -> Made
+    requires acts { asks_operation request.now ≡ false → MayAskStore store.old t request.now }
+    requires operates { asks_operation request.now ≡ true → CanOperate ops.old t request.now }
+    ensures acts { asks_operation request.now ≡ false → Acts store.old t request.now result store.new × (ops.new ≡ ops.old) }
+    ensures operates { asks_operation request.now ≡ true → Operates ops.old t request.now result ops.new × (store.new ≡ store.old) }
+{
+    if is_operation(request) {
+        return operate(ops, t, request);
+    }
+    let answer = store.ask(t, request);
+    Made {
+        entry: entry_for(t, request, answer),
+        wait: wait_of(answer),
+    }
+}
+
 impl Book {
-    /// The book before the run, in which threads are to make `limit` entries at most. It takes all of its memory here. An `Err` is want of
-    /// memory.
+    /// The book before the run, in which threads are to make `limit` entries at most, with the filters of its commands, and each place of the
+    /// program. It takes all of its memory here. An `Err` is want of memory.
     pub(crate) fn make(
         alloc: Global,
         program: Arc<Program>,
+        plans: Arc<Plans>,
         commands: Vec<Command>,
+        all_places: Places,
         limit: u32,
     ) -> Result<Book, NoMemory>
         requires least { 1 ≤ limit }
         requires most { limit ≤ entry_limit }
         requires few { length commands.items ≤ most_commands }
-        ensures new { IfOk result (λ b. IsNewBook (arc_value program) (law_commands commands.items) limit b) }
+        requires filters { HaveFilters (arc_value program) (arc_value plans) commands.items }
+        requires exclusions { HaveExclusions (arc_value program) (law_commands (plans_in (arc_value plans)) commands.items) }
+        requires places { AreAllPlaces (arc_value program) all_places }
+        ensures new { IfOk result (λ b. IsNewBook (arc_value program) (law_commands (plans_in (arc_value plans)) commands.items) limit b) }
+        ensures filters { IfOk result (λ b. b.filters ≡ arc_value plans) }
+        ensures stands { IfOk result (λ b. AreNoStands b.stands) }
         ensures lawful { IfOk result (λ b. HasLawfulJournal b) }
     {
         let journal = Journal::make(alloc, limit)?;
@@ -138,8 +228,10 @@ impl Book {
         let _ = program.semas();
         let store = Store::make(alloc, &program, THREADS)?;
         let waits = no_waits(alloc)?;
+        let stands = no_stands(alloc)?;
         Ok(Book {
             program,
+            plans,
             commands,
             limit,
             journal,
@@ -150,6 +242,11 @@ impl Book {
             asked: None,
             closing: false,
             waits,
+            stands,
+            version: Version::first(),
+            ops: Ops::make(),
+            all_places,
+            no_places: Places::none(),
         })
     }
 
@@ -159,6 +256,15 @@ impl Book {
         ensures lawful { HasLawfulJournal self.now }
     {
         &self.journal
+    }
+
+    /// The newest version.
+    pub(crate) fn version(&self) -> &Version
+        ensures is { result.now ≡ Control.version (front self.now).control }
+        ensures filters { HasFilters self.now.program self.now.filters result.now }
+        ensures lawful { HasLawfulJournal self.now }
+    {
+        &self.version
     }
 
     /// Whether the journal is finished.
@@ -200,8 +306,8 @@ impl Book {
         }
     }
 
-    // Whether the next command is due.
-    fn is_due(&self) -> bool
+    /// Whether the next command is due.
+    pub(crate) fn is_due(&self) -> bool
         ensures due { result ≡ true → IsDue (setting self.now) (front self.now) }
         ensures not_due { result ≡ false → IsDue (setting self.now) (front self.now) → ⊥ }
     {
@@ -214,36 +320,125 @@ impl Book {
         }
     }
 
+    /// The installed filter that has the name in command `k`, by its number.
+    pub(crate) fn named(&self, k: u8) -> Option<u8>
+        requires there { (c : Ordered) × (command_at self.now.commands k ≡ Some c) }
+        ensures some { IfSome result (λ j. (is_installed (front self.now).control j ≡ true) × (have_one_name self.now.commands j k ≡ true)) }
+        ensures none { IfNone result (is_name_used (setting self.now) (front self.now).control k ≡ false) }
+    {
+        let name = self.commands[k as usize - 1].name.bytes();
+        'active: for j in self.version.active() {
+            if self.commands[*j as usize - 1].name.bytes() == name {
+                return Some(*j);
+            }
+        }
+        None
+    }
+
+    /// Why command `k`, which is asked, is refused, if it is.
+    pub(crate) fn refusal(&self, k: u8) -> Option<FilterRefusal>
+        requires { Control.asked (front self.now).control ≡ Some k }
+        ensures { IsRefusal result (refusal (setting self.now) (front self.now).control k) }
+    {
+        // the command is one of the run's
+        let _ = &self.commands;
+        let named = self.named(k);
+        match &self.commands[k as usize - 1].action {
+            Action::Remove => match named {
+                Some(_) => None,
+                None => Some(FilterRefusal {
+                    clause: 0,
+                    number: NOT_INSTALLED,
+                }),
+            },
+            Action::Install(judged) => match named {
+                Some(_) => Some(FilterRefusal {
+                    clause: 0,
+                    number: NAME_TAKEN,
+                }),
+                None => {
+                    if self.ops.is_full() {
+                        return Some(FilterRefusal {
+                            clause: 0,
+                            number: SLOTS_FULL,
+                        });
+                    }
+                    text_refusal(judged)
+                }
+            },
+        }
+    }
+
     // Whether a command goes first: it is due, or its refusal is.
     fn is_command_first(&self) -> bool
         ensures yes { result ≡ true → CommandGoesFirst self.now }
         ensures no { result ≡ false → CommandGoesFirst self.now → ⊥ }
     {
         match self.asked {
-            Some(_) => true,
+            Some(k) => self.refusal(k).is_some(),
             None => self.is_due(),
         }
     }
 
-    // Whether thread `t` is blocked by what it waits for.
-    fn is_blocked(&self, t: u8) -> bool
+    // The places that are flagged for command `k`, unless it is refused for its text.
+    fn flags_for(&self, k: u8) -> &Places
+        requires { Control.asked (front self.now).control ≡ Some k }
+        ensures { refusal (setting self.now) (front self.now).control k ≡ None → AreFlagsFor self.now k result.now }
+    {
+        match &self.commands[k as usize - 1].action {
+            Action::Remove => &self.all_places,
+            Action::Install(judged) => match judged {
+                Judged::Flags(flags) => flags,
+                Judged::Refused(_) => &self.no_places,
+            },
+        }
+    }
+
+    /// The places that are flagged: those of the command that is asked, and else none.
+    pub(crate) fn flags(&self) -> &Places
+        ensures { AreFlags self.now result.now }
+    {
+        match self.asked {
+            Some(k) => self.flags_for(k),
+            None => &self.no_places,
+        }
+    }
+
+    // Whether what thread `t` waits for is disabled.
+    fn is_disabled(&self, t: u8, what: What) -> bool
+        requires { CanAwait self.now.store what }
+        ensures disabled { result ≡ true → IsDisabledFor (setting self.now) (front self.now) t what }
+        ensures enabled { result ≡ false → IsDisabledFor (setting self.now) (front self.now) t what → ⊥ }
+    {
+        match what {
+            What::Enter(k, clause) => self.ops.is_disabled(t, What::Enter(k, clause)),
+            What::Lock(m) => self.store.is_disabled(t, What::Lock(m)),
+            What::Down(s) => self.store.is_disabled(t, What::Down(s)),
+            What::Join(c) => self.store.is_disabled(t, What::Join(c)),
+            What::Wait(_, _) => unreachable!(),
+        }
+    }
+
+    /// Whether thread `t` is blocked by what it waits for.
+    pub(crate) fn is_blocked(&self, t: u8) -> bool
         requires first { 1 ≤ t }
         requires last { t ≤ thread_limit }
         ensures blocked { result ≡ true → IsBlocked (setting self.now) (front self.now) t }
         ensures free { result ≡ false → IsBlocked (setting self.now) (front self.now) t → ⊥ }
     {
         match self.waits[t as usize - 1] {
-            Some(what) => self.store.is_disabled(t, what),
             None => false,
+            Some(what) => self.is_disabled(t, what),
         }
     }
 
-    /// The function and the arguments of thread `t`, where it lives, the run goes on and no command goes first; else why it makes no entry.
+    /// The function and the arguments of thread `t`, where it lives, the run goes on, no command goes first, and it has begun or no flags are up;
+    /// else why it makes no entry.
     pub(crate) fn live(&self, t: u8) -> Result<Birth, Why>
         requires first { 1 ≤ t }
         requires last { t ≤ thread_limit }
         ensures ok { IfOk result (λ b. IsLive self.now t b) }
-        ensures err { IfErr result (λ w. IsIdleThread self.now t w) }
+        ensures err { IfErr result (λ w. Turns self.now (choice.Thread t) self.now (turned.Idle w)) }
     {
         if self.is_closed() {
             return Err(Why::Over);
@@ -255,6 +450,8 @@ impl Book {
                     Err(Why::Ended)
                 } else if self.is_command_first() {
                     Err(Why::Due)
+                } else if !thread.begun && self.flags().has(0) {
+                    Err(Why::Flagged(0))
                 } else {
                     Ok(Birth {
                         func: thread.func,
@@ -265,215 +462,38 @@ impl Book {
         }
     }
 
-    /// Answers thread `t`, and makes its entry: where its request is disabled that is `Blocked`. An `Err` tells why there is none, and leaves
-    /// the book as it was: no thread makes an entry any more, a command goes first, or it is blocked already. It takes no memory.
-    pub(crate) fn answer(&mut self, t: u8, request: &Request) -> Result<Entry, Why>
+    /// Notes that thread `t`, which runs, was found to stand at the place of this number, where it stands.
+    pub(crate) fn note(&mut self, t: u8, place: u16)
         requires first { 1 ≤ t }
         requires last { t ≤ thread_limit }
+        requires stands { (x : ThreadState) → running_thread (thread_at self.old.store t) ≡ Some x → IsStandOf self.old t x place }
+        requires listed { AllByRecursion (λ k. k ≡ place) (listed_places t self.old.entries) }
+        ensures noted { IsNoted self.old t place self.new }
+        ensures lawful { HasLawfulJournal self.new }
+    {
+        self.stands[t as usize - 1] = Some(place);
+    }
+
+    /// Answers thread `t`, and makes its entry: where its request is disabled that is `Blocked`. With `None` it is blocked already, and the book stays as
+    /// it was. Threads may make entries, and no command goes first. It takes no memory.
+    pub(crate) fn answer(&mut self, t: u8, request: &Request) -> Option<Entry>
+        requires first { 1 ≤ t }
+        requires last { t ≤ thread_limit }
+        requires goes_on { IsClosed self.old → ⊥ }
+        requires no_command { CommandGoesFirst self.old → ⊥ }
         requires asks { Asks self.old t request.now }
-        ensures ok { IfOk result (λ x. MakesAnswer self.old t request.now x self.new) }
-        ensures err { IfErr result (λ w. IsIdleThread self.old t w × (self.new ≡ self.old)) }
+        ensures some { IfSome result (λ x. MakesAnswer self.old t request.now x self.new) }
+        ensures none { IfNone result (IsBlocked (setting self.old) (front self.old) t × (self.new ≡ self.old)) }
         ensures lawful { HasLawfulJournal self.new }
     {
-        if self.is_closed() {
-            return Err(Why::Over);
-        }
-        if self.is_command_first() {
-            return Err(Why::Due);
-        }
         if self.is_blocked(t) {
-            return Err(Why::Blocked);
+            return None;
         }
-        let answer = self.store.ask(t, request);
-        let entry = entry_for(t, request, answer);
-        self.journal.push(entry.copy());
-        self.waits[t as usize - 1] = wait_of(answer);
+        let made = perform(&mut self.store, &mut self.ops, t, request);
+        self.journal.push(made.entry.copy());
+        self.waits[t as usize - 1] = made.wait;
+        self.stands[t as usize - 1] = None;
         self.entry_count += 1;
-        Ok(entry)
-    }
-
-    // Whether each thread that was spawned has ended.
-    fn have_ended(&self) -> bool
-        ensures ended { result ≡ true → AllEnded self.now.store }
-        ensures live { result ≡ false → (t : ℕ) × Lives self.now.store t }
-    {
-        'threads: for t in 1..=THREADS {
-            if let Some(thread) = self.store.thread(t) {
-                if !thread.ended {
-                    return false;
-                }
-            }
-        }
-        true
-    }
-
-    // Whether thread `t` lives and isn't blocked.
-    fn can_go_on(&self, t: u8) -> bool
-        requires first { 1 ≤ t }
-        requires last { t ≤ thread_limit }
-        ensures yes { result ≡ true → CanGoOn self.now t }
-        ensures no { result ≡ false → Lives self.now.store t → IsBlocked (setting self.now) (front self.now) t }
-    {
-        match self.store.thread(t) {
-            Some(thread) => !thread.ended && !self.is_blocked(t),
-            None => false,
-        }
-    }
-
-    // Whether no thread can go on.
-    fn is_stuck(&self) -> bool
-        ensures stuck { result ≡ true → (t : ℕ) → Lives self.now.store t → IsBlocked (setting self.now) (front self.now) t }
-        ensures goes_on { result ≡ false → (t : ℕ) × CanGoOn self.now t }
-    {
-        // there are no more threads
-        let _ = &self.store;
-        'threads: for t in 1..=THREADS {
-            if self.can_go_on(t) {
-                return false;
-            }
-        }
-        true
-    }
-
-    // How the run ends here, if it does.
-    fn ending(&self) -> Option<Ending>
-        ensures some { IfSome result (λ k. Ends (setting self.now) (front self.now) k) }
-        ensures none { IfNone result ((k : Kind) → Ends (setting self.now) (front self.now) k → ⊥) }
-    {
-        if self.entry_count == self.limit {
-            Some(Ending::Limit)
-        } else if self.is_due() {
-            None
-        } else if self.have_ended() {
-            Some(Ending::Done)
-        } else if self.is_stuck() {
-            Some(Ending::Stuck)
-        } else {
-            None
-        }
-    }
-
-    // Refuses the command that is asked.
-    fn refuse(&mut self, k: u8)
-        requires unfinished { HasFinish self.old → ⊥ }
-        requires asked { Control.asked (front self.old).control ≡ Some k }
-        ensures run { IsOfSameRun self.old self.new }
-        ensures turns { Turns self.old choice.Control self.new turned.Moved }
-        ensures store { self.new.store ≡ self.old.store }
-        ensures lawful { HasLawfulJournal self.new }
-    {
-        let refusal = self.commands[k as usize - 1].refusal();
-        self.journal.push(Entry::Refused {
-            k,
-            number: refusal.number,
-            clause: refusal.clause,
-        });
-        self.asked = None;
-    }
-
-    // Asks the next command.
-    fn ask(&mut self)
-        requires unfinished { HasFinish self.old → ⊥ }
-        requires due { IsDue (setting self.old) (front self.old) }
-        ensures run { IsOfSameRun self.old self.new }
-        ensures turns { Turns self.old choice.Control self.new turned.Moved }
-        ensures store { self.new.store ≡ self.old.store }
-        ensures lawful { HasLawfulJournal self.new }
-    {
-        self.journal.push(Entry::Asked { k: self.next });
-        self.asked = Some(self.next);
-        self.next += 1;
-    }
-
-    // Says that the next command isn't reached.
-    fn leave_out(&mut self)
-        requires unfinished { HasFinish self.old → ⊥ }
-        requires asked { Control.asked (front self.old).control ≡ None }
-        requires left { Control.next (front self.old).control ≤ length self.old.commands }
-        requires ends { EndsSo (setting self.old) (front self.old) }
-        ensures run { IsOfSameRun self.old self.new }
-        ensures turns { Turns self.old choice.Control self.new turned.Moved }
-        ensures store { self.new.store ≡ self.old.store }
-        ensures lawful { HasLawfulJournal self.new }
-    {
-        self.journal.push(Entry::Unreached { k: self.next });
-        self.closing = true;
-        self.next += 1;
-    }
-
-    // Finishes the journal, where no command is left.
-    fn finish(&mut self, kind: Ending)
-        requires unfinished { HasFinish self.old → ⊥ }
-        requires asked { Control.asked (front self.old).control ≡ None }
-        requires last { length self.old.commands < Control.next (front self.old).control }
-        requires ends { Ends (setting self.old) (front self.old) kind }
-        ensures run { IsOfSameRun self.old self.new }
-        ensures turns { Turns self.old choice.Control self.new turned.Moved }
-        ensures store { self.new.store ≡ self.old.store }
-        ensures lawful { HasLawfulJournal self.new }
-    {
-        self.journal.push(Entry::Finish { kind });
-        self.finished = true;
-    }
-
-    // Makes the control entry that stands where the run ends and no command is asked.
-    fn end(&mut self, kind: Ending)
-        requires unfinished { HasFinish self.old → ⊥ }
-        requires asked { Control.asked (front self.old).control ≡ None }
-        requires ends { Ends (setting self.old) (front self.old) kind }
-        ensures run { IsOfSameRun self.old self.new }
-        ensures turns { Turns self.old choice.Control self.new turned.Moved }
-        ensures store { self.new.store ≡ self.old.store }
-        ensures lawful { HasLawfulJournal self.new }
-    {
-        if self.next as usize > self.commands.len() {
-            self.finish(kind);
-        } else {
-            self.leave_out();
-        }
-    }
-
-    // Where no command is asked: asks the next one, if it is due, and else makes the control entry that stands where the run ends, if it does.
-    fn ask_or_end(&mut self) -> Turned
-        requires unfinished { HasFinish self.old → ⊥ }
-        requires asked { Control.asked (front self.old).control ≡ None }
-        ensures run { IsOfSameRun self.old self.new }
-        ensures turns { Turns self.old choice.Control self.new result }
-        ensures store { self.new.store ≡ self.old.store }
-        ensures lawful { HasLawfulJournal self.new }
-    {
-        // the journal is lawful
-        let _ = &self.journal;
-        if self.is_due() {
-            self.ask();
-            return Turned::Moved;
-        }
-        match self.ending() {
-            Some(kind) => {
-                self.end(kind);
-                Turned::Moved
-            }
-            None => Turned::Idle(Why::Nothing),
-        }
-    }
-
-    /// The turn of control: it makes the control entry that stands next, if there is one. The command that is asked is refused; else one that is
-    /// due is asked; else, where the run ends, the next command isn't reached, and behind the last one the journal is finished. It takes no memory.
-    pub(crate) fn control(&mut self) -> Turned
-        ensures run { IsOfSameRun self.old self.new }
-        ensures turns { Turns self.old choice.Control self.new result }
-        ensures store { self.new.store ≡ self.old.store }
-        ensures lawful { HasLawfulJournal self.new }
-    {
-        if self.is_finished() {
-            return Turned::Idle(Why::Nothing);
-        }
-        match self.asked {
-            Some(k) => {
-                self.refuse(k);
-                Turned::Moved
-            }
-            None => self.ask_or_end(),
-        }
+        Some(made.entry)
     }
 }

@@ -20,6 +20,8 @@ pub enum Why {
     Unborn,
     /// A command is due, or was asked and will be refused: its answer comes first.
     Due,
+    /// The thread is at a flagged place, of this number.
+    Flagged(u16),
     /// What the thread waits for is still disabled, and its last entry says so.
     Blocked,
     /// No control entry stands next.

@@ -1,19 +1,23 @@
 //! The commands of a run.
-ghost use Rattle.std.specs.Prelude.{◌≡◌, false, Some};
-ghost use Rattle.loom_law.specs.Lawful.{refusal_of};
-ghost use Rattle.loom_world.specs.CommandView.{law_action};
 
 use loom_filter::parse::FilterRefusal;
+use loom_trace::places::Places;
 use loom_tree::name::Name;
 
-/// The number of a refusal: no filter that is put in has the name.
-const NOT_INSTALLED: u8 = 12;
+/// What the text of a filter is.
+#[derive(Debug, Drop)]
+pub(crate) enum Judged {
+    /// It is refused.
+    Refused(FilterRefusal),
+    /// It is a filter; these places are flagged while it is to be put in.
+    Flags(Places),
+}
 
 /// What a command does.
 #[derive(Debug, Drop)]
 pub(crate) enum Action {
-    /// Puts a filter in, whose text is refused.
-    Install(FilterRefusal),
+    /// Puts a filter in.
+    Install(Judged),
     /// Takes a filter out.
     Remove,
 }
@@ -27,19 +31,4 @@ pub(crate) struct Command {
     pub(crate) name: Name,
     /// What it does.
     pub(crate) action: Action,
-}
-
-impl Command {
-    /// Why it is refused, where no filter is put in.
-    pub(crate) fn refusal(&self) -> FilterRefusal
-        ensures { refusal_of (law_action self.now.action) false 0 ≡ Some (result.number, result.clause) }
-    {
-        match &self.action {
-            Action::Install(refusal) => *refusal,
-            Action::Remove => FilterRefusal {
-                clause: 0,
-                number: NOT_INSTALLED,
-            },
-        }
-    }
 }

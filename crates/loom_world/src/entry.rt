@@ -6,8 +6,8 @@ use loom_store::answer::Answer;
 use loom_trace::entry::Entry;
 use loom_trace::request::Request;
 
-// The line of a request.
-fn line_of(request: &Request) -> u32
+/// The line of a request.
+pub(crate) fn line_of(request: &Request) -> u32
     ensures { result ≡ line_in request.now }
 {
     match *request {

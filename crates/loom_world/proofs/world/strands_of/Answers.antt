@@ -1,4 +1,5 @@
 use Rattle.std.proofs.Common.{ℕ, suc, ◌+◌, ◌≡◌, length, length-append, ◌∷◌, [], ap, ◌∙◌, subst, sym, arith, slice_get, Some}
+use Rattle.std.specs.Arc.{arc_value}
 use Rattle.loom_strand.specs.Strand.{Strand, IsNew}
 use Rattle.loom_world.proofs.Strands.{each_more}
 use Rattle.loom_world.proofs.world.strands_of.Goals as goal
@@ -11,7 +12,8 @@ threads-preserved c =
     record {
       count = omega (arith, more, c.threads.invariant.count);
       room = c.push_reserved.ensures.capacity ∙ c.threads.invariant.room;
-      each = subst (λ ss. (i : ℕ) (s : Strand) → slice_get ss i ≡ Some s → IsNew c.args.flow.now.program (suc i) c.args.limit s) (sym c.push_reserved.ensures.items)
-          (each_more (λ i s. IsNew c.args.flow.now.program (suc i) c.args.limit s) c.threads.strands.items c.in_ok-make.field-0 c.threads.invariant.each
-          (subst (λ n. IsNew c.args.flow.now.program n c.args.limit c.in_ok-make.field-0) number c.in_ok-make.ensures));
+      each = subst (λ ss. (i : ℕ) (s : Strand) → slice_get ss i ≡ Some s → IsNew c.args.flow.now.program (arc_value c.args.plans.now) (suc i) c.args.limit s) (sym c.push_reserved.ensures.items)
+          (each_more (λ i s. IsNew c.args.flow.now.program (arc_value c.args.plans.now) (suc i) c.args.limit s) c.threads.strands.items c.in_ok-make.field-0 c.threads.invariant.each
+          (subst (λ fs. IsNew c.args.flow.now.program fs (suc (length c.threads.strands.items)) c.args.limit c.in_ok-make.field-0) c.in_ok-try_clone.ensures
+          (subst (λ n. IsNew c.args.flow.now.program (arc_value c.in_ok-try_clone.field-0) n c.args.limit c.in_ok-make.field-0) number c.in_ok-make.ensures)));
     }

@@ -1,6 +1,5 @@
 use Rattle.std.proofs.Common.{refl, sym, subst}
 use Rattle.loom_trace.specs.declared.entry.Entry.TheVariants as e
-use Rattle.loom_law.specs.Lawful.{IsDue}
 use Rattle.loom_world.specs.declared.choice.Choice.TheVariants as choice
 use Rattle.loom_world.specs.declared.choice.Turned.TheVariants as turned
 use Rattle.loom_world.specs.Book.{Book, setting, front}
@@ -9,6 +8,7 @@ use Rattle.loom_world.specs.Turned.{Turns}
 use Rattle.loom_world.specs.contracts.book.Book.{the_view}
 use Rattle.loom_world.specs.BookInvariant.{BookInvariant}
 use Rattle.loom_world.proofs.InvariantReadings.{unfinished_by, room_left}
+use Rattle.loom_law.specs.Lawful.{IsDue}
 use Rattle.loom_world.proofs.ControlTurns.{may_ask}
 use Rattle.loom_world.proofs.ControlledBook.{asked_kept, control_moves}
 use Rattle.loom_world.proofs.book.Book.ask.Goals as goal
@@ -31,9 +31,9 @@ returns-clause-turns c =
     let b : Book = the_view c.self.inside in
     let open_ = unfinished_by b _ c.self.invariant (subst (λ (z : Book). HasFinish z → ⊥) (sym c.self.view_is) c.requires.unfinished) in
     let due : IsDue (setting b) (front b) = subst (λ (z : Book). IsDue (setting z) (front z)) (sym c.self.view_is) c.requires.due in
-    let new : Book = record { program = b.program; commands = b.commands; limit = b.limit; entries = c.push.new.self.entries; store = b.store } in
+    let new : Book = record b { entries = c.push.new.self.entries } in
     subst (λ (z : Book). Turns z choice.Control new turned.Moved) c.self.view_is
-    (control_moves b _ c.self.invariant open_ (e.Asked c.self.inside.next) refl (may_ask b due c.self.inside.next c.self.invariant.commands.next) c.push.new.self.entries c.push.ensures.appended)
+    (control_moves b _ c.self.invariant open_ (e.Asked c.self.inside.next) refl (record { may = may_ask b due c.self.inside.next c.self.invariant.commands.next; found = tt }) c.push.new.self.entries c.push.ensures.appended)
 
 pub returns-clause-lawful : goal.returns-clause-lawful
 returns-clause-lawful c = BookInvariant.journal (invariant_of-self c)

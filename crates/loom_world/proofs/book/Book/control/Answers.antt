@@ -3,8 +3,8 @@ use Rattle.loom_law.specs.Control.{Control}
 use Rattle.loom_world.specs.Book.{Book, front}
 use Rattle.loom_world.proofs.book.Book.control.Goals as goal
 
-pub refuse-requires-clause-asked : goal.refuse-requires-clause-asked
-refuse-requires-clause-asked c =
+pub reply-requires-clause-asked : goal.reply-requires-clause-asked
+reply-requires-clause-asked c =
     subst (λ (z : Book). Control.asked (front z).control ≡ Some c.in-Some.k) c.self.view_is (sym c.self.invariant.commands.asked ∙ c.in-Some.is)
 
 pub ask_or_end-requires-clause-asked : goal.ask_or_end-requires-clause-asked

@@ -1,7 +1,6 @@
 use Rattle.std.proofs.Common.{◌≡◌, ◌<◌, None, length, refl, sym, subst}
 use Rattle.loom_trace.specs.declared.entry.Entry.TheVariants as e
 use Rattle.loom_law.specs.Control.{Control}
-use Rattle.loom_law.specs.Lawful.{Ends}
 use Rattle.loom_world.specs.declared.choice.Choice.TheVariants as choice
 use Rattle.loom_world.specs.declared.choice.Turned.TheVariants as turned
 use Rattle.loom_world.specs.Book.{Book, setting, front}
@@ -10,6 +9,7 @@ use Rattle.loom_world.specs.Turned.{Turns}
 use Rattle.loom_world.specs.contracts.book.Book.{the_view}
 use Rattle.loom_world.specs.BookInvariant.{BookInvariant}
 use Rattle.loom_world.proofs.InvariantReadings.{unfinished_by, room_left}
+use Rattle.loom_law.specs.Lawful.{Ends}
 use Rattle.loom_world.proofs.ControlTurns.{may_finish}
 use Rattle.loom_world.proofs.ControlledBook.{finished_kept, control_moves}
 use Rattle.loom_world.proofs.book.Book.finish.Goals as goal
@@ -36,9 +36,9 @@ returns-clause-turns c =
     let none : Control.asked (front b).control ≡ None = subst (λ (z : Book). Control.asked (front z).control ≡ None) (sym c.self.view_is) c.requires.asked in
     let all : length b.commands < Control.next (front b).control = subst (λ (z : Book). length z.commands < Control.next (front z).control) (sym c.self.view_is) c.requires.last in
     let ends : Ends (setting b) (front b) c.args.kind = subst (λ (z : Book). Ends (setting z) (front z) c.args.kind) (sym c.self.view_is) c.requires.ends in
-    let new : Book = record { program = b.program; commands = b.commands; limit = b.limit; entries = c.push.new.self.entries; store = b.store } in
+    let new : Book = record b { entries = c.push.new.self.entries } in
     subst (λ (z : Book). Turns z choice.Control new turned.Moved) c.self.view_is
-    (control_moves b _ c.self.invariant open_ (e.Finish c.args.kind) refl (may_finish b none all c.args.kind ends) c.push.new.self.entries c.push.ensures.appended)
+    (control_moves b _ c.self.invariant open_ (e.Finish c.args.kind) refl (record { may = may_finish b none all c.args.kind ends; found = tt }) c.push.new.self.entries c.push.ensures.appended)
 
 pub returns-clause-lawful : goal.returns-clause-lawful
 returns-clause-lawful c = BookInvariant.journal (invariant_of-self c)

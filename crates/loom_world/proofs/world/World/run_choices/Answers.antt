@@ -7,14 +7,14 @@ use Rattle.loom_world.proofs.world.World.run_choices.Goals as goal
 
 pub turns-init : goal.turns-init
 turns-init c = record {
-  run = record { program = refl; commands = refl; limit = refl };
+  run = record { program = refl; filters = refl; commands = refl; limit = refl };
   led = λ new h. h;
   lawful = subst (λ (b : Book). HasLawfulJournal b) c.self.view_is c.self.invariant.1;
 }
 
 pub turns-preserved : goal.turns-preserved
 turns-preserved c = record {
-  run = record { program = c.turn.ensures.run.program ∙ c.turns.invariant.run.program; commands = c.turn.ensures.run.commands ∙ c.turns.invariant.run.commands; limit = c.turn.ensures.run.limit ∙ c.turns.invariant.run.limit };
+  run = record { program = c.turn.ensures.run.program ∙ c.turns.invariant.run.program; filters = c.turn.ensures.run.filters ∙ c.turns.invariant.run.filters; commands = c.turn.ensures.run.commands ∙ c.turns.invariant.run.commands; limit = c.turn.ensures.run.limit ∙ c.turns.invariant.run.limit };
   led =
       λ new h.
       c.turns.invariant.led new

@@ -7,5 +7,5 @@ invariant_of-self c =
     let e = c.control.ensures in (
       c.self.invariant.0 ∙ sym e.run.program,
       e.lawful,
-      strands_controlled c.self.inside.book c.control.new.self c.self.inside.strands.items c.control.result c.self.invariant.2 e.run e.store e.turns,
+      strands_controlled c.self.inside.book c.control.new.self c.self.inside.strands.items c.control.result c.self.invariant.2 e.run e.store e.stands e.turns,
     )

@@ -1,8 +1,8 @@
 use Rattle.std.proofs.Common.{◌≡◌, ◌<◌, ◌-◌, ◌∙◌, Some, length, slice_get, refl, sym, arith, subst}
 use Rattle.std.proofs.lemmas.Option.{slice_get_read}
 use Rattle.loom_world.specs.declared.choice.Choice.TheVariants as choice
+use Rattle.loom_world.specs.declared.choice.Turned.TheVariants as turned
 use Rattle.loom_world.specs.Book.{Book}
-use Rattle.loom_world.specs.Idle.{IsIdleThread}
 use Rattle.loom_world.specs.Turned.{Turns}
 use Rattle.loom_world.proofs.Strands.{strand_at, strands_turned}
 use Rattle.loom_world.proofs.world.World.turn_of.Goals as goal
@@ -19,11 +19,11 @@ invariant_of-self c =
     let e = c.go_on.ensures in (
       c.self.invariant.0 ∙ sym e.run.program,
       e.lawful,
-      strands_turned c.self.inside.book c.go_on.new.book c.self.inside.strands.items c.args.t c.go_on.new.strand c.go_on.result c.self.invariant.2 c.requires.first e.run e.threads e.turns e.strand,
+      strands_turned c.self.inside.book c.go_on.new.book c.self.inside.strands.items c.args.t c.go_on.new.strand c.self.invariant.2 c.requires.first e.run e.threads e.others e.strand,
     )
 
 pub returns-in-Err-clause-turns : goal.returns-in-Err-clause-turns
-returns-in-Err-clause-turns c = (subst (λ (b : Book). IsIdleThread b c.args.t c.in-Err.why) c.self.view_is c.in-Err.ensures.err, refl)
+returns-in-Err-clause-turns c = subst (λ (b : Book). Turns b (choice.Thread c.args.t) b (turned.Idle c.in-Err.why)) c.self.view_is c.in-Err.ensures.err
 
 pub returns-in-Ok-clause-turns : goal.returns-in-Ok-clause-turns
 returns-in-Ok-clause-turns c = subst (λ (b : Book). Turns b (choice.Thread c.args.t) c.go_on.new.book c.go_on.result) c.self.view_is c.go_on.ensures.turns

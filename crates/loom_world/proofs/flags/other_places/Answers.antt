@@ -1,0 +1,9 @@
+use Rattle.std.proofs.Common.{arith}
+use Rattle.loom_flow.proofs.FlowLaws.{few_sites}
+use Rattle.loom_world.proofs.flags.other_places.Goals as goal
+
+pub has-requires : goal.has-requires
+has-requires c = let few = few_sites c.args.flow.now c.code.ensures.lowered in omega (arith, few, c.places-test.true, c.places-p-end.ensures.places)
+
+pub put-requires : goal.put-requires
+put-requires c = let few = few_sites c.args.flow.now c.code.ensures.lowered in omega (arith, few, c.places-test.true, c.places-p-end.ensures.places)

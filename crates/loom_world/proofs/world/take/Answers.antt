@@ -1,0 +1,26 @@
+use Rattle.std.proofs.Common.{sym, ◌∙◌, subst}
+use Rattle.loom_world.specs.Book.{IsStandOf}
+use Rattle.loom_world.specs.Threads.{WaitsFound, HasStrandPart}
+use Rattle.loom_world.proofs.Commits.{took_part, waits_on, stand_found, strand_noted, stands_elsewhere}
+use Rattle.loom_world.proofs.world.take.Goals as goal
+
+pub note-requires-clause-stands : goal.note-requires-clause-stands
+note-requires-clause-stands c z running =
+    let b = c.args.book.now in
+    let s = c.args.strand.now in
+    let new = c.answer.new.self in
+    let part : HasStrandPart b c.args.t new = took_part b c.args.t s new c.args.entry c.requires.behind c.answer.ensures.same c.answer.ensures.passes in
+    let waits : WaitsFound new new.birth new.execution.place = waits_on s new new.birth (c.answer.ensures.stands (sym c.tells_blocked-blocked.ensures ∙ c.if-blocked.true)) in
+    subst (λ k. IsStandOf b c.args.t z k) (sym c.place.ensures) (stand_found b c.requires.behind.lawful c.args.t new new.execution.place part waits z running)
+
+pub returns-then-blocked-clause-strand : goal.returns-then-blocked-clause-strand
+returns-then-blocked-clause-strand c =
+    let b = c.args.book.now in
+    let s = c.args.strand.now in
+    let new = c.answer.new.self in
+    let part : HasStrandPart b c.args.t new = took_part b c.args.t s new c.args.entry c.requires.behind c.answer.ensures.same c.answer.ensures.passes in
+    let waits : WaitsFound new new.birth new.execution.place = waits_on s new new.birth (c.answer.ensures.stands (sym c.tells_blocked-blocked.ensures ∙ c.if-blocked.true)) in
+    strand_noted b c.note.new.self c.args.t c.place.result new c.requires.first c.note.ensures.noted part (subst (λ k. WaitsFound new new.birth k) (sym c.place.ensures) waits)
+
+pub returns-then-blocked-clause-stands : goal.returns-then-blocked-clause-stands
+returns-then-blocked-clause-stands c = stands_elsewhere c.args.book.now c.note.new.self c.args.t c.place.result c.note.ensures.noted

@@ -21,6 +21,11 @@ abbrev pub rounds : ℕ → List Choice
 rounds zero = []
 rounds (suc n) = rounds n ++ round
 
--- A round of a run that isn't finished makes an entry.
+-- two of them
+abbrev pub two_rounds : List Choice
+two_rounds = round ++ round
+
+-- Two rounds of a run that isn't finished make an entry. One alone may make none: in it threads may only be found at flagged places, where the
+-- command that is asked waits for them.
 abbrev pub HasProgress : Type 0
-HasProgress = (old new : Book) → HasLawfulJournal old → (HasFinish old → ⊥) → Lead old round new → length old.entries < length new.entries
+HasProgress = (old new : Book) → HasLawfulJournal old → (HasFinish old → ⊥) → Lead old two_rounds new → length old.entries < length new.entries

@@ -3,7 +3,7 @@ ghost use Rattle.std.specs.Prelude.{ℕ};
 ghost use Rattle.loom_world.specs.Book.{IsOfSameRun, HasLawfulJournal};
 ghost use Rattle.loom_world.specs.Idle.{HasFinish};
 ghost use Rattle.loom_world.specs.World.{Lead};
-ghost use Rattle.loom_crew.specs.Round.{round, rounds};
+ghost use Rattle.loom_crew.specs.Round.{round, two_rounds, rounds};
 
 use loom_trace::limits::THREAD_LIMIT;
 use loom_world::choice::Choice;
@@ -21,8 +21,19 @@ fn run_round(world: &mut World)
     }
 }
 
+// Two rounds.
+fn run_two_rounds(world: &mut World)
+    ensures run { IsOfSameRun world.old world.new }
+    ensures led { Lead world.old two_rounds world.new }
+    ensures lawful { HasLawfulJournal world.new }
+{
+    run_round(world);
+    run_round(world);
+}
+
 /// Runs a world in rounds, from where it is until its journal is finished: a turn of control, then one of thread 1, of thread 2, and so on up
-/// to the last thread that there may be, and again. It takes no memory and always ends, since a round of an unfinished world makes an entry.
+/// to the last thread that there may be, and again. It takes no memory and always ends, since two rounds of an unfinished world make an entry; a finished
+/// world makes none.
 /// Behind it the journal is lawful, and ends with `Finish`; a world that is finished already stays as it is.
 pub fn run_alone(world: &mut World)
     ensures run { IsOfSameRun world.old world.new }
@@ -31,6 +42,6 @@ pub fn run_alone(world: &mut World)
     ensures rounds { (n : ℕ) × Lead world.old (rounds n) world.new }
 {
     'rounds: while !world.finished() {
-        run_round(world);
+        run_two_rounds(world);
     }
 }

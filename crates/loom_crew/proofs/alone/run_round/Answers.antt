@@ -13,7 +13,7 @@ threads-init c = record {
 
 pub threads-preserved : goal.threads-preserved
 threads-preserved c = record {
-  run = record { program = c.turn-in-threads.ensures.run.program ∙ c.threads.invariant.run.program; commands = c.turn-in-threads.ensures.run.commands ∙ c.threads.invariant.run.commands; limit = c.turn-in-threads.ensures.run.limit ∙ c.threads.invariant.run.limit };
+  run = record { program = c.turn-in-threads.ensures.run.program ∙ c.threads.invariant.run.program; filters = c.turn-in-threads.ensures.run.filters ∙ c.threads.invariant.run.filters; commands = c.turn-in-threads.ensures.run.commands ∙ c.threads.invariant.run.commands; limit = c.turn-in-threads.ensures.run.limit ∙ c.threads.invariant.run.limit };
   led =
       λ new h.
       c.threads.invariant.led new

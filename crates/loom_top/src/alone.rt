@@ -63,11 +63,13 @@ fn answer<F: Shelf, K: Sink>(alloc: Global, words: &[&str], shelf: &mut F, sink:
 
 /// All that the program does, but for its `main`. By the words `run PROG`, behind which `SCRIPT` may stand and then `--steps B`, it runs the
 /// program in the file PROG with the commands of the script in the file SCRIPT, and writes the text of the journal. A command that comes to be due
-/// is asked and refused, since for now no filter can be put in; each other one is told to be unreached. Without SCRIPT there is none. B, from 1 to
-/// 1,000,000 in decimal, is how many entries threads make at most, and without it they are 100,000. By the words `show PROG` it writes the
-/// program's canonical text, and by `show PROG FILTER`, with a text of at most 65,536 bytes, what that filter is for it: that it is refused for its
-/// text, for what it names or for its paths, or how many clauses it has, the lines of its events, and the places that are unsafe for it, with their
-/// lines. PROG and SCRIPT aren't empty and don't begin with `-`. What it answers is the status with which the program ends:
+/// is asked, and has one answer: its filter is in, or is out, or it is refused, stalled or cut; each other command is told to be unreached. From its
+/// installation to its removal a filter is obeyed, and it comes in while no thread is inside it; what is refused, stalled, cut or unreached changes
+/// neither the version nor its filters. For now only filters of exclusions go in. Without SCRIPT there is no command. B, from 1 to 1,000,000 in
+/// decimal, is how many entries threads make at most, and without it they are 100,000. By the words `show PROG` it writes the program's canonical
+/// text, and by `show PROG FILTER`, with a text of at most 65,536 bytes, what that filter is for it: that it is refused for its text, for what it
+/// names or for its paths, or how many clauses it has, the lines of its events, and the places that are unsafe for it, with their lines. PROG and
+/// SCRIPT aren't empty and don't begin with `-`. What it answers is the status with which the program ends:
 ///
 /// 0 the run is done, since all threads have ended, or the program or the filter was shown, and what was to be written was; 1 the words are no
 /// invocation; 2 the program's file is no program; 3 the script's file is no script, or has a command that waits for a stall, which isn't built

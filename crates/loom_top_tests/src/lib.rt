@@ -4,7 +4,11 @@
 #[cfg(test)]
 mod alone;
 #[cfg(test)]
+mod bank;
+#[cfg(test)]
 mod filters;
+#[cfg(test)]
+mod installs;
 #[cfg(test)]
 mod limits;
 #[cfg(test)]

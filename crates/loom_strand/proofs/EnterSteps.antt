@@ -85,8 +85,9 @@ pub flagged_entry : (c : Flow) (cs : List (Option Compiled)) (b : Birth) (flags 
 flagged_entry c cs b flags newer e en is may there flag = stays_before c cs b flags newer e (stop.Flagged en.place) may ((entering c b e is may).1.1.1, (passes_entry c b e en is there, flag))
 
 pub crossed_entry : (c : Flow) (cs : List (Option Compiled)) (b : Birth) (flags : List ℕ) (newer : Bool) (e : Execution) (en : Entrance) → e.stage ≡ stage.Enters → MayRun c b e → slice_get c.entrances b.func ≡ Some en
-    → newer ≡ true → Runs c cs b flags newer e e (stop.Crosses en.place)
-crossed_entry c cs b flags newer e en is may there new = stays_before c cs b flags newer e (stop.Crosses en.place) may ((entering c b e is may).1.1.1, (passes_entry c b e en is there, new))
+    → newer ≡ true → has_place flags en.place ≡ false → Runs c cs b flags newer e e (stop.Crosses en.place)
+crossed_entry c cs b flags newer e en is may there new free =
+    stays_before c cs b flags newer e (stop.Crosses en.place) may ((entering c b e is may).1.1.1, (passes_entry c b e en is there, (new, free)))
 
 -- The mark of the first frame.
 entry_mark : (c : Flow) (b : Birth) (en : Entrance) (n : Machine) → IsLowered c → slice_get c.entrances b.func ≡ Some en → n.state ≡ at_start b.func en b.args [] []
@@ -170,8 +171,8 @@ pub flagged_at : (c : Flow) (cs : List (Option Compiled)) (b : Birth) (flags : L
 flagged_at c cs b flags newer e es d is may same flag = flagged_entry c cs b flags newer e (get_or es b.func d) is may (there_at c b e es d is may same) flag
 
 pub crossed_at : (c : Flow) (cs : List (Option Compiled)) (b : Birth) (flags : List ℕ) (newer : Bool) (e : Execution) (es : List Entrance) (d : Entrance) → e.stage ≡ stage.Enters → MayRun c b e → es ≡ c.entrances
-    → newer ≡ true → Runs c cs b flags newer e e (stop.Crosses (get_or es b.func d).place)
-crossed_at c cs b flags newer e es d is may same new = crossed_entry c cs b flags newer e (get_or es b.func d) is may (there_at c b e es d is may same) new
+    → newer ≡ true → has_place flags (get_or es b.func d).place ≡ false → Runs c cs b flags newer e e (stop.Crosses (get_or es b.func d).place)
+crossed_at c cs b flags newer e es d is may same new free = crossed_entry c cs b flags newer e (get_or es b.func d) is may (there_at c b e es d is may same) new free
 
 pub passes_at : (c : Flow) (cs : List (Option Compiled)) (b : Birth) (e : Execution) (es : List Entrance) (d : Entrance) (n : Machine) → IsLowered c → e.stage ≡ stage.Enters → MayRun c b e → es ≡ c.entrances
     → n ≡ with_position e.machine (before (at_start b.func (get_or es b.func d) b.args [] [])) → IsSomewhere c cs b e → CanPass c cs e.walk n.state (m.Enter b.func (get_or es b.func d).place)

@@ -116,10 +116,10 @@ no_asked q h = cc
 -- There is one such place at most, and a thread that passes one with its next step isn't halting.
 
 same_next : (c : Flow) (b : Birth) (s : Stage) (m : Machine) (j k : ℕ) → PassesNextFrom c b s m j → PassesNextFrom c b s m k → j ≡ k
-same_next c b stage.Waits m j k f g = some_place j k (sym f ∙ g)
+same_next c b stage.Waits m j k f g = absurd f
 same_next c b stage.Enters m j k f g = some_place j k (sym f ∙ g)
 same_next c b stage.Runs m j k f g = some_place j k (sym f ∙ g)
-same_next c b stage.Over m j k f g = some_place j k (sym f ∙ g)
+same_next c b stage.Over m j k f g = absurd f
 
 pub one_next : (c : Flow) (b : Birth) (e : Execution) (j k : ℕ) → PassesNext c b e j → PassesNext c b e k → j ≡ k
 one_next c b e j k f g = same_next c b e.stage e.machine j k f g

@@ -1,6 +1,7 @@
 -- The last entry of a thread, and the last version that it took.
-use Rattle.std.proofs.Common.{ℕ, suc, ◌+◌, ◌≡◌, ◌≤◌, ◌<◌, Bool, false, List, [], ◌∷◌, ◌++◌, length, length-append, refl, arith}
+use Rattle.std.proofs.Common.{ℕ, suc, ◌+◌, ◌≡◌, ◌≤◌, ◌<◌, Bool, true, false, List, [], ◌∷◌, ◌++◌, length, length-append, refl, arith}
 use Rattle.loom_trace.specs.declared.entry.Entry.{Entry}
+use Rattle.loom_trace.specs.declared.entry.Entry.TheVariants as e
 use Rattle.loom_law.specs.Walk.{Version}
 use Rattle.loom_law.specs.TurnLaws.{is_blocked_entry, blocked_behind, ends_blocked}
 use Rattle.loom_version.specs.Version.{version_limit}
@@ -11,6 +12,11 @@ use Rattle.loom_strand.specs.Strand.{IsLaterThanLast, IsOutrun}
 use Rattle.loom_strand.specs.StrandInvariant.{HaveNumbersFrom, HaveNumbers}
 
 -- Entries
+
+end_unblocked : (x : Entry) → is_end x ≡ true → is_blocked_entry x ≡ true → ⊥
+end_unblocked (e.End t l) ended told = let no : false ≡ true = told in cc
+end_unblocked (e.Blocked t l what) ended told = let no : false ≡ true = ended in cc
+end_unblocked _ ended told = let no : false ≡ true = ended in cc
 
 blocked_with : (b : Bool) (es : List Entry) (x : Entry) → blocked_behind b (es ++ x ∷ []) ≡ is_blocked_entry x
 blocked_with b [] x = refl
@@ -37,6 +43,15 @@ last_ends (y ∷ z ∷ es) x = last_ends (z ∷ es) x
 
 pub one_more : (es : List Entry) (x : Entry) → length (es ++ x ∷ []) ≡ suc (length es)
 one_more es x = omega (arith, length-append es (x ∷ []))
+
+-- behind its end a thread isn't blocked
+ended_behind : (b : Bool) (es : List Entry) → has_ended es ≡ true → blocked_behind b es ≡ true → ⊥
+ended_behind b [] ended told = let no : false ≡ true = ended in cc
+ended_behind b (x ∷ []) ended told = end_unblocked x ended told
+ended_behind b (x ∷ y ∷ es) ended told = ended_behind (is_blocked_entry x) (y ∷ es) ended told
+
+pub ended_unblocked : (es : List Entry) → has_ended es ≡ true → ends_blocked es ≡ true → ⊥
+ended_unblocked es ended told = ended_behind false es ended told
 
 -- Versions
 

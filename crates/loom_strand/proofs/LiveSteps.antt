@@ -71,6 +71,7 @@ goes_to_halt c cs b flags newer v old mid new x y free run same comes = record {
   stands = λ g. subst (λ (e : Execution). StaysAtRequest c cs b e new) (run.still g) comes.stands g;
   stays = λ k h. subst (λ (e : Execution). StaysBefore c b flags newer e new) (run.waits k h) comes.stays k h;
   halts = comes.halts;
+  free = comes.free;
 }
   where
     stands_still : mid ≡ old → StandsStill c cs b old new

@@ -17,6 +17,7 @@ use Rattle.loom_law.specs.Walk.{Version, PartStep, Queue, Walk, request_place}
 use Rattle.loom_law.specs.ThreadPart.{walk_of}
 use Rattle.loom_law.specs.TurnLaws.{ends_blocked}
 use Rattle.loom_law.proofs.PlaceNumbers.{one_number}
+use Rattle.loom_plan.specs.Compiled.{Compiled}
 use Rattle.loom_walk.specs.Owed.{queue}
 use Rattle.loom_strand.specs.declared.execution.Execution.{Execution}
 use Rattle.loom_strand.specs.declared.stage.Birth.{Birth}
@@ -30,9 +31,9 @@ use Rattle.loom_strand.specs.Life.{has_none, asks_cross}
 use Rattle.loom_strand.specs.Way.{Look, looks_for_grant, IsJoining, first_frame, next_step, end_line, IsNextPlace, IsPlaceAhead}
 use Rattle.loom_strand.specs.Halt.{PassesNextFrom, PassesNext, IsStopped, IsHalting, by_request, by_owed}
 use Rattle.loom_strand.specs.InPart.{IsInPart, AreIn, ArePassedBy, HasGone}
-use Rattle.loom_strand.specs.Strand.{Strand, plans, own_of, IsOutrun, StandsAt, IsPlaceOfRequest, Requests, StandsFlagged, StaysAt, KeepsFrom, KeepsAwayFrom, Parks, MayPark, KeepsParking, IsSameWant, request_in}
+use Rattle.loom_strand.specs.Strand.{Strand, plans, own_of, IsOutrun, StandsAt, IsPlaceOfRequest, Requests, StandsFlagged, WaitsUnflagged, HeedsFlags, StaysAt, KeepsFrom, KeepsAwayFrom, Parks, MayPark, KeepsParking, IsSameWant, request_in}
 use Rattle.loom_strand.specs.StrandInvariant.{IsAsked, AsksIfAny, CrossesIfAny, IsWaiting, LivingInvariant}
-use Rattle.loom_strand.specs.PrivateRun.{MayRunFrom, MayRun, Halts, StandsStill, GoesToHalt}
+use Rattle.loom_strand.specs.PrivateRun.{MayRunFrom, MayRun, Halts, AsksFree, StandsStill, GoesToHalt}
 use Rattle.loom_strand.proofs.HaltSteps.{IsComing, coming, site_within, ahead_of}
 use Rattle.loom_strand.proofs.LastEntries.{last_blocked}
 use Rattle.loom_strand.proofs.NextRequests.{asked_next}
@@ -322,6 +323,39 @@ stays_on s b flags newer v e x h k waits stops = by_rests waits.rests
     by_rests : ((queue s.execution.walk.owed ≡ []) × PassesNext (lowered s.program) b s.execution k) ⊎ (ends_blocked s.entries ≡ true) → e.place ≡ k
     by_rests (inl (rests, passes)) = ap (λ (d : Execution). d.place) (h.run.stays k (record { rests = rests; passes = passes; stops = by_stop stops }))
     by_rests (inr is) = ap (λ (d : Execution). d.place) (stays_blocked s b flags newer v e x h is) ∙ waits.stands.here
+
+-- It asks for something where it waits at no flagged place.
+
+free_still : (c : Flow) (cs : List (Option Compiled)) (b : Birth) (flags : List ℕ) (old new : Execution) (q : Request) (k : ℕ) → StandsStill c cs b old new → AsksFree c b flags new (want.Ask q) → queue old.walk.owed ≡ []
+    → PassesNext c b old k → has_place flags k ≡ false
+free_still c cs b flags old new q k still free rests passes =
+    free k (ap (λ (d : Execution). queue d.walk.owed) still.same ∙ rests) (subst (λ (d : Execution). PassesNext c b d k) (sym still.same) passes)
+
+blocked_free : (s : Strand) (b : Birth) (flags : List ℕ) (newer : Bool) (v : Version) (e : Execution) (x : Want) (k : ℕ) → LivesOn s b flags newer v e x → ends_blocked s.entries ≡ true → s.execution.place ≡ k
+    → has_place flags k ≡ false
+blocked_free s b flags newer v e x k h is here = subst (λ n. has_place flags n ≡ false) here (h.run.unblocked (h.inv.blocked ∙ is))
+
+waited_free : (s : Strand) (b : Birth) (flags : List ℕ) (newer : Bool) (v : Version) (e : Execution) (q : Request) → LivesOn s b flags newer v e (want.Ask q) → WaitsUnflagged s b flags
+waited_free s b flags newer v e q h k waits = by_flag (has_place flags k) refl waits.rests
+  where
+    by_flag : (o : Bool) → has_place flags k ≡ o → ((queue s.execution.walk.owed ≡ []) × PassesNext (lowered s.program) b s.execution k) ⊎ (ends_blocked s.entries ≡ true) → has_place flags k ≡ false
+    by_flag false is rests = is
+    by_flag true is (inl (rests, passes)) =
+        free_still (lowered s.program) s.filters b flags s.execution e q k (h.run.waits k (record { rests = rests; passes = passes; stops = inl is })) h.run.free rests passes
+    by_flag true is (inr told) = blocked_free s b flags newer v e (want.Ask q) k h told waits.stands.here
+
+waits_free : (s : Strand) (b : Birth) (flags : List ℕ) (newer : Bool) (v : Version) (e : Execution) (q : Request) → LivesOn s b flags newer v e (want.Ask q) → WaitsUnflagged (went s v e (want.Ask q)) b flags
+waits_free s b flags newer v e q h k waits = by_rests waits.rests
+  where
+    by_rests : ((queue e.walk.owed ≡ []) × PassesNext (lowered s.program) b e k) ⊎ (ends_blocked s.entries ≡ true) → has_place flags k ≡ false
+    by_rests (inl (rests, passes)) = h.run.free k rests passes
+    by_rests (inr is) =
+        blocked_free s b flags newer v e (want.Ask q) k h is (ap (λ (d : Execution). d.place) (sym (stays_blocked s b flags newer v e (want.Ask q) h is)) ∙ waits.stands.here)
+
+pub heeds_on : (s : Strand) (b : Birth) (flags : List ℕ) (newer : Bool) (v : Version) (e : Execution) (x : Want) → LivesOn s b flags newer v e x → HeedsFlags s (went s v e x) (Some b) flags x
+heeds_on s b flags newer v e (want.Ask q) h = (waited_free s b flags newer v e q h, waits_free s b flags newer v e q h)
+heeds_on s b flags newer v e (want.Place k) h = tt
+heeds_on s b flags newer v e want.Ended h = absurd h.run.halts
 
 -- The same again
 

@@ -1,6 +1,6 @@
 -- What a private run of a thread keeps, and what it comes to, however far the thread was.
 use Rattle.std.specs.Prelude.{◌↔◌, IsTrue}
-use Rattle.std.proofs.Common.{ℕ, ◌≡◌, ◌≤◌, ◌⊎◌, Bool, true, true≢false, List, [], ◌∷◌, ◌++◌, Option, Some, None, slice_get, refl, inl, inr, sym, ap, subst, ◌∙◌}
+use Rattle.std.proofs.Common.{ℕ, ◌≡◌, ◌≤◌, ◌⊎◌, Bool, true, false, true≢false, List, [], ◌∷◌, ◌++◌, Option, Some, None, slice_get, refl, inl, inr, sym, ap, subst, ◌∙◌}
 use Rattle.loom_tree.specs.Tree.{Function}
 use Rattle.loom_lang.specs.Places.{line_of_function}
 use Rattle.loom_lang.specs.Trace.{made, begin, Open, IsTrace, thread_end}
@@ -15,23 +15,27 @@ use Rattle.loom_flow.specs.FlatCode.{lowered}
 use Rattle.loom_flow.specs.FlatTrace.{flat_start, flat_thread, IsFlatTrace}
 use Rattle.loom_law.specs.Walk.{Version}
 use Rattle.loom_law.specs.ThreadPart.{Own, AsksToAct}
+use Rattle.loom_law.specs.TurnLaws.{ends_blocked}
 use Rattle.loom_plan.specs.Compiled.{Compiled}
 use Rattle.loom_version.specs.Version.{version_limit}
+use Rattle.loom_walk.specs.Owed.{queue}
 use Rattle.loom_strand.specs.declared.execution.Execution.{Execution}
 use Rattle.loom_strand.specs.declared.stage.Birth.{Birth}
 use Rattle.loom_strand.specs.declared.stage.Stage.{Stage}
 use Rattle.loom_strand.specs.declared.stage.Stage.TheVariants as stage
 use Rattle.loom_strand.specs.declared.stage.Want.{Want}
 use Rattle.loom_strand.specs.declared.stage.Want.TheVariants as want
-use Rattle.loom_strand.specs.Life.{has_none, asks_cross, IsLastBlockedAt}
+use Rattle.loom_strand.specs.Life.{has_none, has_ended, asks_cross, IsLastBlockedAt}
+use Rattle.loom_strand.specs.Halt.{PassesNextFrom, PassesNext}
 use Rattle.loom_strand.specs.Way.{end_line}
-use Rattle.loom_strand.specs.Strand.{Strand, plans, own_of, CanTake, IsOutrun, Requests, StaysAt, Parks, MayPark, KeepsParking, Wants, IsSameWant, request_in}
+use Rattle.loom_strand.specs.Strand.{Strand, plans, own_of, CanTake, IsOutrun, Requests, WaitsUnflagged, HeedsFlags, StaysAt, Parks, MayPark, KeepsParking, Wants, IsSameWant, request_in}
 use Rattle.loom_strand.specs.StrandInvariant.{HasRoom, MayTake, AsksBegin, WaitingInvariant, LivingInvariant, StageInvariant, IsBlank, IsSound, StrandInvariant}
 use Rattle.loom_strand.specs.PrivateRun.{MayRunFrom, MayRun, GoesToHalt, StaysBlocked, RunsFrom, MayHaltFrom, MayHalt}
 use Rattle.loom_strand.proofs.Entrances.{entrance_within}
 use Rattle.loom_strand.proofs.PartSteps.{flat_tree}
 use Rattle.loom_strand.proofs.Replies.{asks_begin_line}
-use Rattle.loom_strand.proofs.LivingRuns.{went, LivesOn, lives_on, requests_of, stands_flagged, parks_on, stays_on, again_on, halted, blocked_lives, blocked_stands, blocked_keeps}
+use Rattle.loom_strand.proofs.LastEntries.{ended_unblocked}
+use Rattle.loom_strand.proofs.LivingRuns.{went, LivesOn, lives_on, requests_of, stands_flagged, heeds_on, parks_on, stays_on, again_on, halted, blocked_lives, blocked_stands, blocked_keeps}
 
 -- A private run of a thread of this birth with a version, and what it came to.
 pub record IsPrivateRun (s : Strand) (b : Birth) (flags : List ℕ) (newer : Bool) (v : Version) (e : Execution) (x : Want) : Type 0 where
@@ -211,11 +215,31 @@ begin_parks s b v places l h = (
 begin_waits : (s : Strand) (b : Birth) (v : Version) → WaitingInvariant s b → WaitingInvariant (begins_so s b v) b
 begin_waits s b v h = record { none = h.none; versions = h.versions; function = h.function; asks = inr refl; place = h.place }
 
+-- Before its begin and behind its end it waits nowhere.
+
+no_blocked : (es : List Entry) → es ≡ [] → ends_blocked es ≡ true → ⊥
+no_blocked es none is = let no : false ≡ true = sym (ap ends_blocked none) ∙ is in cc
+
+never_begun : (s : Strand) (b : Birth) (flags : List ℕ) → s.execution.stage ≡ stage.Waits → WaitingInvariant s b → WaitsUnflagged s b flags
+never_begun s b flags is h k waits = by_rests waits.rests
+  where
+    by_rests : ((queue s.execution.walk.owed ≡ []) × PassesNext (lowered s.program) b s.execution k) ⊎ (ends_blocked s.entries ≡ true) → has_place flags k ≡ false
+    by_rests (inl (rests, passes)) = absurd (subst (λ t. PassesNextFrom (lowered s.program) b t s.execution.machine k) is passes)
+    by_rests (inr told) = absurd (no_blocked s.entries h.none told)
+
+never_over : (s : Strand) (b : Birth) (flags : List ℕ) → s.execution.stage ≡ stage.Over → has_ended s.entries ≡ true → WaitsUnflagged s b flags
+never_over s b flags is ended k waits = by_rests waits.rests
+  where
+    by_rests : ((queue s.execution.walk.owed ≡ []) × PassesNext (lowered s.program) b s.execution k) ⊎ (ends_blocked s.entries ≡ true) → has_place flags k ≡ false
+    by_rests (inl (rests, passes)) = absurd (subst (λ t. PassesNextFrom (lowered s.program) b t s.execution.machine k) is passes)
+    by_rests (inr told) = absurd (ended_unblocked s.entries ended told)
+
 -- All of it, by how far the thread was
 
 pub record HasComeTo (s : Strand) (b : Birth) (flags : List ℕ) (v : Version) (e : Execution) (x : Want) : Type 0 where
   pub kept : StrandInvariant (went s v e x)
   pub wants : Wants (went s v e x) (Some b) flags x
+  pub heeds : HeedsFlags s (went s v e x) (Some b) flags x
   pub parks : KeepsParking s (went s v e x) (Some b) flags x
   pub stays : StaysAt s (went s v e x) (Some b) flags v
   pub again : (q : Request) → s.want ≡ Some q → v ≡ s.newest → IsSameWant q x
@@ -230,6 +254,7 @@ comes_on : (s : Strand) (b : Birth) (flags : List ℕ) (newer : Bool) (v : Versi
 comes_on s b flags newer v e x i born takes few h = record {
   kept = goes_kept s b v e x i born takes few h.run.may h.run.notes.room (lives_on s b flags newer v e x h);
   wants = wants_living s b flags newer v e x h;
+  heeds = heeds_on s b flags newer v e x h;
   parks = parks_on s b flags newer v e x h;
   stays = stays_on s b flags newer v e x h;
   again = λ q is same. again_on s b flags newer v e x i.lawful h q is same;
@@ -246,6 +271,7 @@ comes_blocked : (s : Strand) (b : Birth) (flags : List ℕ) (v : Version) → Is
 comes_blocked s b flags v l i born takes few may h told flag = record {
   kept = stays_kept s b v (want.Place s.execution.place) i born takes few (living_stage s b v s.execution.stage may h);
   wants = blocked_stands s b flags v l may h told flag;
+  heeds = tt;
   parks = λ places within k. blocked_keeps s b v places k;
   stays = λ k w stops. w.stands.here;
   again = λ q is same. tt;
@@ -269,6 +295,7 @@ by_stage s b flags newer v e x stage.Waits p is h k =
       kept = stays_kept s b v (want.Ask (r.Begin (end_line s.program b.func))) p.inv p.birth p.takes p.few
           (subst (λ t. StageInvariant t (begins_so s b v) (Some b)) (sym is) (begin_waits s b v h));
       wants = begin_requests s b v p.low h;
+      heeds = (never_begun s b flags is h, never_begun (begins_so s b v) b flags is (begin_waits s b v h));
       parks = λ places within f. begin_parks s b v places p.low h;
       stays = λ n w stops. w.stands.here;
       again = λ q asked same. same_begin (end_line s.program b.func) s.want q h.asks asked;
@@ -281,6 +308,7 @@ by_stage s b flags newer v e x stage.Over p is h k =
       kept = stays_kept s b v want.Ended p.inv p.birth p.takes p.few
           (subst (λ t. StageInvariant t (went s v s.execution want.Ended) (Some b)) (sym is) (record { function = h.function; whole = h.whole; ended = h.ended; asks = refl }));
       wants = record { whole = h.whole; ended = h.ended };
+      heeds = (never_over s b flags is h.ended, never_over (went s v s.execution want.Ended) b flags is h.ended);
       parks = tt;
       stays = λ n w stops. w.stands.here;
       again = λ q asked same. (let no : None ≡ Some q = sym h.asks ∙ asked in cc);

@@ -8,6 +8,7 @@ use Rattle.loom_flow.specs.Progress.{Progress, goes, asks, traps, ends, nothing,
 use Rattle.loom_flow.specs.Code.{IsLowered}
 use Rattle.loom_flow.proofs.FlowLaws.{instructions_of, few_sites}
 use Rattle.loom_trace.specs.Limits.{place_limit}
+use Rattle.loom_trace.specs.Places.{has_place}
 use Rattle.loom_trace.specs.declared.request.Request.{Request}
 use Rattle.loom_trace.specs.declared.request.Request.TheVariants as r
 use Rattle.loom_law.specs.Walk as law
@@ -31,7 +32,7 @@ use Rattle.loom_strand.specs.Life.{asks_cross}
 use Rattle.loom_strand.specs.Way.{Look, next_step, end_line, IsWay, IsNextPlace, IsPlaceAhead}
 use Rattle.loom_strand.specs.StrandInvariant.{IsSoundPosition, operation_request, IsAsked, asks_act, asks_owed, asks_version}
 use Rattle.loom_strand.specs.Halt.{PassesNext, IsStopped, IsHalting, by_request, by_owed}
-use Rattle.loom_strand.specs.PrivateRun.{IsRunning, MayRunFrom, MayRun, Stops, HasStopped, IsLineAt, IsFirstRequest, StaysAtRequest, StaysBefore, ComesOf}
+use Rattle.loom_strand.specs.PrivateRun.{IsRunning, MayRunFrom, MayRun, Stops, HasStopped, IsLineAt, IsFirstRequest, AsksFree, StaysAtRequest, StaysBefore, ComesOf}
 use Rattle.loom_strand.proofs.Asked.{AsksAt, asks_no_end, asks_inside}
 use Rattle.loom_strand.proofs.HaltSteps.{IsComing, coming_by, coming, placed, one_next, next_no_halt, stopped_by, site_within, line_at, here_no_cross, here_ahead, ahead_of, ahead_owing, asked_place}
 use Rattle.loom_strand.proofs.RunSteps.{runs_next, at_rest}
@@ -69,6 +70,10 @@ stays_before c b flags newer e k passes j h = ap (λ (n : ℕ). record e { place
 halts_before : (c : Flow) (b : Birth) (flags : List ℕ) (newer : Bool) (e new : Execution) → IsHalting c e → StaysBefore c b flags newer e new
 halts_before c b flags newer e new halting j h = absurd (next_no_halt c b e j h.rests h.passes halting)
 
+-- and asks before no flagged one
+asks_free : (c : Flow) (b : Birth) (flags : List ℕ) (e : Execution) (q : Request) → IsHalting c e → AsksFree c b flags e (want.Ask q)
+asks_free c b flags e q halting k rests passes = absurd (next_no_halt c b e k rests passes halting)
+
 stays_here : (c : Flow) (cs : List (Option Compiled)) (b : Birth) (e : Execution) → StaysAtRequest c cs b e e
 stays_here c cs b e halting x look steps there at = refl
 
@@ -91,6 +96,7 @@ wants_flagged c cs b flags newer v e k l may s =
     record {
       keeps = λ x look steps there. placed c cs b x e k look steps s.0 h.lives there;
       halts = (s.0, (s.1.0, (s.1.1, refl)));
+      free = tt;
       stands = stays_next c cs b e (record e { place = k }) k s.0 s.1.0;
       stays = stays_before c b flags newer e k s.1.0;
     }
@@ -106,8 +112,9 @@ wants_crosses c cs b flags newer v e k q l may s told =
         λ x look steps there.
             (let z : Walk = walk_of c.program (plans_in cs) x steps in
             asks_newer c cs e z w (end_line c.program b.func) k h.place v q told there.there.at (ahead_of z z.owed w h.place (at_rest c cs e z s.0 there.there.at) (h.next z)) h.at),
-        told.asks ∙ sym s.1.1,
+        told.asks ∙ sym s.1.1.0,
       );
+      free = λ j rests passes. subst (λ n. has_place flags n ≡ false) (one_next c b e k j s.1.0 passes) s.1.1.1;
       stands = stays_next c cs b e (record e { place = k }) k s.0 s.1.0;
       stays = stays_before c b flags newer e k s.1.0;
     }
@@ -162,6 +169,7 @@ wants_request c cs b flags newer v e k q l at s old =
             asks_act none (asked (end_line c.program b.func)) (stop_place c (plans_in cs) x w look steps k q l none asked here there.way)),
         here_no_cross 0 w q (asked 0) ∙ sym old,
       );
+      free = asks_free c b flags e q (halts_asking c e q s.1.0 s.1.1);
       stands = stays_asking c cs b e k q l s.0 asked here;
       stays = halts_before c b flags newer e (record e { place = k }) (halts_asking c e q s.1.0 s.1.1);
     }
@@ -182,6 +190,7 @@ wants_newer c cs b flags newer v e k q u l at s new told =
             (stop_place c (plans_in cs) x w look steps k q l none asked here there.way)),
         told.asks ∙ sym new,
       );
+      free = asks_free c b flags e u (halts_asking c e q s.1.0 s.1.1);
       stands = stays_asking c cs b e k q l s.0 asked here;
       stays = halts_before c b flags newer e (record e { place = k }) (halts_asking c e q s.1.0 s.1.1);
     }
@@ -218,6 +227,7 @@ wants_last c cs b flags newer v e n line s old =
             (there.there.place.ending over),
         sym old,
       );
+      free = asks_free c b flags e (r.End n) (halts_ending c b flags newer e s);
       stands = stays_here c cs b e;
       stays = halts_before c b flags newer e e (halts_ending c b flags newer e s);
     }
@@ -236,6 +246,7 @@ wants_newer_end c cs b flags newer v e u s new told =
             (ahead_of z z.owed w (request_place z) (at_rest c cs e z s.0 there.there.at) (subst (λ y. IsNextPlace z y (request_place z)) (sym over) refl)) (there.there.place.ending over)),
         told.asks ∙ sym new,
       );
+      free = asks_free c b flags e u (halts_ending c b flags newer e s);
       stands = stays_here c cs b e;
       stays = halts_before c b flags newer e e (halts_ending c b flags newer e s);
     }
@@ -276,6 +287,7 @@ wants_operation c cs b flags newer v e q first s old =
     record {
       keeps = λ x look steps there. there;
       halts = (λ x look steps there. asks_owed o.0 o.1.0 (subst (λ os. Owes os o.0 o.1.0) (sym there.there.at.owed) o.1.1.0) o.1.1.1, first_no_cross (queue e.walk.owed) q first ∙ sym old);
+      free = asks_free c b flags e q (by_owed s);
       stands = stays_here c cs b e;
       stays = halts_before c b flags newer e e (by_owed s);
     }
@@ -292,6 +304,7 @@ wants_newer_owing c cs b flags newer v e u s new told = record {
         (ahead_owing z z.owed (next_step c b e.stage e.machine) (request_place z) owes refl) (there.there.place.owing owes)),
     told.asks ∙ sym new,
   );
+  free = asks_free c b flags e u (by_owed s);
   stands = stays_here c cs b e;
   stays = halts_before c b flags newer e e (by_owed s);
 }

@@ -12,10 +12,11 @@ use Rattle.loom_strand.specs.declared.stage.Stage.TheVariants as stage
 use Rattle.loom_strand.specs.Machine.{Machine, position}
 use Rattle.loom_strand.specs.StepResult.{place_here, place_coming}
 
--- The next step passes the place of this number.
+-- The next step passes the place of this number. A thread that hasn't begun, or has ended, passes none.
 abbrev pub PassesNextFrom : Flow → Birth → Stage → Machine → ℕ → Type 0
 PassesNextFrom c b stage.Enters m k = option_map (λ (x : Entrance). x.place) (slice_get c.entrances b.func) ≡ Some k
-PassesNextFrom c b _ m k = place_coming c (place_here c (position m)) (progress c (position m)) ≡ Some k
+PassesNextFrom c b stage.Runs m k = place_coming c (place_here c (position m)) (progress c (position m)) ≡ Some k
+PassesNextFrom c b _ m k = ⊥
 
 abbrev pub PassesNext : Flow → Birth → Execution → ℕ → Type 0
 PassesNext c b e k = PassesNextFrom c b e.stage e.machine k

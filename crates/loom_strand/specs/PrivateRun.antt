@@ -56,7 +56,7 @@ abbrev pub Stops : Flow → Birth → List ℕ → Bool → Execution → Stop �
 Stops c b flags newer e (stop.Asks q) = (queue e.walk.owed ≡ []) × ((e.stage ≡ stage.Runs) × ((line : ℕ) → request_at line (progress c (position e.machine)) ≡ Some q))
 Stops c b flags newer e stop.Ends = (queue e.walk.owed ≡ []) × ((e.stage ≡ stage.Runs) × (progress c (position e.machine) ≡ ends))
 Stops c b flags newer e stop.Owes = queue e.walk.owed ≡ [] → ⊥
-Stops c b flags newer e (stop.Crosses k) = (queue e.walk.owed ≡ []) × (PassesNext c b e k × (newer ≡ true))
+Stops c b flags newer e (stop.Crosses k) = (queue e.walk.owed ≡ []) × (PassesNext c b e k × ((newer ≡ true) × (has_place flags k ≡ false)))
 Stops c b flags newer e (stop.Flagged k) = (queue e.walk.owed ≡ []) × (PassesNext c b e k × (has_place flags k ≡ true))
 
 -- The thread went on, past no flagged place, and stopped. Where a newer version is to be taken it passed no place.
@@ -106,6 +106,11 @@ Halts c cs b flags newer v e (want.Ask q) =
 Halts c cs b flags newer v e (want.Place k) = (queue e.walk.owed ≡ []) × (PassesNext c b e k × ((has_place flags k ≡ true) × (e.place ≡ k)))
 Halts c cs b flags newer v e want.Ended = ⊥
 
+-- Where it asks for something, its next step passes no flagged place.
+abbrev pub AsksFree : Flow → Birth → List ℕ → Execution → Want → Type 0
+AsksFree c b flags e (want.Ask q) = (k : ℕ) → queue e.walk.owed ≡ [] → PassesNext c b e k → has_place flags k ≡ false
+AsksFree c b flags e _ = Unit {0}
+
 -- Whatever led it to where it was leads to where it is.
 abbrev pub KeepsWay : Flow → List (Option Compiled) → Birth → Execution → Execution → Type 0
 KeepsWay c cs b old new = (x : Own) (look : Look) (steps : List PartStep) → IsInPart c cs b x old look steps → IsInPart c cs b x new look steps
@@ -128,6 +133,7 @@ StaysBefore c b flags newer old new = (k : ℕ) → StopsBefore c b flags newer 
 pub record ComesOf (c : Flow) (cs : List (Option Compiled)) (b : Birth) (flags : List ℕ) (newer : Bool) (v : Version) (old new : Execution) (x : Want) : Type 0 where
   pub keeps : KeepsWay c cs b old new
   pub halts : Halts c cs b flags newer v new x
+  pub free : AsksFree c b flags new x
   pub stands : StaysAtRequest c cs b old new
   pub stays : StaysBefore c b flags newer old new
 
@@ -144,6 +150,7 @@ pub record GoesToHalt (c : Flow) (cs : List (Option Compiled)) (b : Birth) (flag
   pub stands : StaysAtRequest c cs b old new
   pub stays : StaysBefore c b flags newer old new
   pub halts : Halts c cs b flags newer v new x
+  pub free : AsksFree c b flags new x
 
 -- It is blocked at a flagged place, and stays there.
 pub record StaysBlocked (flags : List ℕ) (old new : Execution) (x : Want) : Type 0 where

@@ -182,6 +182,16 @@ pub record StandsFlagged (s : Strand) (b : Birth) (flags : List ℕ) (k : ℕ) :
   pub waits : WaitsAt s b k
   pub want : s.want ≡ None
 
+-- It waits at no flagged place.
+abbrev pub WaitsUnflagged : Strand → Birth → List ℕ → Type 0
+WaitsUnflagged s b flags = (k : ℕ) → WaitsAt s b k → has_place flags k ≡ false
+
+-- It is told that it stands at a flagged place wherever it waits at one: else it waits at none, and waited at none before.
+abbrev pub HeedsFlags : Strand → Strand → Option Birth → List ℕ → Want → Type 0
+HeedsFlags old new None flags x = ⊥
+HeedsFlags old new (Some b) flags (w.Place k) = Unit {0}
+HeedsFlags old new (Some b) flags x = WaitsUnflagged old b flags × WaitsUnflagged new b flags
+
 -- Where it waits it stays, while the place is flagged or a newer version is to be taken there. Of a thread that wasn't started nothing is said.
 abbrev pub StaysAt : Strand → Strand → Option Birth → List ℕ → Version → Type 0
 StaysAt old new None flags v = Unit {0}

@@ -8,7 +8,7 @@ ghost use Rattle.loom_law.specs.Laws.{with_newest};
 ghost use Rattle.loom_law.specs.TurnLaws.{is_blocked_entry};
 ghost use Rattle.loom_version.specs.Plans.{AreFiltersOf};
 ghost use Rattle.loom_strand.specs.Reply.{takes_version, versions_behind};
-ghost use Rattle.loom_strand.specs.Strand.{IsNew, IsSameThread, IsStarted, CanTake, HasOwnPart, Wants, KeepsParking, StaysAt, PassesAnew, WaitsOn, IsOutrun, IsSameWant, IsReply, request_in};
+ghost use Rattle.loom_strand.specs.Strand.{IsNew, IsSameThread, IsStarted, CanTake, HasOwnPart, Wants, KeepsParking, StaysAt, HeedsFlags, PassesAnew, WaitsOn, IsOutrun, IsSameWant, IsReply, request_in};
 
 use crate::args::args_of;
 use crate::execution::Execution;
@@ -181,8 +181,9 @@ impl Strand {
     }
 
     /// Goes on up to the next request, which it asks for, and for the same again until it is answered, unless the version or the flags change. With a
-    /// newer version it asks to go over to that at the first point before an entry or back-edge place or before a request. It stops before an entry
-    /// or back-edge place that is flagged, and where it is blocked at a flagged place. A thread that has made its `End` has ended.
+    /// newer version it asks to go over to that at the first point before an entry or back-edge place or before a request. It stands at a flagged
+    /// place exactly where its next step passes an entry or back-edge place that is flagged, or its last entry is `Blocked` and its place is flagged:
+    /// flags go before a newer version. A thread that has made its `End` has ended.
     ///
     /// The version is the one that it has, or a later one.
     pub fn run_private(&mut self, flow: &Flow, version: &Version, flags: &Places) -> Want
@@ -192,6 +193,7 @@ impl Strand {
         ensures same { IsSameThread self.old self.old.birth self.old.versions self.old.entries self.new }
         ensures newest { self.new.newest ≡ version.now }
         ensures wants { Wants self.new self.new.birth flags.now result }
+        ensures heeds { HeedsFlags self.old self.new self.new.birth flags.now result }
         ensures parks { KeepsParking self.old self.new self.new.birth flags.now result }
         ensures first { IsOutrun self.old.versions version.now → self.new.execution.walk.passed ≡ self.old.execution.walk.passed }
         ensures stays { StaysAt self.old self.new self.new.birth flags.now version.now }

@@ -12,6 +12,7 @@ returns-then-has-clause-stops c =
 pub returns-then-newer-clause-stops : goal.returns-then-newer-clause-stops
 returns-then-newer-clause-stops c =
     crossed_at c.args.flow.now c.args.plans.now c.args.birth c.args.flags.now c.args.newer c.args.self.now c.entrances.result.now _ c.requires.stage c.requires.may c.entrances.ensures.entrances c.if-newer.true
+    (sym c.has.ensures ∙ c.if-has.false)
 
 pub pass-self-requires-clause-passes : goal.pass-self-requires-clause-passes
 pass-self-requires-clause-passes c =

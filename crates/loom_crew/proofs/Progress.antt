@@ -60,7 +60,7 @@ leaves_same a (c.Thread t) why.Over b l = (a.stands, l)
 leaves_same a (c.Thread t) why.Ended b l = (a.stands, l)
 leaves_same a (c.Thread t) why.Unborn b l = (a.stands, l)
 leaves_same a (c.Thread t) why.Due b l = (a.stands, l)
-leaves_same a (c.Thread t) why.Blocked b l = (noted a.stands t l.0, l.1)
+leaves_same a (c.Thread t) why.Blocked b l = (noted a.stands t l.number, l.noted)
 leaves_same a (c.Thread t) why.Nothing b l = (a.stands, l)
 leaves_same a c.Control why.Over b l = (a.stands, l)
 leaves_same a c.Control why.Ended b l = (a.stands, l)
@@ -135,7 +135,7 @@ note_other a t u why.Over b l ne = ap (λ (z : Book). stand_at z.stands u) l
 note_other a t u why.Ended b l ne = ap (λ (z : Book). stand_at z.stands u) l
 note_other a t u why.Unborn b l ne = ap (λ (z : Book). stand_at z.stands u) l
 note_other a t u why.Due b l ne = ap (λ (z : Book). stand_at z.stands u) l
-note_other a t u why.Blocked b l ne = ap (λ (z : Book). stand_at z.stands u) l.1 ∙ noted_other a.stands t u l.0 ne
+note_other a t u why.Blocked b l ne = ap (λ (z : Book). stand_at z.stands u) l.noted ∙ noted_other a.stands t u l.number ne
 note_other a t u why.Nothing b l ne = ap (λ (z : Book). stand_at z.stands u) l
 
 notes_later : (a b : Book) (n t : ℕ) → AreIdle a (threads_from t n) b → (u : ℕ) → u < t → stand_at b.stands u ≡ stand_at a.stands u
@@ -286,12 +286,12 @@ halted_where_blocked m h u w None rests blocked l first last = record {
 halted_where_blocked m h zero w (Some x) runs blocked l first last = absurd (let no : ⊥ = omega (arith, first) in no)
 halted_where_blocked m h (suc i) w (Some x) runs blocked l first last =
     let within : i < length w.before.stands = omega (arith, last, w.lawful.stands.count) in
-    let here : stand_at m.stands (suc i) ≡ Some l.0 =
-    w.note ∙ (ap (λ (z : Book). stand_at z.stands (suc i)) l.1 ∙ noted_here w.before.stands i l.0 within) in
-    let found : found_place m (suc i) ≡ Some l.0 =
+    let here : stand_at m.stands (suc i) ≡ Some l.number =
+    w.note ∙ (ap (λ (z : Book). stand_at z.stands (suc i)) l.noted ∙ noted_here w.before.stands i l.number within) in
+    let found : found_place m (suc i) ≡ Some l.number =
     ap (λ (o : Option ThreadState). found_at o (stand_at m.stands (suc i))) runs ∙ ap (found_at (Some x)) here in
-    let place = place_there m h (suc i) l.0 found in
-    record { number = l.0; found = found; place = place.0; is = place.1; halts = inr blocked }
+    let place = place_there m h (suc i) l.number found in
+    record { number = l.number; found = found; place = place.0; is = place.1; halts = inr blocked }
 
 halted : (m : Book) (h : HasLawfulJournal m) (u : ℕ) (w : WasIdle m u) → (IsClosed m → ⊥) → (CommandGoesFirst m → ⊥) → Lives m.store u → 1 ≤ u → u ≤ thread_limit → IsHalted m u
 halted m h u w goes_on no_command lives first last = by_why w.reason w.idle w.leaves

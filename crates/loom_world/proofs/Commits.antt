@@ -1,6 +1,8 @@
 -- A turn of a thread: what its entry, or a note of where it stands, leaves of strands.
-use Rattle.std.proofs.Common.{ℕ, ◌≤◌, ◌≡◌, inr, ◌==◌, Bool, true, false, not, ◌&&◌, List, [], ◌∷◌, ◌++◌, length, Option, Some, None, refl, sym, ap, ◌∙◌, subst, arith, if◌then◌else◌}
+use Rattle.std.proofs.Common.{ℕ, ◌≤◌, ◌≡◌, ◌⊎◌, inl, inr, ◌==◌, Bool, true, false, not, ◌&&◌, List, [], ◌∷◌, ◌++◌, length, Option, Some, None, refl, sym, ap, ◌∙◌, subst, arith, if◌then◌else◌}
 use Rattle.std.proofs.lemmas.Bool.{eq-eqb}
+use Rattle.loom_lang.specs.Places.{Place, nowhere, place_at}
+use Rattle.loom_trace.specs.Limits.{thread_limit}
 use Rattle.loom_trace.specs.declared.entry.Entry.{Entry}
 use Rattle.loom_trace.specs.declared.entry.Entry.TheVariants as e
 use Rattle.loom_trace.specs.declared.request.Request.{Request}
@@ -8,22 +10,23 @@ use Rattle.loom_event.specs.Answer.{asks_begin}
 use Rattle.loom_event.specs.Entries.{thread_of, is_thread, thread_entries}
 use Rattle.loom_event.specs.Replay.{ThreadState, thread_at}
 use Rattle.loom_law.specs.Control.{Control, control, first_control, after_entry, entries_of, versions_of, listed_places, since_asked}
-use Rattle.loom_law.specs.Lawful.{Setting, Front, running_thread, IsBlockedBy, IsBlocked}
+use Rattle.loom_law.specs.Lawful.{Setting, Front, plans, own, running_thread, IsBlockedBy, IsBlocked}
 use Rattle.loom_law.specs.Laws.{with_newest}
 use Rattle.loom_law.specs.TurnLaws.{is_blocked_entry, blocked_behind, ends_blocked}
 use Rattle.loom_law.proofs.Longer.{mine, not_mine, not_taken, newest_taken}
 use Rattle.loom_law.proofs.Obedience.{control_after_last}
 use Rattle.loom_strand.specs.declared.stage.Birth.{Birth}
 use Rattle.loom_strand.specs.Life.{has_none, awaits_end}
-use Rattle.loom_strand.specs.Strand.{Strand, IsSameThread, IsStarted, StandsAt, WaitsOn, IsPlaceOfRequest, IsReplyTo, PassesAnew}
+use Rattle.loom_strand.specs.Strand.{WaitsAt, Strand, IsSameThread, IsStarted, StandsAt, WaitsOn, IsPlaceOfRequest, IsReplyTo, PassesAnew}
 use Rattle.loom_world.specs.declared.choice.Why.{Why}
 use Rattle.loom_world.specs.declared.choice.Why.TheVariants as why
 use Rattle.loom_world.specs.declared.choice.Choice.TheVariants as c
 use Rattle.loom_world.specs.Book.{Book, IsOfSameRun, setting, front, stand_at, IsStandOf, HasLawfulJournal}
-use Rattle.loom_world.specs.Idle.{CanTurn, HindersThread}
-use Rattle.loom_world.specs.Turned.{IsNoted, Moves}
-use Rattle.loom_world.specs.Asking.{Asks, MakesAnswer}
-use Rattle.loom_world.specs.Threads.{IsBirthOf, HasKeptAway, WaitsFound, HasStrandPart, IsStrandOf, RequestsSo, IsBehind, KeepsOthers}
+use Rattle.loom_world.specs.Idle.{CanTurn, HindersThread, IsFoundAtFlag, IsKeptByFlag, StandsAtFlag, IsAtFlagBy, IsAtFlag}
+use Rattle.loom_world.specs.Turned.{StandsAtPlace, NotesBehind, NotesBy, IsNoted, Moves, noted}
+use Rattle.loom_world.specs.Flags.{IsUnderWay, IsFlaggedNow}
+use Rattle.loom_world.specs.Asking.{Asks, forgotten, MakesAnswer}
+use Rattle.loom_world.specs.Threads.{IsBirthOf, HasKeptAway, WaitsFound, WaitsFree, HasStrandPart, IsStrandOf, RequestsSo, IsBehind, KeepsOthers}
 use Rattle.loom_world.proofs.ControlState.{thread_keeps}
 use Rattle.loom_world.proofs.OwnVersions.{version_stays}
 use Rattle.loom_world.proofs.SinceAsked.{since_other, none_listed}
@@ -31,6 +34,8 @@ use Rattle.loom_world.proofs.Replies.{last_in, last_is}
 use Rattle.loom_world.proofs.Strands.{entries_few, birth_kept}
 use Rattle.loom_world.proofs.StandsBehind.{forgotten_here, forgotten_other, noted_other, noted_here, book_noted}
 use Rattle.loom_world.proofs.Turning.{its_own, stand_of}
+use Rattle.loom_world.proofs.OneStand.{one_stand}
+use Rattle.loom_world.proofs.ThreadTurns.{IsAwake, awake}
 
 differ : (u t : ℕ) → (u == t) ≡ false → t ≡ u → ⊥
 differ u t other same = let yes : (u == t) ≡ true = eq-eqb u t (sym same) in let no : true ≡ false = sym yes ∙ other in cc
@@ -102,7 +107,57 @@ stand_found b h t s k part waits z running = by_birth s.birth refl waits part.bi
         let both = subst (λ y. IsBirthOf y (Some x)) there birth in
         stand_of k (its_own b h.plans t s x z part.program part.filters part.thread both.0 both.1 part.versions part.entries) w.stands
 
+pub stands_there : (b : Book) → HasLawfulJournal b → (t : ℕ) (s : Strand) (k : ℕ) → HasStrandPart b t s → WaitsFound s s.birth k → StandsAtPlace b t k
+stands_there b h t s k part waits = by_birth s.birth waits part.birth
+  where
+    by_state : (x : Birth) (o : Option ThreadState) → thread_at b.store t ≡ o → IsBirthOf o (Some x) → WaitsFound s (Some x) k → StandsAtPlace b t k
+    by_state x None is birth w = absurd birth
+    by_state x (Some z) is birth w =
+        record { state = z; there = is; stand = stand_of k (its_own b h.plans t s x z part.program part.filters part.thread birth.0 birth.1 part.versions part.entries) w.stands }
+
+    by_birth : (o : Option Birth) → WaitsFound s o k → IsBirthOf (thread_at b.store t) o → StandsAtPlace b t k
+    by_birth None w birth = absurd w
+    by_birth (Some x) w birth = by_state x (thread_at b.store t) refl birth w
+
+-- A thread that asks for something lives, and where it made an entry it runs.
+pub asking_runs : (b : Book) (t : ℕ) (q : Request) → (asks : Asks b t q) → asks.state.begun ≡ true → running_thread (thread_at b.store t) ≡ Some asks.state
+asking_runs b t q asks is =
+    ap running_thread asks.there ∙ (ap (λ (d : Bool). if d && not asks.state.ended then Some asks.state else None) is ∙ ap (λ (d : Bool). if not d then Some asks.state else None) asks.lives)
+
+-- Where it is blocked, and its strand waits at no flagged place, it is at none.
+pub blocked_away : (b : Book) → HasLawfulJournal b → (t : ℕ) (s : Strand) (q : Request) → HasStrandPart b t s → Asks b t q → IsBlocked (setting b) (front b) t → WaitsFound s s.birth s.execution.place → WaitsFree b s s.birth
+    → (k : ℕ) → IsAtFlag b t k → ⊥
+blocked_away b h t s q part asks blocked waits free k at = by_birth s.birth waits free
+  where
+    told : ends_blocked (entries_of t b.entries) ≡ true
+    told = blocked_last b t blocked
+
+    begun : asks.state.begun ≡ true
+    begun = asks.begun ∙ ap not (asks.begins ∙ some_there (entries_of t b.entries) told)
+
+    runs : running_thread (thread_at b.store t) ≡ Some asks.state
+    runs = asking_runs b t q asks begun
+
+    flag : StandsAtFlag b t k asks.state
+    flag = subst (IsAtFlagBy b t k) runs at
+
+    stand : IsStandOf b t asks.state s.execution.place
+    stand = stand_found b h t s s.execution.place part waits asks.state runs
+
+    same : stand.place ≡ flag.stand.place
+    same = one_stand b.program (plans (setting b)) (own (setting b) b.entries t asks.state) stand.place flag.stand.place told stand.comes flag.stand.comes
+
+    by_birth : (o : Option Birth) → WaitsFound s o s.execution.place → WaitsFree b s o → ⊥
+    by_birth None w f = absurd w
+    by_birth (Some x) w f = f s.execution.place stand.place stand.number w (subst (IsFlaggedNow b) (sym same) flag.flagged)
+
 -- A note of where it stands
+
+-- with a note it stands where it stood
+pub stands_still : (b new : Book) (t j k : ℕ) → IsNoted b t j new → StandsAtPlace b t k → StandsAtPlace new t k
+stands_still b new t j k is h =
+    subst (λ (y : Book). StandsAtPlace y t k) (sym is)
+    (record { state = h.state; there = h.there; stand = record { place = h.stand.place; number = h.stand.number; comes = h.stand.comes } })
 
 kept_noted : (b : Book) (t j : ℕ) (s : Strand) (o : Option Birth) (k : ℕ) → HasKeptAway b t s o → HasKeptAway (book_noted b j k) t s o
 kept_noted b t j s None k h = tt
@@ -121,10 +176,30 @@ part_noted b t k s h = record {
   entries = h.entries;
 }
 
+flagged_before : (b : Book) (t k : ℕ) (y : Place) → IsFlaggedNow (book_noted b t k) y → IsFlaggedNow b y
+flagged_before b t k y f = record { command = f.command; under_way = record { asked = f.under_way.asked; not_refused = f.under_way.not_refused }; flagged = f.flagged }
+
 pub strand_noted : (b new : Book) (t k : ℕ) (s : Strand) → 1 ≤ t → IsNoted b t k new → HasStrandPart b t s → WaitsFound s s.birth k → IsStrandOf new t s
 strand_noted b new t k s first is part waits =
     subst (λ (y : Book). IsStrandOf y t s) (sym is)
     (record { part = part_noted b t k s part; stands = λ j there. subst (λ i. WaitsFound s s.birth i) (noted_here b.stands t k j first there) waits })
+
+-- and that place isn't flagged
+pub noted_free : (b new : Book) (t k : ℕ) (s : Strand) → 1 ≤ t → IsNoted b t k new → b.program ≡ s.program → WaitsFound s s.birth k → WaitsFree b s s.birth → (j : ℕ) → IsFoundAtFlag new t j → ⊥
+noted_free b new t k s first is same waits free j h = by_birth s.birth waits free
+  where
+    here : k ≡ j
+    here = noted_here b.stands t k j first (ap (λ (y : Book). stand_at y.stands t) (sym is) ∙ h.found)
+
+    number : place_at b.program j ≡ Some h.place
+    number = ap (λ (y : Book). place_at y.program j) (sym is) ∙ h.number
+
+    now : IsFlaggedNow b h.place
+    now = flagged_before b t k h.place (subst (λ (y : Book). IsFlaggedNow y h.place) is h.flagged)
+
+    by_birth : (o : Option Birth) → WaitsFound s o k → WaitsFree b s o → ⊥
+    by_birth None w f = absurd w
+    by_birth (Some x) w f = f j h.place number (subst (WaitsAt s x) here w) now
 
 pub others_noted : (b new : Book) (t k : ℕ) → IsNoted b t k new → KeepsOthers b t new
 others_noted b new t k is =
@@ -228,26 +303,33 @@ others_made b mid new t q x made run entries stands = record {
     controlled = ap (λ cs. control cs new.entries) commands ∙ (ap (control b.commands) appended ∙ control_after_last b.commands first_control b.entries x)
 
 -- A turn that makes an entry: nothing kept the thread from it.
-pub moved_so : (b mid new : Book) (t : ℕ) (q : Request) (x : Entry) → CanTurn b t → Asks b t q → MakesAnswer b t q x mid → new.entries ≡ mid.entries
-    → Moves b (c.Thread t) new × ((w : Why) → HindersThread b t w → ⊥)
-moved_so b mid new t q x turns asks made entries = (record { makes = record { entry = x; one = entries ∙ made.appended; maker = made.thread }; next = tt }, hindered)
+pub moved_so : (b mid new : Book) (t : ℕ) (q : Request) (x : Entry) → CanTurn b t → Asks b t q → ((k : ℕ) → IsFoundAtFlag b t k → ⊥) → MakesAnswer b t q x mid → new.entries ≡ mid.entries
+    → NotesBehind mid.stands t (is_blocked_entry x) new → Moves b (c.Thread t) new × ((w : Why) → HindersThread b t w → ⊥)
+moved_so b mid new t q x turns asks unflagged made entries notes =
+    (record { makes = record { entry = x; one = entries ∙ made.appended; maker = made.thread }; next = tt; notes = noted_so }, hindered)
   where
+    noted_so : NotesBy b (thread_of x) (is_blocked_entry x) new
+    noted_so = subst (λ o. NotesBy b o (is_blocked_entry x) new) (sym made.thread) (subst (λ ys. NotesBehind ys t (is_blocked_entry x) new) made.noted notes)
+
     hindered : (w : Why) → HindersThread b t w → ⊥
     hindered why.Over h = turns.goes_on h
     hindered why.Ended h = let same : h.1.state ≡ asks.state = cc (h.1.is, asks.there) in let yes : asks.state.ended ≡ true = subst (λ (z : ThreadState). z.ended ≡ true) same h.1.ended in let no : true ≡ false = sym yes ∙ asks.lives in cc
     hindered why.Unborn h = let no : None ≡ Some asks.state = sym h.1 ∙ asks.there in cc
     hindered why.Due h = turns.no_command h.1.1
-    hindered (why.Flagged k) h = by_begun asks.state.begun refl
+    hindered (why.Flagged k) h = by_flag h.1
       where
-        by_begun : (d : Bool) → asks.state.begun ≡ d → ⊥
-        by_begun false is = asks.unflagged (begins (asks_begin q) (sym asks.begun ∙ is)) h.1.1
+        by_begun : (running_thread (thread_at b.store t) ≡ None) × IsFlaggedNow b nowhere → (d : Bool) → asks.state.begun ≡ d → ⊥
+        by_begun g false is = asks.unflagged (begins (asks_begin q) (sym asks.begun ∙ is)) g.1
           where
             begins : (d : Bool) → not d ≡ false → d ≡ true
             begins true g = refl
             begins false g = cc
-        by_begun true is =
-            let runs : running_thread (thread_at b.store t) ≡ Some asks.state =
-            ap running_thread asks.there ∙ (ap (λ (d : Bool). if d && not asks.state.ended then Some asks.state else None) is ∙ ap (λ (d : Bool). if not d then Some asks.state else None) asks.lives) in
-            let no : None ≡ Some asks.state = sym h.1.0 ∙ runs in cc
-    hindered why.Blocked h = made.free h.blocked
+        by_begun g true is =
+            let runs : running_thread (thread_at b.store t) ≡ Some asks.state = asking_runs b t q asks is in
+            let no : None ≡ Some asks.state = sym g.0 ∙ runs in cc
+
+        by_flag : IsKeptByFlag b t k → ⊥
+        by_flag (inl g) = by_begun g asks.state.begun refl
+        by_flag (inr g) = unflagged k g
+    hindered why.Blocked h = made.free h.1
     hindered why.Nothing h = h

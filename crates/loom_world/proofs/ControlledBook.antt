@@ -17,7 +17,8 @@ use Rattle.loom_command.specs.Script.{most_commands}
 use Rattle.loom_law.specs.Filter.{Plan, has}
 use Rattle.loom_law.specs.Walk.{Version}
 use Rattle.loom_law.specs.Control.{Command, command_at, install, remove, means, have_one_name, Control, first_control, control, listed_places}
-use Rattle.loom_law.specs.Lawful.{plans, run_is_over, is_installed, is_name_used, refusal, IsDue, Ends, EndsSo, MayControl}
+use Rattle.loom_law.specs.TurnLaws.{is_blocked_entry}
+use Rattle.loom_law.specs.Lawful.{plans, running_thread, run_is_over, is_installed, is_name_used, refusal, IsBlocked, IsBlockedBy, IsDue, Ends, EndsSo, MayControl}
 use Rattle.loom_law.specs.Laws.{IsUnfinished}
 use Rattle.loom_law.proofs.Lawful.{beginning}
 use Rattle.loom_law.proofs.NoCommands.{none_unfinished}
@@ -32,11 +33,11 @@ use Rattle.loom_world.specs.declared.choice.Turned.TheVariants as turned
 use Rattle.loom_world.specs.declared.choice.Why.{Why}
 use Rattle.loom_world.specs.declared.choice.Why.TheVariants as why
 use Rattle.loom_world.specs.Answers.{AreFound, IsFoundStalled, StandsNext}
-use Rattle.loom_world.specs.Book.{Book, setting_of, setting, front, HasFilterPlans, HasStands, HasLawfulJournal, stand_at, found_place}
+use Rattle.loom_world.specs.Book.{Book, setting_of, setting, front, HasFilterPlans, HasStands, HasLawfulJournal, AreNoStands, stand_at, found_place}
 use Rattle.loom_world.specs.Flags.{HasFlagSets}
 use Rattle.loom_world.specs.Idle.{IsIdleControl}
-use Rattle.loom_world.specs.Turned.{Turns}
-use Rattle.loom_world.specs.BookInvariant.{Notes, IsAsFar, IsAtEnd, NoneGoesOn, wait_in, wait_unless, HasWaits, AreNoWaits, AreNoStands, latest, HasVersion, HasCommands, BookInvariant}
+use Rattle.loom_world.specs.Turned.{NotesBy, Turns}
+use Rattle.loom_world.specs.BookInvariant.{Notes, IsAsFar, IsAtEnd, NoneGoesOn, wait_in, wait_unless, HasWaits, AreNoWaits, latest, HasVersion, HasCommands, BookInvariant}
 use Rattle.loom_world.proofs.Ends.{none_goes_on}
 use Rattle.loom_world.proofs.ControlState.{numbered}
 use Rattle.loom_world.proofs.ControlTurns.{may_refuse, may_cut, may_ask, may_leave_out, may_finish}
@@ -269,7 +270,7 @@ not_idle b n k open_ x of next why.Blocked h = h
 
 pub control_moves : (b : Book) (n : Notes) → BookInvariant b n → n.finished ≡ false → (x : Entry) → thread_of x ≡ None → StandsNext b x
     → (es : List Entry) → es ≡ b.entries ++ x ∷ [] → Turns b choice.Control (record b { entries = es }) turned.Moved
-control_moves b n k open_ x of next es is = (record { makes = record { entry = x; one = is; maker = of }; next = next }, not_idle b n k open_ x of next)
+control_moves b n k open_ x of next es is = (record { makes = record { entry = x; one = is; maker = of }; next = next; notes = subst (λ o. NotesBy b o (is_blocked_entry x) (record b { entries = es })) (sym of) refl }, not_idle b n k open_ x of next)
 
 -- Before the first entry
 

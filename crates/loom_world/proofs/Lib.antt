@@ -20,6 +20,7 @@ mod ClauseLocks
 mod Operable
 mod Turning
 mod NotedBook
+mod OneStand
 mod ThreadTurns
 mod Commits
 mod FilterLists

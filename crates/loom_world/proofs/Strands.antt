@@ -23,8 +23,7 @@ use Rattle.loom_strand.specs.Strand.{Strand}
 use Rattle.loom_world.specs.declared.choice.Choice.TheVariants as c
 use Rattle.loom_world.specs.declared.choice.Turned.{Turned}
 use Rattle.loom_world.specs.declared.choice.Turned.TheVariants as r
-use Rattle.loom_world.specs.Book.{Book, setting_of, setting, front, stand_at, IsOfSameRun}
-use Rattle.loom_world.specs.BookInvariant.{AreNoStands}
+use Rattle.loom_world.specs.Book.{Book, setting_of, setting, front, stand_at, AreNoStands, IsOfSameRun}
 use Rattle.loom_world.specs.Flags.{AreFlagsFor, IsUnderWay}
 use Rattle.loom_world.specs.Turned.{Turns}
 use Rattle.loom_world.specs.Threads.{IsBirthOf, HasKeptAway, IsStrandOf, HasStrands, HasSameCall, KeepsThreads, KeepsOthers, AreNew}

@@ -1,6 +1,7 @@
 -- A turn of a thread, from its strand to the book and back.
 use Rattle.std.proofs.Common.{ℕ, ◌≤◌, ◌≡◌, inl, inr, Bool, true, false, List, [], ◌∷◌, Option, Some, None, refl, sym, ap, ◌∙◌, subst}
 use Rattle.std.specs.List.{AllByRecursion}
+use Rattle.loom_trace.specs.Places.{has_place}
 use Rattle.loom_trace.specs.Limits.{thread_limit}
 use Rattle.loom_trace.specs.declared.request.Request.{Request}
 use Rattle.loom_event.specs.Replay.{ThreadState, thread_at}
@@ -10,13 +11,14 @@ use Rattle.loom_law.specs.Lawful.{running_thread, has_any}
 use Rattle.loom_strand.specs.declared.stage.Birth.{Birth}
 use Rattle.loom_strand.specs.declared.stage.Want.TheVariants as want
 use Rattle.loom_strand.specs.Life.{has_none, has_ended}
-use Rattle.loom_strand.specs.Strand.{Strand, IsSameThread, IsStarted, IsOutrun, Requests, WaitsAt, StandsFlagged, StaysAt, KeepsFrom, Parks, MayPark, KeepsParking, Wants, IsOver}
-use Rattle.loom_world.specs.Book.{Book, front, stand_at, found_at, found_place, IsStandOf, HasLawfulJournal}
+use Rattle.loom_strand.specs.Strand.{Strand, IsSameThread, IsStarted, IsOutrun, Requests, WaitsAt, StandsFlagged, StaysAt, KeepsFrom, Parks, MayPark, KeepsParking, Wants, IsOver, own_of, HeedsFlags, WaitsOn, PassesAnew}
+use Rattle.loom_world.specs.Book.{Book, front, stand_at, found_at, found_place, IsStandOf, HasLawfulJournal, IsOfSameRun, setting}
 use Rattle.loom_world.specs.Flags.{IsUnderWay, AreFlagsFor, AreFlags, IsFlaggedNow}
-use Rattle.loom_world.specs.Idle.{IsLive, IsAtFlagBy, IsAtFlag}
-use Rattle.loom_world.specs.Asking.{Asks}
-use Rattle.loom_world.specs.Threads.{IsBirthOf, HasKeptAway, WaitsFound, HasStrandPart, IsStrandOf, RequestsSo}
-use Rattle.loom_world.proofs.Turning.{flags_up, IsItsOwn, keeps_from, its_own, stand_of, asks_of, none_since, none_taken, none_there, runs, all_there, outrun_listed}
+use Rattle.loom_world.specs.Idle.{IsLive, IsAtFlagBy, IsAtFlag, StandsAtFlag, IsFoundAtFlag, CommandGoesFirst, StaysFound}
+use Rattle.loom_world.specs.Asking.{Asks, forgotten, MakesAnswer}
+use Rattle.loom_world.specs.Threads.{IsBirthOf, HasKeptAway, WaitsFound, HasStrandPart, IsStrandOf, RequestsSo, WaitsFree, IsBehind, KeepsThreads, KeepsOthers}
+use Rattle.loom_world.proofs.Turning.{flags_up, IsItsOwn, keeps_from, its_own, stand_of, asks_of, none_since, none_taken, none_there, runs, all_there, outrun_listed, flags_down}
+use Rattle.loom_strand.specs.InPart.{AreIn}
 use Rattle.loom_world.proofs.LongerBook.{under_way, flags_nowhere}
 use Rattle.loom_world.proofs.InvariantReadings.{not_true}
 
@@ -216,6 +218,35 @@ ran_to_place b h t birth first last live s new whole started v flags newest_is a
         let was : WaitsAt s x.birth i = subst (λ o. WaitsFound s o i) x.is (whole.stands i there) in
         sym (stays_so i was (inr outrun)) ∙ waits.stands.here)
         found
+
+-- Where it asks for something it wasn't found at a flagged place.
+pub found_free : (b : Book) (t : ℕ) (s new : Strand) → IsStrandOf b t s → (flags : List ℕ) → AreFlags b flags → IsSameThread s s.birth s.versions s.entries new → (q : Request)
+    → HeedsFlags s new new.birth flags (want.Ask q) → (k : ℕ) → IsFoundAtFlag b t k → ⊥
+found_free b t s new whole flags are same q heeds k h = by_birth new.birth (subst (λ o. WaitsFound s o k) (sym same.birth) (whole.stands k h.found)) heeds
+  where
+    by_birth : (o : Option Birth) → WaitsFound s o k → HeedsFlags s new o flags (want.Ask q) → ⊥
+    by_birth None waits g = absurd waits
+    by_birth (Some x) waits g = flags_down b flags are k h.place h.number (g.0 k waits) h.flagged
+
+-- and waits at none
+pub waits_free : (b : Book) (s new : Strand) (flags : List ℕ) → AreFlags b flags → (q : Request) → HeedsFlags s new new.birth flags (want.Ask q) → WaitsFree b new new.birth
+waits_free b s new flags are q heeds = by_birth new.birth heeds
+  where
+    by_birth : (o : Option Birth) → HeedsFlags s new o flags (want.Ask q) → WaitsFree b new o
+    by_birth None g = absurd g
+    by_birth (Some x) g = λ k place number waits now. flags_down b flags are k place number (g.1 k waits) now
+
+-- Where it halts at a flagged place it stays at the one at which it was found.
+pub stays_found : (b : Book) (t : ℕ) (s new : Strand) → IsStrandOf b t s → (flags : List ℕ) → AreFlags b flags → IsSameThread s s.birth s.versions s.entries new → (v : Version) (k : ℕ)
+    → Wants new new.birth flags (want.Place k) → StaysAt s new new.birth flags v → StaysFound b t k
+stays_found b t s new whole flags are same v k wants stays j h = by_birth new.birth (subst (λ o. WaitsFound s o j) (sym same.birth) (whole.stands j h.found)) wants stays
+  where
+    flag : has_place flags j ≡ true
+    flag = (are.up h.flagged.command h.flagged.under_way j h.place h.number).1 h.flagged.flagged
+
+    by_birth : (o : Option Birth) → WaitsFound s o j → Wants new o flags (want.Place k) → StaysAt s new o flags v → j ≡ k
+    by_birth None waits g stay = absurd waits
+    by_birth (Some x) waits g stay = sym (stay j waits (inl flag)) ∙ g.waits.stands.here
 
 -- It hasn't ended.
 pub ran_out : (b : Book) (t : ℕ) (birth : Birth) → (live : IsLive b t birth) → (s new : Strand) → IsStrandOf b t s → IsStarted s.birth → (flags : List ℕ) → IsSameThread s s.birth s.versions s.entries new

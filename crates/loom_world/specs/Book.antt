@@ -85,13 +85,21 @@ pub record HasLawfulJournal (b : Book) : Type 0 where
   pub plans : HasFilterPlans b
   pub stands : HasStands b
 
--- Nothing has happened yet.
+-- there is a note for each thread that there may be, and none says anything
+abbrev pub AreEmptyNotes : {A : Type 0} → List (Option A) → Type 0
+AreEmptyNotes {A} xs = (length xs ≡ thread_limit) × ((i : ℕ) (x : Option A) → slice_get xs i ≡ Some x → x ≡ None)
+
+abbrev pub AreNoStands : List (Option ℕ) → Type 0
+AreNoStands xs = AreEmptyNotes xs
+
+-- Nothing has happened yet, and no thread was found anywhere.
 pub record IsNewBook (p : Source) (cs : List Command) (n : ℕ) (b : Book) : Type 0 where
   pub program : b.program ≡ p
   pub commands : b.commands ≡ cs
   pub limit : b.limit ≡ n
   pub entries : b.entries ≡ []
   pub store : b.store ≡ start p thread_limit
+  pub stands : AreNoStands b.stands
 
 -- It is the book of the same run.
 pub record IsOfSameRun (old new : Book) : Type 0 where

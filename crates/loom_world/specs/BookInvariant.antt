@@ -21,7 +21,7 @@ use Rattle.loom_store.specs.declared.answer.Answer.{Answer}
 use Rattle.loom_store.specs.declared.answer.Answer.TheVariants as a
 use Rattle.loom_store.specs.Answer.{CanWait}
 use Rattle.loom_trace.specs.declared.entry.What.TheVariants as v
-use Rattle.loom_world.specs.Book.{Book, setting, front, HasLawfulJournal}
+use Rattle.loom_world.specs.Book.{Book, setting, front, HasLawfulJournal, AreEmptyNotes}
 use Rattle.loom_world.specs.Flags.{HasFlagSets}
 use Rattle.loom_world.specs.Idle.{HasFinish}
 
@@ -141,12 +141,5 @@ abbrev pub wait_of : Answer → Option What
 wait_of (a.Disabled what) = Some what
 wait_of _ = None
 
--- there is a note for each thread that there may be, and none says anything
-abbrev pub AreEmptyNotes : {A : Type 0} → List (Option A) → Type 0
-AreEmptyNotes {A} xs = (length xs ≡ thread_limit) × ((i : ℕ) (x : Option A) → slice_get xs i ≡ Some x → x ≡ None)
-
 abbrev pub AreNoWaits : List (Option What) → Type 0
 AreNoWaits ws = AreEmptyNotes ws
-
-abbrev pub AreNoStands : List (Option ℕ) → Type 0
-AreNoStands xs = AreEmptyNotes xs

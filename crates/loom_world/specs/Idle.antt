@@ -1,6 +1,6 @@
 -- When a turn makes no entry, and why.
 use Rattle.std.specs.Prelude.{ℕ, ◌≡◌, ◌⊎◌, true, false, not, Option, Some, None}
-use Rattle.loom_lang.specs.Places.{nowhere}
+use Rattle.loom_lang.specs.Places.{Place, nowhere, place_at}
 use Rattle.loom_trace.specs.declared.entry.Entry.{Entry}
 use Rattle.loom_trace.specs.declared.entry.Ending.{Ending}
 use Rattle.loom_event.specs.Answer.{IsFunctionWith}
@@ -14,7 +14,7 @@ use Rattle.loom_world.specs.declared.choice.Choice.{Choice}
 use Rattle.loom_world.specs.declared.choice.Choice.TheVariants as c
 use Rattle.loom_world.specs.declared.choice.Why.{Why}
 use Rattle.loom_world.specs.declared.choice.Why.TheVariants as why
-use Rattle.loom_world.specs.Book.{Book, setting, front, IsStandOf}
+use Rattle.loom_world.specs.Book.{Book, setting, front, stand_at, IsStandOf}
 use Rattle.loom_world.specs.Flags.{IsFlaggedNow}
 use Rattle.loom_world.specs.Answers.{StandsNext}
 
@@ -56,16 +56,30 @@ IsAtFlagBy b t k (Some x) = StandsAtFlag b t k x
 abbrev pub IsAtFlag : Book → ℕ → ℕ → Type 0
 IsAtFlag b t k = IsAtFlagBy b t k (running_thread (thread_at b.store t))
 
+-- Thread t, which runs, was found to stand at place k, and that is flagged now.
+pub record IsFoundAtFlag (b : Book) (t k : ℕ) : Type 0 where
+  pub state : ThreadState
+  pub runs : running_thread (thread_at b.store t) ≡ Some state
+  pub found : stand_at b.stands t ≡ Some k
+  pub place : Place
+  pub number : place_at b.program k ≡ Some place
+  pub flagged : IsFlaggedNow b place
+
+-- Where it was found at a flagged place it stays there.
+abbrev pub StaysFound : Book → ℕ → ℕ → Type 0
+StaysFound b t k = (j : ℕ) → IsFoundAtFlag b t j → j ≡ k
+
 -- Threads may make entries, and thread t lives.
 pub record CanTurn (b : Book) (t : ℕ) : Type 0 where
   pub goes_on : IsClosed b → ⊥
   pub no_command : CommandGoesFirst b → ⊥
   pub lives : Lives b.store t
 
--- The thread is blocked.
+-- The thread is blocked, and is at no flagged place.
 pub record IsIdleBlocked (b : Book) (t : ℕ) : Type 0 where
   pub turns : CanTurn b t
   pub blocked : IsBlocked (setting b) (front b) t
+  pub away : (k : ℕ) → IsAtFlag b t k → ⊥
 
 -- Why thread t makes no entry now: the first of these that applies.
 abbrev pub IsIdleThread : Book → ℕ → Why → Type 0
@@ -73,14 +87,18 @@ IsIdleThread b t why.Over = IsClosed b
 IsIdleThread b t why.Ended = (IsClosed b → ⊥) × HasEnded b.store t
 IsIdleThread b t why.Unborn = (IsClosed b → ⊥) × (thread_at b.store t ≡ None)
 IsIdleThread b t why.Due = (IsClosed b → ⊥) × (Lives b.store t × CommandGoesFirst b)
-IsIdleThread b t (why.Flagged k) = CanTurn b t × IsAtFlag b t k
+IsIdleThread b t (why.Flagged k) = CanTurn b t × IsAtFlag b t k × StaysFound b t k
 IsIdleThread b t why.Blocked = IsIdleBlocked b t
 IsIdleThread b t why.Nothing = ⊥
 
--- What keeps thread t from making an entry: each of these, but of flagged places that of a thread that hasn't begun alone. One that runs comes to one
--- in its turn.
+-- A thread that hasn't begun is kept from it by flags, and one that runs by a flagged place at which it was found.
+abbrev pub IsKeptByFlag : Book → ℕ → ℕ → Type 0
+IsKeptByFlag b t k = ((running_thread (thread_at b.store t) ≡ None) × IsFlaggedNow b nowhere) ⊎ IsFoundAtFlag b t k
+
+-- What keeps thread t from making an entry: each of these. To a flagged place at which it wasn't found a thread that runs comes in its turn.
 abbrev pub HindersThread : Book → ℕ → Why → Type 0
-HindersThread b t (why.Flagged k) = CanTurn b t × ((running_thread (thread_at b.store t) ≡ None) × IsFlaggedNow b nowhere)
+HindersThread b t (why.Flagged k) = CanTurn b t × IsKeptByFlag b t k
+HindersThread b t why.Blocked = CanTurn b t × IsBlocked (setting b) (front b) t
 HindersThread b t w = IsIdleThread b t w
 
 -- No control entry stands next.

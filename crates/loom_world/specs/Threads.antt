@@ -11,9 +11,10 @@ use Rattle.loom_plan.specs.Compiled.{Compiled}
 use Rattle.loom_strand.specs.declared.stage.Birth.{Birth}
 use Rattle.loom_strand.specs.Life.{has_ended}
 use Rattle.loom_tree.specs.Tree.{Source}
+use Rattle.loom_lang.specs.Places.{Place, place_at}
 use Rattle.loom_strand.specs.Strand.{Strand, IsNew, IsStarted, KeepsFrom, WaitsAt, Requests, IsReply}
 use Rattle.loom_world.specs.Book.{Book, front, stand_at, HasLawfulJournal}
-use Rattle.loom_world.specs.Flags.{IsUnderWay, AreFlagsFor}
+use Rattle.loom_world.specs.Flags.{IsUnderWay, AreFlagsFor, IsFlaggedNow}
 
 -- A strand that was started has the function and the arguments of its thread.
 abbrev pub IsBirthOf : Option ThreadState → Option Birth → Type 0
@@ -31,6 +32,11 @@ HasKeptAway b t s (Some x) = (k : ℕ) (set : List ℕ) → IsUnderWay b k → A
 abbrev pub WaitsFound : Strand → Option Birth → ℕ → Type 0
 WaitsFound s None k = ⊥
 WaitsFound s (Some x) k = WaitsAt s x k
+
+-- It waits at no place that is flagged now.
+abbrev pub WaitsFree : Book → Strand → Option Birth → Type 0
+WaitsFree b s None = ⊥
+WaitsFree b s (Some x) = (k : ℕ) (place : Place) → place_at b.program k ≡ Some place → WaitsAt s x k → IsFlaggedNow b place → ⊥
 
 -- The strand is that of thread t: its entries are the thread's part of the journal.
 pub record HasStrandPart (b : Book) (t : ℕ) (s : Strand) : Type 0 where

@@ -11,11 +11,11 @@ ghost use Rattle.loom_world.specs.CommandView.{law_commands};
 ghost use Rattle.loom_world.specs.CommandFilters.{HaveFilters};
 ghost use Rattle.loom_version.specs.Plans.{plans_in};
 ghost use Rattle.loom_walk.specs.FilterWalk.{HasFilters};
-ghost use Rattle.loom_world.specs.Book.{IsNewBook, HasLawfulJournal, IsStandOf, setting, front};
+ghost use Rattle.loom_world.specs.Book.{AreNoStands, IsNewBook, HasLawfulJournal, IsStandOf, setting, front};
 ghost use Rattle.loom_world.specs.Flags.{AreFlags, AreAllPlaces, AreFlagsFor};
 ghost use Rattle.loom_world.specs.Idle.{HasFinish, IsClosed, MayAsk, CommandGoesFirst, IsLive};
 ghost use Rattle.loom_world.specs.Turned.{IsNoted, Turns};
-ghost use Rattle.loom_world.specs.BookInvariant.{wait_of, CanAwait, AreNoWaits, AreNoStands};
+ghost use Rattle.loom_world.specs.BookInvariant.{wait_of, CanAwait, AreNoWaits};
 ghost use Rattle.loom_event.specs.Answer.{asks_operation};
 ghost use Rattle.loom_world.specs.declared.choice.Choice.TheVariants as choice;
 ghost use Rattle.loom_world.specs.declared.choice.Turned.TheVariants as turned;
@@ -220,7 +220,6 @@ impl Book {
         requires places { AreAllPlaces (arc_value program) all_places }
         ensures new { IfOk result (λ b. IsNewBook (arc_value program) (law_commands (plans_in (arc_value plans)) commands.items) limit b) }
         ensures filters { IfOk result (λ b. b.filters ≡ arc_value plans) }
-        ensures stands { IfOk result (λ b. AreNoStands b.stands) }
         ensures lawful { IfOk result (λ b. HasLawfulJournal b) }
     {
         let journal = Journal::make(alloc, limit)?;

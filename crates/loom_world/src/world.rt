@@ -18,10 +18,10 @@ ghost use Rattle.loom_world.specs.declared.choice.Choice.TheVariants as choice;
 ghost use Rattle.loom_world.specs.declared.choice.Turned.TheVariants as turned;
 ghost use Rattle.loom_world.specs.Commands.{AreCommandsSoFar};
 ghost use Rattle.loom_world.specs.Book.{IsNewBook, IsOfSameRun, HasLawfulJournal, front, stand_at};
-ghost use Rattle.loom_world.specs.Idle.{HasFinish, IsLive, CanTurn, IsAtFlag};
+ghost use Rattle.loom_world.specs.Idle.{HasFinish, IsLive, CanTurn, IsAtFlag, IsFoundAtFlag, StaysFound};
 ghost use Rattle.loom_world.specs.Asking.{Asks};
-ghost use Rattle.loom_world.specs.Turned.{IsNoted, Turns};
-ghost use Rattle.loom_world.specs.Threads.{HasStrandPart, IsStrandOf, RequestsSo, IsBehind, KeepsThreads, KeepsOthers, AreNew};
+ghost use Rattle.loom_world.specs.Turned.{NotesBehind, IsNoted, Turns};
+ghost use Rattle.loom_world.specs.Threads.{HasStrandPart, IsStrandOf, RequestsSo, IsBehind, KeepsThreads, KeepsOthers, AreNew, WaitsFree};
 ghost use Rattle.loom_world.specs.World.{IsChoice, Lead};
 
 use crate::book::{Book, THREADS};
@@ -109,6 +109,7 @@ fn take(book: &mut Book, flow: &Flow, strand: &mut Strand, t: u8, entry: Entry)
     ensures store { book.new.store ≡ book.old.store }
     ensures strand { IsStrandOf book.new t strand.new }
     ensures stands { (u : ℕ) → (u == t) ≡ false → stand_at book.new.stands u ≡ stand_at book.old.stands u }
+    ensures notes { NotesBehind book.old.stands t (is_blocked_entry entry) book.new }
     ensures lawful { HasLawfulJournal book.new }
 {
     let blocked = tells_blocked(&entry);
@@ -129,6 +130,8 @@ fn commit(book: &mut Book, flow: &Flow, strand: &mut Strand, t: u8, request: Req
     requires asks { Asks book.old t request }
     requires requests { RequestsSo strand.old strand.old.birth request }
     requires newest { strand.old.newest ≡ Control.version (front book.old).control }
+    requires unflagged { (k : ℕ) → IsFoundAtFlag book.old t k → ⊥ }
+    requires free { WaitsFree book.old strand.old strand.old.birth }
     ensures run { IsOfSameRun book.old book.new }
     ensures turns { Turns book.old (choice.Thread t) book.new result }
     ensures strand { IsStrandOf book.new t strand.new }
@@ -154,6 +157,7 @@ fn halt(book: &mut Book, t: u8, place: u16) -> Turned
     requires last { t ≤ thread_limit }
     requires turns { CanTurn book.old t }
     requires flag { IsAtFlag book.old t place }
+    requires stays { StaysFound book.old t place }
     requires runs { (x : ThreadState) × (running_thread (thread_at book.old.store t) ≡ Some x) }
     requires listed { AllByRecursion (λ k. k ≡ place) (listed_places t book.old.entries) }
     ensures turns { Turns book.old (choice.Thread t) book.new result }
@@ -261,8 +265,8 @@ impl World {
     ///
     /// A turn of a thread makes an entry unless one of these applies, of which the first is told. `Over`: the limit is reached, or `Finish` stands.
     /// `Ended` and `Unborn`: the thread is over, or nobody spawned it. `Due`: a command is due, or was asked and will be refused. `Flagged`: a
-    /// command is asked, and the thread is at a place that is flagged for it; from then on it stands there. A thread that hasn't begun is at place 0.
-    /// `Blocked`: the thread was told so last, and it still holds.
+    /// command is asked, and the thread is at a place that is flagged for it; from then on it stands there, and makes no entry while that place is
+    /// flagged. A thread that hasn't begun is at place 0. `Blocked`: the thread was told so last, and it still holds; where it stands isn't flagged.
     ///
     /// A turn of control makes the first of these that stands next. Where a command is asked: its refusal; at the limit `Cut`; `Installed` or
     /// `Removed`, where each thread was found at a flagged place; `Stalled`, where each live thread was found at one or is blocked. Where none is

@@ -6,7 +6,7 @@ use Rattle.loom_world.specs.Book.{Book}
 use Rattle.loom_world.specs.Threads.{KeepsThreads}
 use Rattle.loom_world.proofs.Commits.{strand_noted, others_noted}
 use Rattle.loom_world.proofs.Later.{later_than_last}
-use Rattle.loom_world.proofs.ThreadTurns.{ran_to_request, ran_to_place, ran_out}
+use Rattle.loom_world.proofs.ThreadTurns.{ran_to_request, ran_to_place, found_free, waits_free, stays_found, ran_out}
 use Rattle.loom_world.proofs.world.go_on.Goals as goal
 
 pub run_private-requires-clause-version : goal.run_private-requires-clause-version
@@ -30,6 +30,11 @@ halt-requires-clause-flag c =
     let e = c.in-Place.ensures in
     (ran_to_place c.args.book.now c.version.ensures.lawful c.args.t c.args.birth c.requires.first c.requires.last c.requires.live c.wake.new.strand c.run_private.new.self c.wake.ensures.strand
     c.wake.ensures.started c.version.result.now c.flags.result.now c.version.ensures.is c.flags.ensures e.same c.in-Place.place e.wants e.parks e.stays).at
+
+pub halt-requires-clause-stays : goal.halt-requires-clause-stays
+halt-requires-clause-stays c =
+    let e = c.in-Place.ensures in
+    stays_found c.args.book.now c.args.t c.wake.new.strand c.run_private.new.self c.wake.ensures.strand c.flags.result.now c.flags.ensures e.same c.version.result.now c.in-Place.place e.wants e.stays
 
 pub halt-requires-clause-runs : goal.halt-requires-clause-runs
 halt-requires-clause-runs c =
@@ -60,6 +65,16 @@ commit-requires-clause-requests c =
     let e = c.in-Ask.ensures in
     (ran_to_request c.args.book.now c.version.ensures.lawful c.args.t c.args.birth c.requires.first c.requires.last c.requires.live c.wake.new.strand c.run_private.new.self c.wake.ensures.strand
     c.wake.ensures.started c.version.result.now c.flags.result.now c.version.ensures.is c.flags.ensures e.same e.newest c.in-Ask.request e.wants e.parks e.stays).1.1
+
+pub commit-requires-clause-unflagged : goal.commit-requires-clause-unflagged
+commit-requires-clause-unflagged c =
+    let e = c.in-Ask.ensures in
+    found_free c.args.book.now c.args.t c.wake.new.strand c.run_private.new.self c.wake.ensures.strand c.flags.result.now c.flags.ensures e.same c.in-Ask.request e.heeds
+
+pub commit-requires-clause-free : goal.commit-requires-clause-free
+commit-requires-clause-free c =
+    let e = c.in-Ask.ensures in
+    waits_free c.args.book.now c.wake.new.strand c.run_private.new.self c.flags.result.now c.flags.ensures c.in-Ask.request e.heeds
 
 pub returns-in-Place-clause-strand : goal.returns-in-Place-clause-strand
 returns-in-Place-clause-strand c =

@@ -1,7 +1,10 @@
-use Rattle.std.proofs.Common.{sym, ◌∙◌, subst}
-use Rattle.loom_world.specs.Book.{IsStandOf}
+use Rattle.std.proofs.Common.{◌≡◌, refl, sym, ap, ◌∙◌, subst}
+use Rattle.loom_event.specs.Replay.{ThreadState, thread_at}
+use Rattle.loom_law.specs.Lawful.{running_thread}
+use Rattle.loom_world.specs.Book.{Book, IsStandOf}
+use Rattle.loom_world.specs.Turned.{StandsAtPlace, NotesBehind}
 use Rattle.loom_world.specs.Threads.{WaitsFound, HasStrandPart}
-use Rattle.loom_world.proofs.Commits.{took_part, waits_on, stand_found, strand_noted, stands_elsewhere}
+use Rattle.loom_world.proofs.Commits.{took_part, waits_on, stand_found, stands_there, stands_still, strand_noted, stands_elsewhere}
 use Rattle.loom_world.proofs.world.take.Goals as goal
 
 pub note-requires-clause-stands : goal.note-requires-clause-stands
@@ -24,3 +27,18 @@ returns-then-blocked-clause-strand c =
 
 pub returns-then-blocked-clause-stands : goal.returns-then-blocked-clause-stands
 returns-then-blocked-clause-stands c = stands_elsewhere c.args.book.now c.note.new.self c.args.t c.place.result c.note.ensures.noted
+
+pub returns-then-blocked-clause-notes : goal.returns-then-blocked-clause-notes
+returns-then-blocked-clause-notes c =
+    let b = c.args.book.now in
+    let s = c.args.strand.now in
+    let new = c.answer.new.self in
+    let part : HasStrandPart b c.args.t new = took_part b c.args.t s new c.args.entry c.requires.behind c.answer.ensures.same c.answer.ensures.passes in
+    let waits : WaitsFound new new.birth new.execution.place = waits_on s new new.birth (c.answer.ensures.stands (sym c.tells_blocked-blocked.ensures ∙ c.if-blocked.true)) in
+    let there : StandsAtPlace b c.args.t c.place.result = stands_there b c.requires.behind.lawful c.args.t new c.place.result part (subst (λ k. WaitsFound new new.birth k) (sym c.place.ensures) waits) in
+    subst (λ d. NotesBehind b.stands c.args.t d c.note.new.self) (sym c.if-blocked.true ∙ c.tells_blocked-blocked.ensures)
+    (c.place.result, (ap (λ (y : Book). y.stands) c.note.ensures.noted, stands_still b c.note.new.self c.args.t c.place.result c.place.result c.note.ensures.noted there))
+
+pub returns-else-blocked-clause-notes : goal.returns-else-blocked-clause-notes
+returns-else-blocked-clause-notes c =
+    subst (λ d. NotesBehind c.args.book.now.stands c.args.t d c.args.book.now) (sym c.if-blocked.false ∙ c.tells_blocked-blocked.ensures) refl

@@ -48,6 +48,7 @@ returns-then-has-clause-err c =
       (
         record { goes_on = c.is_closed.ensures.open c.if-is_closed.false; no_command = no_command; lives = record { state = x; is = is; not_ended = c.if-thread.false } },
         subst (λ (o : Option ThreadState). IsAtFlagBy b c.args.t 0 o) (sym unborn) (refl, now),
+        λ j h. (let no : None ≡ Some h.state = sym unborn ∙ h.runs in cc),
       ),
       subst (λ (o : Option ThreadState). NotesStand b c.args.t 0 o b) (sym unborn) refl,
     )

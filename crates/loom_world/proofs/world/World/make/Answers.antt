@@ -37,5 +37,5 @@ invariant_of-result c =
       sym program,
       c.in_ok-book.ensures.lawful,
       new_strands c.in_ok-book.book c.in_ok-flow.flow.program (arc_value c.in_ok-plans.plans) c.args.limit c.in_ok-strands.strands.items program c.in_ok-book.ensures.filters b.limit b.entries
-          c.in_ok-book.ensures.stands c.in_ok-strands.ensures,
+          b.stands c.in_ok-strands.ensures,
     )

@@ -6,4 +6,3 @@ pub mod CallFacts
 pub mod SeatFacts
 pub mod GateLogs
 pub mod GateLaws
-pub mod Trials

@@ -9,6 +9,4 @@ pub mod make;
 pub mod pass;
 pub mod settle;
 mod steps;
-#[cfg(test)]
-mod tests;
 pub mod view;

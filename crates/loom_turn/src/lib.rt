@@ -5,7 +5,5 @@
 
 mod calls;
 pub mod laws;
-#[cfg(test)]
-mod tests;
 pub mod turn;
 pub mod view;

@@ -2,8 +2,8 @@ use Rattle.std.proofs.Common.{arith, ◌∙◌, sym, ap, set}
 use Rattle.loom_trace.specs.Places.{has_place}
 use Rattle.loom_gate.specs.Seats.{threads_of, view_of_key}
 use Rattle.loom_gate.specs.Calls.{look_told}
-use Rattle.loom_gate.proofs.Trials.{all_of_one}
-use Rattle.loom_gate.proofs.tests.evacuate.Goals as goal
+use Rattle.loom_gate_tests.proofs.Trials.{all_of_one}
+use Rattle.loom_gate_tests.proofs.gate.evacuate.Goals as goal
 
 pub switch-requires-clause-stood : goal.switch-requires-clause-stood
 switch-requires-clause-stood g c =

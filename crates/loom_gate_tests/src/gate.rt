@@ -4,12 +4,12 @@ ghost use Rattle.std.specs.Thread.{IsSync};
 ghost use Rattle.loom_trace.specs.Places.{has_place};
 ghost use Rattle.loom_gate.specs.Seats.{threads_of, places_of, IsPassOf, ArePassesOf, IsKeyOf, IsStanding};
 
-use crate::gate::Gate;
-use crate::key::{Key, Looked};
-use crate::log::{GateLog, PassRow};
-use crate::make::Passes;
-use crate::pass::{Entered, Pass};
-use crate::settle::settle;
+use loom_gate::gate::Gate;
+use loom_gate::key::{Key, Looked};
+use loom_gate::log::{GateLog, PassRow};
+use loom_gate::make::Passes;
+use loom_gate::pass::{Entered, Pass};
+use loom_gate::settle::settle;
 use loom_trace::places::Places;
 use std::sync::Wait;
 use std::test::Fail;

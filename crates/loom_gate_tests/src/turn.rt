@@ -3,7 +3,7 @@ ghost use Rattle.std.specs.Prelude.{◌≡◌};
 ghost use Rattle.std.specs.Thread.{IsSync};
 ghost use Rattle.loom_turn.specs.Seat.{IsSeatOf, IsIdle, IsSameSeat};
 
-use crate::turn::{Fits, Seat, Seats, Turn};
+use loom_turn::turn::{Fits, Seat, Seats, Turn};
 use std::sync::Wait;
 use std::test::Fail;
 use std::thread::{Threads, join_mut};

@@ -1,6 +1,6 @@
 use Rattle.std.proofs.Common.{◌∙◌}
-use Rattle.loom_gate.proofs.Trials.{only_pass, only_rest}
-use Rattle.loom_gate.proofs.tests.only.Goals as goal
+use Rattle.loom_gate_tests.proofs.Trials.{only_pass, only_rest}
+use Rattle.loom_gate_tests.proofs.gate.only.Goals as goal
 
 pub returns-clause-pass : goal.returns-clause-pass
 returns-clause-pass c =

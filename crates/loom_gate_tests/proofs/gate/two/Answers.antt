@@ -1,6 +1,6 @@
 use Rattle.std.proofs.Common.{◌∙◌, ap, if◌then◌else◌, true, ◌==◌}
-use Rattle.loom_gate.proofs.Trials.{two_below}
-use Rattle.loom_gate.proofs.tests.two.Goals as goal
+use Rattle.loom_gate_tests.proofs.Trials.{two_below}
+use Rattle.loom_gate_tests.proofs.gate.two.Goals as goal
 
 pub returns-clause-below : goal.returns-clause-below
 returns-clause-below c p =

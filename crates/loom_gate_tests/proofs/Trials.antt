@@ -1,4 +1,4 @@
--- For the tests: gates of one thread.
+-- Gates of one thread.
 use Rattle.std.proofs.Common.{◌≡◌, ℕ, ◌<◌, ◌==◌, ne_eqb, Bool, true, false, true≢false, if◌then◌else◌, List, [], ◌∷◌, ◌++◌, length, get_or, set, sym, refl, ap, ◌∙◌, subst, arith, get_or-set_same, All, Option, Some, None}
 use Rattle.std.specs.Prelude.{IfSome, option_to_list}
 use mathlib.Core.Logic.{dite}

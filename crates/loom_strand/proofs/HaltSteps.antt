@@ -29,7 +29,7 @@ use Rattle.loom_strand.specs.Machine.{Machine, position}
 use Rattle.loom_strand.specs.PositionRequest.{question_request, request_at}
 use Rattle.loom_strand.specs.StepResult.{place_here, place_coming}
 use Rattle.loom_strand.specs.Life.{asks_cross}
-use Rattle.loom_strand.specs.Way.{MayCome, Look, first_frame, next_step, IsWay, IsNextPlace, IsPlaceAhead}
+use Rattle.loom_strand.specs.Way.{MayCome, Look, first_frame, next_step, IsWay, IsNextPlace, IsNextMark, IsPlaceAhead}
 use Rattle.loom_strand.specs.InPart.{IsInPart, GoesOn}
 use Rattle.loom_strand.specs.StrandInvariant.{IsSoundPosition, IsInOwn}
 use Rattle.loom_strand.specs.Halt.{PassesNextFrom, PassesNext, IsStopped, IsHalting, by_request, by_owed}
@@ -70,6 +70,7 @@ pub record IsComing (c : Flow) (w : Progress) (k : ℕ) : Type 0 where
   pub place : Place
   pub at : place_at c.program k ≡ Some place
   pub next : (z : Walk) → IsNextPlace z w place
+  pub mark : IsNextMark w place
   pub lives : w ≡ ends → ⊥
 
 pub coming_by : (c : Flow) (z : Position) (k : ℕ) (w : Progress) → IsLowered c → IsSoundPosition c z → IsInOwn c z → progress c z ≡ w → place_coming c (place_here c z) w ≡ Some k → IsComing c w k
@@ -81,12 +82,14 @@ coming_by c z k (goes (Some (edge n)) y) l h own p is = record {
   place = site.back_edge n;
   at = subst (λ j. place_at c.program j ≡ Some (site.back_edge n)) (some_place (place_here c z) k is) (mark_place c z y (Some (edge n)) l h own p).0;
   next = λ u. refl;
+  mark = refl;
   lives = λ e. cc;
 }
 coming_by c z k (goes (Some (enter f env)) y) l h own p is = record {
   place = site.entry f;
   at = subst (λ j. place_at c.program j ≡ Some (site.entry f)) (some_place _ k is) (mark_place c z y (Some (enter f env)) l h own p).0;
   next = λ u. refl;
+  mark = refl;
   lives = λ e. cc;
 }
 coming_by c z k (goes (Some (out f)) y) l h own p is = let no : ◌≡◌ {A = Option ℕ} None (Some k) = is in absurd (let u : ⊥ = cc in u)
@@ -101,6 +104,7 @@ first_coming c b k (Some en) l there is = record {
   place = site.entry b.func;
   at = subst (λ j. place_at c.program j ≡ Some (site.entry b.func)) (some_place en.place k is) ((instructions_of c c.program l refl).entrances b.func en there);
   next = λ u. refl;
+  mark = refl;
   lives = λ e. cc;
 }
 

@@ -31,7 +31,7 @@ use Rattle.loom_strand.specs.Life.{has_none, asks_cross}
 use Rattle.loom_strand.specs.Way.{Look, looks_for_grant, IsJoining, first_frame, next_step, end_line, IsNextPlace, IsPlaceAhead}
 use Rattle.loom_strand.specs.Halt.{PassesNextFrom, PassesNext, IsStopped, IsHalting, by_request, by_owed}
 use Rattle.loom_strand.specs.InPart.{IsInPart, AreIn, ArePassedBy, HasGone}
-use Rattle.loom_strand.specs.Strand.{Strand, plans, own_of, IsOutrun, StandsAt, IsPlaceOfRequest, Requests, StandsFlagged, WaitsUnflagged, HeedsFlags, StaysAt, KeepsFrom, KeepsAwayFrom, Parks, MayPark, KeepsParking, IsSameWant, request_in}
+use Rattle.loom_strand.specs.Strand.{Strand, plans, own_of, IsOutrun, StandsAt, IsPlaceOfRequest, Requests, ComesToPass, StandsFlagged, WaitsUnflagged, HeedsFlags, StaysAt, KeepsFrom, KeepsAwayFrom, Parks, MayPark, KeepsParking, IsSameWant, request_in}
 use Rattle.loom_strand.specs.StrandInvariant.{IsAsked, AsksIfAny, CrossesIfAny, IsWaiting, LivingInvariant}
 use Rattle.loom_strand.specs.PrivateRun.{MayRunFrom, MayRun, Halts, AsksFree, StandsStill, GoesToHalt}
 use Rattle.loom_strand.proofs.HaltSteps.{IsComing, coming, site_within, ahead_of}
@@ -39,7 +39,7 @@ use Rattle.loom_strand.proofs.LastEntries.{last_blocked}
 use Rattle.loom_strand.proofs.NextRequests.{asked_next}
 use Rattle.loom_strand.proofs.Openings.{IsLookedAt}
 use Rattle.loom_strand.proofs.Parking.{asked_away, blocked_away, more_blocked}
-use Rattle.loom_strand.proofs.Standings.{looked, something, stands_ahead, halting_ahead, IsAskedAt, asked_at, IsVersionAsked, version_asked, asked_halts, asked_no_begin, asked_cross_at, next_numbers, asked_numbers, one_asked}
+use Rattle.loom_strand.proofs.Standings.{looked, something, stands_ahead, passes_ahead, halting_ahead, IsAskedAt, asked_at, IsVersionAsked, version_asked, asked_halts, asked_no_begin, asked_cross_at, next_numbers, asked_numbers, one_asked}
 
 -- behind a run, with a version, and with what it came to
 abbrev pub went : Strand → Version → Execution → Want → Strand
@@ -236,18 +236,25 @@ requests_of t b q l may i is =
       outrun = crosses.1;
     }
 
+one_place : (x y : Place) → ◌≡◌ {A = Option Place} (Some x) (Some y) → x ≡ y
+one_place x y h = cc
+
 -- It stands at a flagged place.
 pub stands_flagged : (s : Strand) (b : Birth) (flags : List ℕ) (newer : Bool) (v : Version) (e : Execution) (k : ℕ) → LivesOn s b flags newer v e (want.Place k) → StandsFlagged (went s v e (want.Place k)) b flags k
 stands_flagged s b flags newer v e k h =
     let i : LivingInvariant (went s v e (want.Place k)) b = lives_on s b flags newer v e (want.Place k) h in
     let a : IsAskedAt s.program (walk_of s.program (plans s) (own_of s b) i.steps) (next_step (lowered s.program) b e.stage e.machine) e.place =
     halts_at s b flags newer v e (want.Place k) i.look i.steps h.low h.run.may h.run.halts i.there in
+    let w : Progress = next_step (lowered s.program) b e.stage e.machine in
+    let next : IsComing (lowered s.program) w k = coming (lowered s.program) b e.stage e.machine e.walk k h.low h.run.may h.run.halts.1.0 in
+    let stands : StandsAt (went s v e (want.Place k)) b k = stands_at (went s v e (want.Place k)) b k i.look i.steps h.low h.run.may h.run.halts.1.1.1 i.there (λ g. (i.joins g).1) a in
+    let same : next.place ≡ stands.place = one_place next.place stands.place (sym next.at ∙ stands.number) in
+    let passes : ComesToPass s.program (plans s) (own_of s b) next.place =
+    passes_ahead (lowered s.program) (plans s) (own_of s b) w i.look i.steps next.place h.low (looked i.look w (λ g. (i.joins g).1)) (i.there.there.at.owed ∙ h.run.halts.0) next.mark i.there.way in
     record {
       flagged = h.run.halts.1.1.0;
-      waits = record {
-        stands = stands_at (went s v e (want.Place k)) b k i.look i.steps h.low h.run.may h.run.halts.1.1.1 i.there (λ g. (i.joins g).1) a;
-        rests = inl (h.run.halts.0, h.run.halts.1.0);
-      };
+      waits = record { stands = stands; rests = inl (h.run.halts.0, h.run.halts.1.0) };
+      passes = λ free. subst (ComesToPass s.program (plans s) (own_of s b)) same passes;
       want = refl;
     }
 
@@ -513,6 +520,7 @@ blocked_stands s b flags v l may i told flag =
     record {
       flagged = flag;
       waits = record { stands = stands_at (halted s v) b s.execution.place i.look i.steps l may refl i.there (λ g. (i.joins g).1) a; rests = inr is };
+      passes = λ free. no_both (ends_blocked s.entries) is free;
       want = refl;
     }
 

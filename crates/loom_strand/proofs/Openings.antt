@@ -12,7 +12,8 @@ use Rattle.loom_flow.specs.Progress.{Progress, goes, asks, traps, ends, nothing}
 use Rattle.loom_flow.specs.FlatTrace.{runs}
 use Rattle.loom_law.specs.Walk.{Walk, request_place, place_of_item}
 use Rattle.loom_strand.specs.PositionRequest.{question_request}
-use Rattle.loom_strand.specs.Way.{end_line, thread_with, MayCome, Look, looks_nowhere, looks_ahead, looks_for_grant, IsNoTrap, IsSeen, IsJoining, IsNextPlace}
+use Rattle.loom_strand.specs.Way.{end_line, thread_with, MayCome, Look, looks_nowhere, looks_ahead, looks_for_grant, IsNoTrap, IsSeen, IsJoining, IsNextPlace, IsNextMark}
+use Rattle.loom_strand.specs.Strand.{IsMarkOf}
 use Rattle.loom_strand.proofs.Steps.{IsNoBegin}
 
 -- Acts
@@ -98,6 +99,28 @@ next_opens c f (traps line k) z y look h e =
 next_opens c f ends z y look h e =
     record { item = made (end_line c.program f) end; comes = inr ([], refl, (refl, inr refl)); seen = seen_one look _ ends h (λ g. absurd g); place = ap {B = Option Place} Some e }
 next_opens c f nothing z y look h e = absurd e
+
+-- A mark comes next.
+pub record IsMarkOpening (c : Flow) (f : ℕ) (w : Progress) (y : Place) (look : Look) : Type 0 where
+  pub item : Item
+  pub comes : MayCome c f w 0 (item ∷ []) Open
+  pub seen : IsSeen look (item ∷ [])
+  pub passes : IsMarkOf item y
+
+pub mark_opens : (c : Flow) (f : ℕ) (w : Progress) (y : Place) (look : Look) → IsLookedAt look w → IsNextMark w y → IsMarkOpening c f w y look
+mark_opens c f (goes None v) y look h e = absurd e
+mark_opens c f (goes (Some (made l a)) v) y look h e = absurd e
+mark_opens c f (goes (Some (begins l env)) v) y look h e = absurd e
+mark_opens c f (goes (Some (done l)) v) y look h e = absurd e
+mark_opens c f (goes (Some (edge l)) v) y look h e =
+    record { item = edge l; comes = inr ([], refl, (refl, refl)); seen = seen_one look (edge l) (goes (Some (edge l)) v) h (λ g. tt); passes = e }
+mark_opens c f (goes (Some (enter n env)) v) y look h e =
+    record { item = enter n env; comes = inr ([], refl, (refl, refl)); seen = seen_one look (enter n env) (goes (Some (enter n env)) v) h (λ g. tt); passes = e }
+mark_opens c f (goes (Some (out n)) v) y look h e = absurd e
+mark_opens c f (asks line q behind) y look h e = absurd e
+mark_opens c f (traps line k) y look h e = absurd e
+mark_opens c f ends y look h e = absurd e
+mark_opens c f nothing y look h e = absurd e
 
 -- Each list that may come has that place first.
 

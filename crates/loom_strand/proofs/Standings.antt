@@ -26,14 +26,14 @@ use Rattle.loom_strand.specs.Machine.{Machine, position}
 use Rattle.loom_strand.specs.PositionRequest.{question_request, request_at}
 use Rattle.loom_strand.specs.StepResult.{place_here, place_coming}
 use Rattle.loom_strand.specs.Life.{asks_cross}
-use Rattle.loom_strand.specs.Way.{Look, looks_nowhere, looks_ahead, looks_for_grant, IsSeen, IsJoining, first_frame, next_step, IsWay, IsPlaceAhead}
+use Rattle.loom_strand.specs.Way.{Look, looks_nowhere, looks_ahead, looks_for_grant, IsSeen, IsJoining, first_frame, next_step, IsWay, IsNextMark, IsPlaceAhead}
 use Rattle.loom_strand.specs.Halt.{PassesNextFrom, PassesNext, IsStopped, IsHalting, by_request, by_owed}
 use Rattle.loom_strand.specs.InPart.{HasPlace}
-use Rattle.loom_strand.specs.Strand.{CrossesAt}
+use Rattle.loom_strand.specs.Strand.{CrossesAt, ComesToPass}
 use Rattle.loom_strand.specs.StrandInvariant.{operation_request, IsAsked, asks_act, asks_owed, asks_version}
 use Rattle.loom_strand.specs.PrivateRun.{MayRunFrom, MayRun}
 use Rattle.loom_strand.proofs.Ways.{one_mark_comes}
-use Rattle.loom_strand.proofs.Openings.{IsOpening, IsLookedAt, next_opens}
+use Rattle.loom_strand.proofs.Openings.{IsOpening, IsLookedAt, next_opens, IsMarkOpening, mark_opens}
 use Rattle.loom_strand.proofs.RequestKinds.{Asked, asks_numbers}
 use Rattle.loom_strand.proofs.PartSteps.{flat_tree}
 use Rattle.loom_strand.proofs.RunSteps.{runs_next}
@@ -97,6 +97,24 @@ stands_ahead c plans x w look steps y l some looks rests ahead h = by_queue z.ow
       place = subst (λ us. place_of_next z us (some.item ∷ []) ≡ Some y) (sym e) (ap {B = Option Place} Some a);
     }
     by_queue (o ∷ os) e (inr none) a = let no : o ∷ os ≡ [] = sym e ∙ none in cc
+
+-- Before a mark it comes to pass the place of that.
+pub passes_ahead : (c : Flow) (plans : Plans) (x : Own) (w : Progress) (look : Look) (steps : List PartStep) (y : Place) → IsLowered c → IsLookedAt look w
+    → (walk_of c.program plans x steps).owed ≡ [] → IsNextMark w y → IsWay c plans x w look steps → ComesToPass c.program plans x y
+passes_ahead c plans x w look steps y l looks none mark h =
+    let o : IsMarkOpening c x.func w y look = mark_opens c x.func w y look looks mark in
+    record {
+      point = record {
+        steps = steps;
+        next = o.item;
+        trace = flat_tree c l x.func x.args (items steps ++ o.item ∷ []) Open (h.trace (o.item ∷ []) Open 0 o.comes);
+        woven = h.woven (o.item ∷ []) Open 0 o.comes o.seen;
+        tells = h.tells;
+        taken = h.taken;
+      };
+      rests = none;
+      passes = o.passes;
+    }
 
 -- Where it can't go on
 

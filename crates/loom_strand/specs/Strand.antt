@@ -2,8 +2,8 @@
 use Rattle.std.specs.Prelude.{ℕ, ◌≡◌, ◌≤◌, ◌<◌, ◌⊎◌, Bool, true, false, List, [], ◌∷◌, ◌++◌, Option, Some, None}
 use Rattle.std.specs.List.{filter}
 use Rattle.loom_tree.specs.Tree.{Source}
-use Rattle.loom_lang.specs.Places.{Place, place_at}
-use Rattle.loom_lang.specs.Trace.{Finished, IsTrace}
+use Rattle.loom_lang.specs.Places.{Place, entry, back_edge, place_at}
+use Rattle.loom_lang.specs.Trace.{Item, edge, enter, Finished, IsTrace}
 use Rattle.loom_flow.specs.FlatCode.{lowered}
 use Rattle.loom_flow.specs.Depth.{most_values}
 use Rattle.loom_trace.specs.Places.{has_place}
@@ -14,7 +14,7 @@ use Rattle.loom_trace.specs.declared.request.Request.TheVariants as r
 use Rattle.loom_event.specs.Answer.{asks_begin, asks_operation, IsGrantOf, IsAnswerTo, IsBlockedAt, HasNumbers}
 use Rattle.loom_law.specs.Filter.{has}
 use Rattle.loom_law.specs.Walk.{Version, Plans, wait, enters, at, past, post, leave, back, tick, new_filters, PartStep, items, filter_entries, Walk, request_place, unborn, AreWoven}
-use Rattle.loom_law.specs.ThreadPart.{Own, walk_of, IsPart, ComesTo, HasMoved, with_entry, AsksToMake, AsksToCross, AsksToAct}
+use Rattle.loom_law.specs.ThreadPart.{Own, walk_of, IsPart, Point, ComesTo, HasMoved, with_entry, AsksToMake, AsksToCross, AsksToAct}
 use Rattle.loom_law.specs.TurnLaws.{ends_blocked}
 use Rattle.loom_plan.specs.Compiled.{Compiled}
 use Rattle.loom_version.specs.Plans.{plans_in}
@@ -176,10 +176,24 @@ pub record WaitsAt (s : Strand) (b : Birth) (k : ℕ) : Type 0 where
   pub stands : StandsAt s b k
   pub rests : ((queue s.execution.walk.owed ≡ []) × PassesNext (lowered s.program) b s.execution k) ⊎ (ends_blocked s.entries ≡ true)
 
--- It waits at a place that is flagged.
+-- this mark is put down where the place is passed: an entry place, or a back-edge place
+abbrev pub IsMarkOf : Item → Place → Type 0
+IsMarkOf (enter f env) y = entry f ≡ y
+IsMarkOf (edge l) y = back_edge l ≡ y
+IsMarkOf _ y = ⊥
+
+-- A begun thread comes to a place that it passes: at a point behind its last entry nothing is owed, and the mark of that place comes next. So it is
+-- the place of an entry or a back edge, and not that of a request.
+pub record ComesToPass (p : Source) (ps : Plans) (x : Own) (y : Place) : Type 0 where
+  pub point : Point p ps x
+  pub rests : (walk_of p ps x point.steps).owed ≡ []
+  pub passes : IsMarkOf point.next y
+
+-- It waits at a place that is flagged. Where it isn't blocked, that is a place which it comes to pass.
 pub record StandsFlagged (s : Strand) (b : Birth) (flags : List ℕ) (k : ℕ) : Type 0 where
   pub flagged : has_place flags k ≡ true
   pub waits : WaitsAt s b k
+  pub passes : ends_blocked s.entries ≡ false → ComesToPass s.program (plans s) (own_of s b) waits.stands.place
   pub want : s.want ≡ None
 
 -- It waits at no flagged place.

@@ -79,6 +79,12 @@ IsNextPlace z (goes _ y) x = ⊥
 IsNextPlace z nothing x = ⊥
 IsNextPlace z _ x = request_place z ≡ x
 
+-- The mark of this place comes next.
+abbrev pub IsNextMark : Progress → Place → Type 0
+IsNextMark (goes (Some (edge l)) y) x = back_edge l ≡ x
+IsNextMark (goes (Some (enter f env)) y) x = entry f ≡ x
+IsNextMark _ x = ⊥
+
 -- and where something is owed, that of its request
 abbrev pub IsPlaceAhead : Queue → Walk → Progress → Place → Type 0
 IsPlaceAhead [] z w x = IsNextPlace z w x

@@ -180,10 +180,12 @@ impl Strand {
         self.execution.walk.passed()
     }
 
-    /// Goes on up to the next request, which it asks for, and for the same again until it is answered, unless the version or the flags change. With a
-    /// newer version it asks to go over to that at the first point before an entry or back-edge place or before a request. It stands at a flagged
-    /// place exactly where its next step passes an entry or back-edge place that is flagged, or its last entry is `Blocked` and its place is flagged:
-    /// flags go before a newer version. A thread that has made its `End` has ended.
+    /// Runs on as far as its next request and asks for that; until the answer comes it asks for the same, unless version or flags are others then.
+    /// Given a newer version it asks to cross into it, at the first point that lies in front of a mark (a function's entry, a back edge) or of a
+    /// request. At a flagged place it halts in two cases alone: the mark of that place is what it would pass next, or `Blocked` was the last that it
+    /// told and the place where it waits is flagged. Flags are looked at before the version. Where its last entry isn't `Blocked`, the place is one
+    /// that it comes to pass: nothing is owed and its mark is next, so the place of its request alone is never told. A thread that has made its
+    /// `End` has ended.
     ///
     /// The version is the one that it has, or a later one.
     pub fn run_private(&mut self, flow: &Flow, version: &Version, flags: &Places) -> Want

@@ -26,13 +26,13 @@ use Rattle.loom_world.specs.Idle.{CanTurn, HindersThread, IsFoundAtFlag, IsKeptB
 use Rattle.loom_world.specs.Turned.{StandsAtPlace, NotesBehind, NotesBy, IsNoted, Moves, noted}
 use Rattle.loom_world.specs.Flags.{IsUnderWay, IsFlaggedNow}
 use Rattle.loom_world.specs.Asking.{Asks, forgotten, MakesAnswer}
-use Rattle.loom_world.specs.Threads.{IsBirthOf, HasKeptAway, WaitsFound, WaitsFree, HasStrandPart, IsStrandOf, RequestsSo, IsBehind, KeepsOthers}
+use Rattle.loom_world.specs.Threads.{IsBirthOf, HasKeptAway, HasPassedNone, WaitsFound, WaitsFree, HasStrandPart, IsStrandOf, RequestsSo, IsBehind, KeepsOthers}
 use Rattle.loom_world.proofs.ControlState.{thread_keeps}
 use Rattle.loom_world.proofs.OwnVersions.{version_stays}
 use Rattle.loom_world.proofs.SinceAsked.{since_other, none_listed}
 use Rattle.loom_world.proofs.Replies.{last_in, last_is}
 use Rattle.loom_world.proofs.Strands.{entries_few, birth_kept}
-use Rattle.loom_world.proofs.StandsBehind.{forgotten_here, forgotten_other, noted_other, noted_here, book_noted}
+use Rattle.loom_world.proofs.StandsBehind.{forgotten_here, forgotten_other, noted_other, noted_here, some_noted, book_noted}
 use Rattle.loom_world.proofs.Turning.{its_own, stand_of}
 use Rattle.loom_world.proofs.OneStand.{one_stand}
 use Rattle.loom_world.proofs.ThreadTurns.{IsAwake, awake}
@@ -179,10 +179,18 @@ part_noted b t k s h = record {
 flagged_before : (b : Book) (t k : ℕ) (y : Place) → IsFlaggedNow (book_noted b t k) y → IsFlaggedNow b y
 flagged_before b t k y f = record { command = f.command; under_way = record { asked = f.under_way.asked; not_refused = f.under_way.not_refused }; flagged = f.flagged }
 
-pub strand_noted : (b new : Book) (t k : ℕ) (s : Strand) → 1 ≤ t → IsNoted b t k new → HasStrandPart b t s → WaitsFound s s.birth k → IsStrandOf new t s
-strand_noted b new t k s first is part waits =
+pub strand_noted : (b new : Book) (t k : ℕ) (s : Strand) → 1 ≤ t → t ≤ thread_limit → HasLawfulJournal b → IsNoted b t k new → HasStrandPart b t s → WaitsFound s s.birth k → IsStrandOf new t s
+strand_noted b new t k s first last h is part waits =
     subst (λ (y : Book). IsStrandOf y t s) (sym is)
-    (record { part = part_noted b t k s part; stands = λ j there. subst (λ i. WaitsFound s s.birth i) (noted_here b.stands t k j first there) waits })
+    (record {
+      part = part_noted b t k s part;
+      stands = λ j there. subst (λ i. WaitsFound s s.birth i) (noted_here b.stands t k j first there) waits;
+      passes = passed_noted s.birth;
+    })
+  where
+    passed_noted : (o : Option Birth) → HasPassedNone (book_noted b t k) t s o
+    passed_noted None = tt
+    passed_noted (Some x) = λ note some lives places. absurd (some_noted b.stands t k first (omega (arith, last, h.stands.count)) note)
 
 -- and that place isn't flagged
 pub noted_free : (b new : Book) (t k : ℕ) (s : Strand) → 1 ≤ t → IsNoted b t k new → b.program ≡ s.program → WaitsFound s s.birth k → WaitsFree b s s.birth → (j : ℕ) → IsFoundAtFlag new t j → ⊥
@@ -272,6 +280,19 @@ took_part b t s new x h same passes = record {
     anew None p = absurd p
     anew (Some y) p = λ k set under flags any lives. p lives set
 
+-- Behind its entry nothing is noted of it, unless it is blocked.
+pub took_strand : (b : Book) (t : ℕ) (s new : Strand) (x : Entry) → IsBehind b t s x → IsSameThread s s.birth (with_newest x s.newest s.versions) (s.entries ++ x ∷ []) new → PassesAnew new new.birth
+    → IsStrandOf b t new
+took_strand b t s new x h same passes = record {
+  part = took_part b t s new x h same passes;
+  stands = λ k there. let no : None ≡ Some k = sym h.forgotten ∙ there in cc;
+  passes = anew new.birth passes;
+}
+  where
+    anew : (o : Option Birth) → PassesAnew new o → HasPassedNone b t new o
+    anew None p = absurd p
+    anew (Some y) p = λ note some lives places. p lives places
+
 pub waits_on : (s new : Strand) (o : Option Birth) → WaitsOn s new o → WaitsFound new o new.execution.place
 waits_on s new None h = absurd h
 waits_on s new (Some y) h = h.1
@@ -306,7 +327,7 @@ others_made b mid new t q x made run entries stands = record {
 pub moved_so : (b mid new : Book) (t : ℕ) (q : Request) (x : Entry) → CanTurn b t → Asks b t q → ((k : ℕ) → IsFoundAtFlag b t k → ⊥) → MakesAnswer b t q x mid → new.entries ≡ mid.entries
     → NotesBehind mid.stands t (is_blocked_entry x) new → Moves b (c.Thread t) new × ((w : Why) → HindersThread b t w → ⊥)
 moved_so b mid new t q x turns asks unflagged made entries notes =
-    (record { makes = record { entry = x; one = entries ∙ made.appended; maker = made.thread }; next = tt; notes = noted_so }, hindered)
+    (record { makes = record { entry = x; one = entries ∙ made.appended; maker = made.thread }; next = tt; notes = noted_so; unflagged = made.unflagged }, hindered)
   where
     noted_so : NotesBy b (thread_of x) (is_blocked_entry x) new
     noted_so = subst (λ o. NotesBy b o (is_blocked_entry x) new) (sym made.thread) (subst (λ ys. NotesBehind ys t (is_blocked_entry x) new) made.noted notes)

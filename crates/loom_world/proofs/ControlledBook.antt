@@ -270,7 +270,7 @@ not_idle b n k open_ x of next why.Blocked h = h
 
 pub control_moves : (b : Book) (n : Notes) → BookInvariant b n → n.finished ≡ false → (x : Entry) → thread_of x ≡ None → StandsNext b x
     → (es : List Entry) → es ≡ b.entries ++ x ∷ [] → Turns b choice.Control (record b { entries = es }) turned.Moved
-control_moves b n k open_ x of next es is = (record { makes = record { entry = x; one = is; maker = of }; next = next; notes = subst (λ o. NotesBy b o (is_blocked_entry x) (record b { entries = es })) (sym of) refl }, not_idle b n k open_ x of next)
+control_moves b n k open_ x of next es is = (record { makes = record { entry = x; one = is; maker = of }; next = next; notes = subst (λ o. NotesBy b o (is_blocked_entry x) (record b { entries = es })) (sym of) refl; unflagged = tt }, not_idle b n k open_ x of next)
 
 -- Before the first entry
 

@@ -21,6 +21,7 @@ mod Operable
 mod Turning
 mod NotedBook
 mod OneStand
+mod MindsFlags
 mod ThreadTurns
 mod Commits
 mod FilterLists

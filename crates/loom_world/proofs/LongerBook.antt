@@ -41,7 +41,7 @@ use Rattle.loom_world.specs.Book.{Book, setting, front, HasLawfulJournal}
 use Rattle.loom_world.specs.Flags.{IsUnderWay, IsFlaggedNow}
 use Rattle.loom_world.specs.Idle.{IsClosed, CommandGoesFirst}
 use Rattle.loom_world.specs.Threads.{HasSameCall, KeepsThreads}
-use Rattle.loom_world.specs.Asking.{Asks, MakesAnswer}
+use Rattle.loom_world.specs.Asking.{Asks, PassesNoFlag, MakesAnswer}
 use Rattle.loom_world.specs.BookInvariant.{Notes, wait_in, wait_of, CanAwait, IsAtEnd, NoneGoesOn, HasVersion, BookInvariant}
 use Rattle.loom_world.specs.Entry.{line_in, IsGrantWith, IsEntryFor}
 use Rattle.loom_world.specs.Operating.{IsLockedFor, Locks, IsMade, Operates, Acts}
@@ -322,6 +322,7 @@ answer_control cs c t q (a.Trapped n) x h = deed_control cs c t (trap_deed q) x 
 pub record IsOutcome (b : Book) (n : Notes) (t : ℕ) (q : Request) (m : Made) (st : Store) (o : Ops) : Type 0 where
   pub of : thread_of m.entry ≡ Some t
   pub more : IsGoing b.program b.commands b.limit (b.entries ++ m.entry ∷ []) st
+  pub unflagged : PassesNoFlag b t m.entry
   pub replies : IsReplyTo (ends_blocked (entries_of t b.entries)) (awaits_end (entries_of t b.entries)) t (Some q) m.entry
   pub runs : (u : ℕ) → (t == u) ≡ false → running_thread (thread_at st u) ≡ running_thread (thread_at b.store u)
   pub locks : IsOpsOf (plans (setting b)) (after_entry b.commands (front b).control m.entry) o
@@ -359,9 +360,11 @@ act_outcome b n k t q h free act m st o acts same =
     (subst (IsBlockedAt t q) (sym entry) named.1.1.1, not_told h.asks free named.0 named.1.0 d.0.0 what named.1.1.1 (disabled_there b t what d.1.0)))
     in
     let stays : after_entry b.commands (front b).control m.entry ≡ (front b).control = answer_control b.commands (front b).control t q y m.entry acts.entry in
+    let goes_on = answer_goes q h y m.entry st acts.answers acts.entry (λ what is. (told what is).1) in
     record {
       of = entry_by_thread t q y m.entry acts.entry;
-      more = answer_goes q h y m.entry st acts.answers acts.entry (λ what is. (told what is).1);
+      more = goes_on.0;
+      unflagged = goes_on.1;
       replies = store_replies h act y m.entry st acts.answers acts.entry told;
       runs = runs_behind b.store st t q (deed_of q y) leads;
       locks = subst (λ c. IsOpsOf (plans (setting b)) c o) (sym stays) (subst (IsOpsOf (plans (setting b)) (front b).control) (sym same) k.version.ops);
@@ -441,9 +444,11 @@ pub operation_outcome : (b : Book) (n : Notes) (k : BookInvariant b n) (t : ℕ)
     → Operates n.ops t q m o → IsOutcome b n t q m b.store o
 operation_outcome b n k t q h free is m o op =
     let x = operation b n k t q h.asks free is m o op in
+    let goes_on = operation_made q h n.ops k.version.ops m o is op (λ what some. (x.told what some).1) in
     record {
       of = x.of;
-      more = operation_made q h n.ops k.version.ops m o is op (λ what some. (x.told what some).1);
+      more = goes_on.0;
+      unflagged = goes_on.1;
       replies = operation_replies q h is m op.1 x.told;
       runs = λ u other. refl;
       locks = x.locks;
@@ -536,5 +541,6 @@ answered_so b n k goes_on no_command t q free m st o x = record {
   goes_on = goes_on;
   no_command = no_command;
   free = free;
+  unflagged = x.unflagged;
   few = subst (λ z. z < b.limit) k.entry_count (not_full b n k goes_on);
 }

@@ -1,5 +1,5 @@
 -- A journal with the entry that an answer makes.
-use Rattle.std.proofs.Common.{ℕ, ◌≡◌, ◌==◌, ◌&&◌, true, false, List, [], ◌∷◌, ◌++◌, ℤ, pos, Option, Some, None, refl, sym, ap, ◌∙◌, subst}
+use Rattle.std.proofs.Common.{ℕ, ◌≡◌, ◌==◌, ◌&&◌, true, false, List, [], ◌∷◌, ℤ, pos, Option, Some, None, refl, sym, ap, ◌∙◌, subst}
 use Rattle.std.specs.List.{AllByRecursion, list_any}
 use Rattle.loom_trace.specs.Limits.{thread_limit}
 use Rattle.loom_trace.specs.declared.entry.Entry.{Entry}
@@ -30,15 +30,11 @@ use Rattle.loom_world.specs.Book.{Book, setting, front}
 use Rattle.loom_world.specs.Entry.{line_in, IsGrantWith, IsEntryFor}
 use Rattle.loom_world.specs.Operating.{IsLockedFor, Locks, IsMade, Operates}
 use Rattle.loom_world.proofs.NoOrders.{each_excludes, no_before, no_wait, no_post}
-use Rattle.loom_world.proofs.Going.{IsGoing}
 use Rattle.loom_world.proofs.OwedBlocks.{owed_blocks}
-use Rattle.loom_world.proofs.OpenTurns.{IsAsking, acting, deed_goes, operation_turn, none_crossed, some_crossed, blocked_turn}
-
-abbrev GoesWith : Book → Entry → Store → Type 0
-GoesWith b x new = IsGoing b.program b.commands b.limit (b.entries ++ x ∷ []) new
+use Rattle.loom_world.proofs.OpenTurns.{IsAsking, GoesWith, acting, deed_goes, operation_turn, none_crossed, some_crossed, blocked_turn}
 
 -- granted
-granted_goes : {b : Book} {t : ℕ} (q : Request) (h : IsAsking b t q) (v : ℤ) (x : Entry) (new : Store) → IsGrantWith t q v x → LeadsTo b.store t q (given_deed q v) new → GoesWith b x new
+granted_goes : {b : Book} {t : ℕ} (q : Request) (h : IsAsking b t q) (v : ℤ) (x : Entry) (new : Store) → IsGrantWith t q v x → LeadsTo b.store t q (given_deed q v) new → GoesWith b t x new
 granted_goes (r.Begin l) h v x new tells leads = deed_goes h (acting h.asks.next h.asks.away.asks h.under_way) refl (given_deed (r.Begin l) v) x new tells leads
 granted_goes (r.End l) h v x new tells leads = deed_goes h (acting h.asks.next h.asks.away.asks h.under_way) refl (given_deed (r.End l) v) x new tells leads
 granted_goes (r.Trap l n) h v x new tells leads = deed_goes h (acting h.asks.next h.asks.away.asks h.under_way) refl (given_deed (r.Trap l n) v) x new tells leads
@@ -53,11 +49,11 @@ granted_goes (r.Join l u) h v x new tells leads = deed_goes h (acting h.asks.nex
 granted_goes (r.Print l u) h v x new tells leads = deed_goes h (acting h.asks.next h.asks.away.asks h.under_way) refl (given_deed (r.Print l u) v) x new tells leads
 granted_goes {b} {t} (r.Tick l k) h v x new tells leads =
     let more = operation_turn h l (tick k) refl h.asks.next (none_crossed h (e.Tick t l k) refl refl refl) (λ j is some. h.asks.away.asks j is some) tt refl in
-    subst (λ z. GoesWith b x z) (sym leads) (subst (λ z. GoesWith b z b.store) (sym tells) more)
+    subst (λ z. GoesWith b t x z) (sym leads) (subst (λ z. GoesWith b t z b.store) (sym tells) more)
 granted_goes _ h v x new tells leads = absurd tells
 
 -- trapped
-trapped_goes : {b : Book} {t : ℕ} (q : Request) (h : IsAsking b t q) (x : Entry) (new : Store) → IsEntryOf t (trap_deed q) x → LeadsTo b.store t q (trap_deed q) new → GoesWith b x new
+trapped_goes : {b : Book} {t : ℕ} (q : Request) (h : IsAsking b t q) (x : Entry) (new : Store) → IsEntryOf t (trap_deed q) x → LeadsTo b.store t q (trap_deed q) new → GoesWith b t x new
 trapped_goes (r.Begin l) h x new tells leads = absurd tells
 trapped_goes (r.End l) h x new tells leads = absurd tells
 trapped_goes (r.Trap l n) h x new tells leads = deed_goes h (acting h.asks.next h.asks.away.asks h.under_way) refl (trap_deed (r.Trap l n)) x new tells leads
@@ -100,13 +96,13 @@ asks_act _ h k (w.Enter j c) is = cc
 asks_act _ h k (w.Wait j n) is = cc
 
 disabled_goes : {b : Book} {t : ℕ} (q : Request) (h : IsAsking b t q) (what : What) (l : ℕ) (x : Entry) → request_for l what ≡ Some q → ends_blocked (entries_of t b.entries) ≡ false
-    → IsDisabled b.store what → x ≡ e.Blocked t (line_in q) what → GoesWith b x b.store
+    → IsDisabled b.store what → x ≡ e.Blocked t (line_in q) what → GoesWith b t x b.store
 disabled_goes {b} {t} q h what l x is free disabled tells =
     let waits = waits_for q l what is in
     let asks = blocks b.program (plans (setting b)) (own (setting b) b.entries t h.asks.state) q l what (asks_act q h l what is) (waits.named t) free in
     let now : IsDisabled (replay (start b.program thread_limit) h.going.lawful.events) what = subst (λ z. IsDisabled z what) (sym h.going.store) disabled in
     let more = blocked_turn h l what waits.later waits.stays asks (waits.also t) free (disabled_for b t h what l q is now) in
-    subst (λ z. GoesWith b z b.store) (sym (tells ∙ ap (λ z. e.Blocked t z what) waits.line)) more
+    subst (λ z. GoesWith b t z b.store) (sym (tells ∙ ap (λ z. e.Blocked t z what) waits.line)) more
   where
     disabled_for : (b : Book) (t : ℕ) {q : Request} (h : IsAsking b t q) (what : What) (l : ℕ) (u : Request) → request_for l what ≡ Some u
         → IsDisabled (replay (start b.program thread_limit) h.going.lawful.events) what → IsDisabledFor (setting b) (front_of (setting b) b.entries h.going.lawful.events) t what
@@ -118,11 +114,11 @@ disabled_goes {b} {t} q h what l x is free disabled tells =
 
 -- Whatever the answer of the store is, the journal with its entry goes on.
 pub answer_goes : {b : Book} {t : ℕ} (q : Request) (h : IsAsking b t q) (y : Answer) (x : Entry) (new : Store) → Answers b.store t q y new → IsEntryFor t q y x
-    → ((what : What) → y ≡ a.Disabled what → ends_blocked (entries_of t b.entries) ≡ false) → GoesWith b x new
+    → ((what : What) → y ≡ a.Disabled what → ends_blocked (entries_of t b.entries) ≡ false) → GoesWith b t x new
 answer_goes {b} {t} q h (a.Granted v) x new answers tells free = granted_goes q h v x new tells (deeds b.store t q (a.Granted v) new answers)
 answer_goes {b} {t} q h (a.Trapped n) x new answers tells free = trapped_goes q h x new tells (deeds b.store t q (a.Trapped n) new answers)
 answer_goes {b} {t} q h (a.Disabled what) x new answers tells free =
-    subst (λ z. GoesWith b x z) (sym answers.1.1) (disabled_goes q h what answers.0.0 x answers.0.1 (free what refl) answers.1.0 tells)
+    subst (λ z. GoesWith b t x z) (sym answers.1.1) (disabled_goes q h what answers.0.0 x answers.0.1 (free what refl) answers.1.0 tells)
 
 -- Operations
 
@@ -136,7 +132,7 @@ made_entry t q m none made = subst (λ o. IsMade t q o m) none made
 
 -- Whatever comes of an operation, the journal with its entry goes on.
 pub operation_made : {b : Book} {t : ℕ} (q : Request) (h : IsAsking b t q) (o : Ops) → IsOpsOf (plans (setting b)) (front b).control o → (m : Made) (new : Ops) → asks_operation q ≡ true
-    → Operates o t q m new → ((what : What) → m.wait ≡ Some what → ends_blocked (entries_of t b.entries) ≡ false) → GoesWith b m.entry b.store
+    → Operates o t q m new → ((what : What) → m.wait ≡ Some what → ends_blocked (entries_of t b.entries) ≡ false) → GoesWith b t m.entry b.store
 operation_made {b} {t} (r.At l k ns) h o ops m new is op free =
     let made = made_entry t (r.At l k ns) m op.0.0 op.1 in
     let none : (n : ℕ) → before_in n (Plan.rulings (plans (setting b) k)) ≡ None = λ n. no_before 1 n (Plan.rulings (plans (setting b) k)) (each_excludes b.program b.commands h.going.exclusions k) in
@@ -144,29 +140,29 @@ operation_made {b} {t} (r.At l k ns) h o ops m new is op free =
     operation_turn h l (at k ns) refl h.asks.next (none_crossed h (e.At t l k ns) refl refl refl) (λ j under some. h.asks.away.asks j under some)
     (completions b.entries k (plans (setting b) k) ns none) refl
     in
-    subst (λ z. GoesWith b z b.store) (sym made) more
+    subst (λ z. GoesWith b t z b.store) (sym made) more
 operation_made {b} {t} (r.Past l k ns) h o ops m new is op free =
     let made = made_entry t (r.Past l k ns) m op.0.0 op.1 in
-    subst (λ z. GoesWith b z b.store) (sym made)
+    subst (λ z. GoesWith b t z b.store) (sym made)
     (operation_turn h l (past k ns) refl h.asks.next (none_crossed h (e.Past t l k ns) refl refl refl) (λ j under some. h.asks.away.asks j under some) tt refl)
 operation_made {b} {t} (r.Back l) h o ops m new is op free =
     let made = made_entry t (r.Back l) m op.0.0 op.1 in
-    subst (λ z. GoesWith b z b.store) (sym made)
+    subst (λ z. GoesWith b t z b.store) (sym made)
     (operation_turn h l back refl h.asks.next (none_crossed h (e.Back t l) refl refl refl) (λ j under some. h.asks.away.asks j under some) tt refl)
 operation_made {b} {t} (r.Leave l k c) h o ops m new is op free =
     let made = made_entry t (r.Leave l k c) m op.0.0 op.1 in
-    subst (λ z. GoesWith b z b.store) (sym made)
+    subst (λ z. GoesWith b t z b.store) (sym made)
     (operation_turn h l (leave k c) refl h.asks.next (none_crossed h (e.Leave t l k c) refl refl refl) (λ j under some. h.asks.away.asks j under some) tt refl)
 operation_made {b} {t} (r.Cross l y v n) h o ops m new is op free =
     let made = made_entry t (r.Cross l y v n) m op.0.0 op.1 in
-    subst (λ z. GoesWith b z b.store) (sym made)
+    subst (λ z. GoesWith b t z b.store) (sym made)
     (operation_turn h l (cross y v n) refl h.asks.next (some_crossed b t l y v n (h.asks.crosses refl)) (λ j under some. h.asks.away.asks j under some) h.asks.listed refl)
 operation_made {b} {t} (r.Enter l k c) h o ops m new is op free = by_wait m.wait refl op.0 op.1
   where
-    by_wait : (x : Option What) → m.wait ≡ x → Locks o t (r.Enter l k c) x new → IsMade t (r.Enter l k c) x m → GoesWith b m.entry b.store
+    by_wait : (x : Option What) → m.wait ≡ x → Locks o t (r.Enter l k c) x new → IsMade t (r.Enter l k c) x m → GoesWith b t m.entry b.store
     by_wait None none locks made =
         let nobody = locks.0 in
-        subst (λ z. GoesWith b z b.store) (sym made)
+        subst (λ z. GoesWith b t z b.store) (sym made)
         (operation_turn h l (enters k c) refl h.asks.next (none_crossed h (e.Enter t l k c) refl refl refl) (λ j under some. h.asks.away.asks j under some)
         (subst (λ hs. list_any (λ (g : Holder). (g.filter == k) && (g.clause == c)) hs ≡ false) ops.holders nobody) refl)
     by_wait (Some what) waits locks made =
@@ -178,7 +174,7 @@ operation_made {b} {t} (r.Enter l k c) h o ops m new is op free = by_wait m.wait
           holds = subst (λ hs. list_any (λ (g : Holder). (g.filter == k) && ((g.clause == c) && (g.thread == lock.by))) hs ≡ true) ops.holders lock.holds;
         } in
         let asks = owed_blocks b.program (plans (setting b)) (own (setting b) b.entries t h.asks.state) l k c h.asks.next (free what waits) in
-        subst (λ z. GoesWith b z b.store) (sym told) (blocked_turn h l (w.Enter k c) refl refl asks refl (free what waits) off)
+        subst (λ z. GoesWith b t z b.store) (sym told) (blocked_turn h l (w.Enter k c) refl refl asks refl (free what waits) off)
 operation_made {b} {t} (r.Post l k n) h o ops m new is op free =
     absurd (no_post b.program (plans (setting b)) (own (setting b) b.entries t h.asks.state) l k n (each_excludes b.program b.commands h.going.exclusions) h.asks.next)
 operation_made {b} {t} (r.Wait l k n) h o ops m new is op free =

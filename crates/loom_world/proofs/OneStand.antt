@@ -5,12 +5,13 @@ use Rattle.loom_lang.specs.Places.{Place}
 use Rattle.loom_lang.specs.Trace.{Act, begin, end, trap, read, write, lock, unlock, down, up, spawn, join, print, Item, made, begins, done, edge, enter, out, Open}
 use Rattle.loom_trace.specs.declared.entry.What.{What}
 use Rattle.loom_trace.specs.declared.entry.What.TheVariants as w
+use Rattle.loom_trace.specs.declared.entry.Entry.{Entry}
 use Rattle.loom_event.specs.TargetEvent.{entry_by}
 use Rattle.loom_law.specs.Walk.{Plans, Operation, wait, enters, at, past, post, leave, back, tick, cross, blocked, Queue, PartStep, goes, makes, items, filter_entries, Walk, request_place, place_of_item, place_of_next, unborn, walk_behind, walk_from, Owes, Acts, AsksFor, AreWoven}
-use Rattle.loom_law.specs.ThreadPart.{Own, walk_of, IsPart, Point, ComesTo}
+use Rattle.loom_law.specs.ThreadPart.{Own, walk_of, IsPart, Point, ComesTo, HasMoved}
 use Rattle.loom_law.specs.Laws.{SameSteps}
 use Rattle.loom_law.specs.TurnLaws.{is_blocked_entry, blocked_behind, ends_blocked}
-use Rattle.loom_law.proofs.OnePart.{one_made, told_append}
+use Rattle.loom_law.proofs.OnePart.{one_made, told_append, same_front}
 use Rattle.loom_law.proofs.Earlier.{woven_front}
 
 -- No mark stands next: something is owed, or an act comes.
@@ -60,23 +61,25 @@ act_unblocked t l (print v) = refl
 never : {P : Type 0} → false ≡ true → P
 never h = cc
 
+-- and with it nothing was passed
 blocked_along : (p : Source) (ps : Plans) (t : ℕ) (z : Walk) (ss : List PartStep) (ahead : List Item) (b : Bool) → AreWoven p ps z ss ahead
-    → (b ≡ true → StopsThere z (items ss ++ ahead)) → blocked_behind b (filter_entries t ss) ≡ true → StopsThere (walk_from p ps z ss) ahead
+    → (b ≡ true → StopsThere z (items ss ++ ahead) × (z.passed ≡ [])) → blocked_behind b (filter_entries t ss) ≡ true
+    → StopsThere (walk_from p ps z ss) ahead × (Walk.passed (walk_from p ps z ss) ≡ [])
 blocked_along p ps t z [] ahead b woven h told = h told
 blocked_along p ps t z (goes (made l a) ∷ ss) ahead b woven h told =
     blocked_along p ps t (walk_behind p ps z (goes (made l a))) ss ahead false woven.1 (λ is. never is) (subst (λ c. blocked_behind c (filter_entries t ss) ≡ true) (act_unblocked t l a) told)
 blocked_along p ps t z (goes (begins l env) ∷ ss) ahead b woven h told =
-    blocked_along p ps t (walk_behind p ps z (goes (begins l env))) ss ahead b woven.1 (λ is. absurd (mark_stops z (begins l env) (items ss ++ ahead) (λ g. g) woven.0 (h is))) told
+    blocked_along p ps t (walk_behind p ps z (goes (begins l env))) ss ahead b woven.1 (λ is. absurd (mark_stops z (begins l env) (items ss ++ ahead) (λ g. g) woven.0 (h is).0)) told
 blocked_along p ps t z (goes (done l) ∷ ss) ahead b woven h told =
-    blocked_along p ps t (walk_behind p ps z (goes (done l))) ss ahead b woven.1 (λ is. absurd (mark_stops z (done l) (items ss ++ ahead) (λ g. g) woven.0 (h is))) told
+    blocked_along p ps t (walk_behind p ps z (goes (done l))) ss ahead b woven.1 (λ is. absurd (mark_stops z (done l) (items ss ++ ahead) (λ g. g) woven.0 (h is).0)) told
 blocked_along p ps t z (goes (edge l) ∷ ss) ahead b woven h told =
-    blocked_along p ps t (walk_behind p ps z (goes (edge l))) ss ahead b woven.1 (λ is. absurd (mark_stops z (edge l) (items ss ++ ahead) (λ g. g) woven.0 (h is))) told
+    blocked_along p ps t (walk_behind p ps z (goes (edge l))) ss ahead b woven.1 (λ is. absurd (mark_stops z (edge l) (items ss ++ ahead) (λ g. g) woven.0 (h is).0)) told
 blocked_along p ps t z (goes (enter f env) ∷ ss) ahead b woven h told =
-    blocked_along p ps t (walk_behind p ps z (goes (enter f env))) ss ahead b woven.1 (λ is. absurd (mark_stops z (enter f env) (items ss ++ ahead) (λ g. g) woven.0 (h is))) told
+    blocked_along p ps t (walk_behind p ps z (goes (enter f env))) ss ahead b woven.1 (λ is. absurd (mark_stops z (enter f env) (items ss ++ ahead) (λ g. g) woven.0 (h is).0)) told
 blocked_along p ps t z (goes (out f) ∷ ss) ahead b woven h told =
-    blocked_along p ps t (walk_behind p ps z (goes (out f))) ss ahead b woven.1 (λ is. absurd (mark_stops z (out f) (items ss ++ ahead) (λ g. g) woven.0 (h is))) told
+    blocked_along p ps t (walk_behind p ps z (goes (out f))) ss ahead b woven.1 (λ is. absurd (mark_stops z (out f) (items ss ++ ahead) (λ g. g) woven.0 (h is).0)) told
 blocked_along p ps t z (makes l (blocked what) ∷ ss) ahead b woven h told =
-    blocked_along p ps t (walk_behind p ps z (makes l (blocked what))) ss ahead true woven.1 (λ is. stop_for z (items ss ++ ahead) l what woven.0.asks) told
+    blocked_along p ps t (walk_behind p ps z (makes l (blocked what))) ss ahead true woven.1 (λ is. (stop_for z (items ss ++ ahead) l what woven.0.asks, refl)) told
 blocked_along p ps t z (makes l (cross x v n) ∷ ss) ahead b woven h told = blocked_along p ps t (walk_behind p ps z (makes l (cross x v n))) ss ahead false woven.1 (λ is. never is) told
 blocked_along p ps t z (makes l (wait k n) ∷ ss) ahead b woven h told = blocked_along p ps t (walk_behind p ps z (makes l (wait k n))) ss ahead false woven.1 (λ is. never is) told
 blocked_along p ps t z (makes l (enters k c) ∷ ss) ahead b woven h told = blocked_along p ps t (walk_behind p ps z (makes l (enters k c))) ss ahead false woven.1 (λ is. never is) told
@@ -114,7 +117,7 @@ no_more p ps x d first behind told split marks =
     let same : x.entries ≡ filter_entries t first =
     sym d.tells ∙ (ap (filter_entries t) split ∙ (told_append t first behind ∙ (ap (λ us. filter_entries t first ++ us) marks ∙ append-nil (filter_entries t first)))) in
     let stops : StopsThere (walk_from p ps z first) (items behind ++ ahead) =
-    blocked_along p ps t z first (items behind ++ ahead) false front (λ is. never is) (sym (ap ends_blocked same) ∙ told) in
+    (blocked_along p ps t z first (items behind ++ ahead) false front (λ is. never is) (sym (ap ends_blocked same) ∙ told)).0 in
     no_marks p ps t (walk_from p ps z first) behind ahead marks stops (woven_behind p ps z first behind ahead woven)
 
 abbrev part_of : (p : Source) (ps : Plans) (x : Own) → Point p ps x → IsPart p ps x
@@ -166,8 +169,21 @@ its_place : (p : Source) (ps : Plans) (x : Own) (y : Place) → ends_blocked x.e
 its_place p ps x y told h =
     let d : Point p ps x = h.point in
     let z : Walk = walk_of p ps x d.steps in
-    place_there z z.owed d.next y refl (blocked_along p ps x.thread (unborn x.versions) d.steps (d.next ∷ []) false d.woven (λ is. never is) (ap ends_blocked d.tells ∙ told)) h.place
+    place_there z z.owed d.next y refl (blocked_along p ps x.thread (unborn x.versions) d.steps (d.next ∷ []) false d.woven (λ is. never is) (ap ends_blocked d.tells ∙ told)).0 h.place
 
 pub one_stand : (p : Source) (ps : Plans) (x : Own) (y u : Place) → ends_blocked x.entries ≡ true → ComesTo p ps x y → ComesTo p ps x u → y ≡ u
 one_stand p ps x y u told a b =
     sym (its_place p ps x y told a) ∙ (ap (λ ss. request_place (walk_of p ps x ss)) (same_steps p ps x a.point b.point told) ∙ its_place p ps x u told b)
+
+-- It passes nothing with its next entry.
+pub passes_nothing : (p : Source) (ps : Plans) (x : Own) (es : List Entry) (y : Entry) (steps : List PartStep) → x.entries ≡ es ++ y ∷ [] → ends_blocked es ≡ true → HasMoved p ps x steps
+    → Walk.passed (walk_of p ps x steps) ≡ []
+passes_nothing p ps x es y steps is told h =
+    let t : ℕ = x.thread in
+    let z : Walk = unborn x.versions in
+    let last : List PartStep = h.last ∷ [] in
+    let ends : filter_entries t steps ++ h.entry ∷ [] ≡ es ++ y ∷ [] =
+    ap (λ us. filter_entries t steps ++ us) (sym h.is) ∙ (sym (told_append t steps last) ∙ (h.tells ∙ is)) in
+    let same : filter_entries t steps ≡ es = same_front (filter_entries t steps) es h.entry y ends in
+    let woven : AreWoven p ps z steps (items last ++ h.ahead) = woven_front p ps z steps last h.ahead h.woven in
+    (blocked_along p ps t z steps (items last ++ h.ahead) false woven (λ b. never b) (ap ends_blocked same ∙ told)).1

@@ -59,6 +59,16 @@ pub noted_here : (xs : List (Option ℕ)) (t k j : ℕ) → 1 ≤ t → stand_at
 noted_here xs zero k j first h = absurd (let no : ⊥ = omega (arith, first) in no)
 noted_here xs (suc i) k j first h = noted_set xs i k j h
 
+-- where there is a place for it
+some_set : (xs : List (Option ℕ)) (i k : ℕ) → suc i ≤ length xs → option_flatten (slice_get (slice_set xs i (Some k)) i) ≡ None → ⊥
+some_set [] i k less h = absurd (let no : ⊥ = omega (arith, less) in no)
+some_set (x ∷ xs) zero k less h = cc
+some_set (x ∷ xs) (suc i) k less h = some_set xs i k (omega (arith, less)) h
+
+pub some_noted : (xs : List (Option ℕ)) (t k : ℕ) → 1 ≤ t → t ≤ length xs → stand_at (noted xs t k) t ≡ None → ⊥
+some_noted xs zero k first within h = absurd (let no : ⊥ = omega (arith, first) in no)
+some_noted xs (suc i) k first within h = some_set xs i k within h
+
 -- as a change of the t-th one
 pub forgotten_is : (xs : List (Option ℕ)) (t : ℕ) → 1 ≤ t → slice_set xs (t - 1) None ≡ forgotten xs t
 forgotten_is xs zero h = absurd (let no : ⊥ = omega (arith, h) in no)

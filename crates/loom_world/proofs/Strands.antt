@@ -26,7 +26,7 @@ use Rattle.loom_world.specs.declared.choice.Turned.TheVariants as r
 use Rattle.loom_world.specs.Book.{Book, setting_of, setting, front, stand_at, AreNoStands, IsOfSameRun}
 use Rattle.loom_world.specs.Flags.{AreFlagsFor, IsUnderWay}
 use Rattle.loom_world.specs.Turned.{Turns}
-use Rattle.loom_world.specs.Threads.{IsBirthOf, HasKeptAway, IsStrandOf, HasStrands, HasSameCall, KeepsThreads, KeepsOthers, AreNew}
+use Rattle.loom_world.specs.Threads.{IsBirthOf, HasKeptAway, HasPassedNone, IsStrandOf, HasStrands, HasSameCall, KeepsThreads, KeepsOthers, AreNew}
 use Rattle.loom_world.proofs.SinceAsked.{nothing_since}
 
 -- Each of a list
@@ -97,6 +97,7 @@ new_strands b p cs n ss program filters limit none stands new = record {
       entries = h.entries ∙ sym (ap (entries_of (suc i)) none);
     };
     stands = λ k there. absurd (none_noted k (slice_get b.stands i) (λ x at. stands.1 i x at) there);
+    passes = subst (λ o. HasPassedNone b (suc i) s o) (sym h.birth) tt;
   };
 }
 
@@ -131,6 +132,11 @@ kept_elsewhere old new t u s (Some x) other run others h =
     λ k set way flags any more.
     h k set (under_way_before old new k run others.asked others.version way) (flags_before old new k set run flags) (ap has_any (sym (others.since u other)) ∙ any) more
 
+-- Where no more is noted of it.
+passed_still : (old new : Book) (u : ℕ) (s : Strand) (o : Option Birth) → stand_at new.stands u ≡ stand_at old.stands u → HasPassedNone old u s o → HasPassedNone new u s o
+passed_still old new u s None same h = tt
+passed_still old new u s (Some x) same h = λ note some lives places. h (sym same ∙ note) some lives places
+
 strand_elsewhere : (old new : Book) (t u : ℕ) (s : Strand) → (u == t) ≡ false → IsOfSameRun old new → KeepsThreads old.store new.store → KeepsOthers old t new → IsStrandOf old u s
     → IsStrandOf new u s
 strand_elsewhere old new t u s other run threads others h = record {
@@ -146,6 +152,7 @@ strand_elsewhere old new t u s other run threads others h = record {
     entries = h.part.entries ∙ sym (others.entries u other);
   };
   stands = λ k is. h.stands k (sym (others.stands u other) ∙ is);
+  passes = passed_still old new u s s.birth (others.stands u other) h.passes;
 }
 
 pub strand_at : (b : Book) (ss : List Strand) (t : ℕ) (s : Strand) → HasStrands b ss → 1 ≤ t → slice_get ss (t - 1) ≡ Some s → IsStrandOf b t s
@@ -215,6 +222,7 @@ strand_controlled old new x t s run store stands one of may h =
         entries = h.part.entries ∙ sym (ap (entries_of t) one ∙ not_mine t x old.entries other);
       };
       stands = λ k is. h.stands k (sym (ap (λ xs. stand_at xs t) stands) ∙ is);
+      passes = passed_still old new t s s.birth (ap (λ xs. stand_at xs t) stands) h.passes;
     }
 
 pub strands_controlled : (old new : Book) (ss : List Strand) (w : Turned) → HasStrands old ss → IsOfSameRun old new → new.store ≡ old.store → new.stands ≡ old.stands

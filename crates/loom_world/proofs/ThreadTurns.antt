@@ -1,5 +1,5 @@
 -- A turn of a thread, from its strand to the book and back.
-use Rattle.std.proofs.Common.{ℕ, ◌≤◌, ◌≡◌, inl, inr, Bool, true, false, List, [], ◌∷◌, Option, Some, None, refl, sym, ap, ◌∙◌, subst}
+use Rattle.std.proofs.Common.{ℕ, ◌≤◌, ◌≡◌, ◌⊎◌, inl, inr, Bool, true, false, List, [], ◌∷◌, Option, Some, None, refl, sym, ap, ◌∙◌, subst}
 use Rattle.std.specs.List.{AllByRecursion}
 use Rattle.loom_trace.specs.Places.{has_place}
 use Rattle.loom_trace.specs.Limits.{thread_limit}
@@ -8,6 +8,7 @@ use Rattle.loom_event.specs.Replay.{ThreadState, thread_at}
 use Rattle.loom_law.specs.Walk.{Version}
 use Rattle.loom_law.specs.Control.{Control, entries_of, listed_places, since_asked}
 use Rattle.loom_law.specs.Lawful.{running_thread, has_any}
+use Rattle.loom_law.specs.TurnLaws.{ends_blocked}
 use Rattle.loom_strand.specs.declared.stage.Birth.{Birth}
 use Rattle.loom_strand.specs.declared.stage.Want.TheVariants as want
 use Rattle.loom_strand.specs.Life.{has_none, has_ended}
@@ -15,12 +16,13 @@ use Rattle.loom_strand.specs.Strand.{Strand, IsSameThread, IsStarted, IsOutrun, 
 use Rattle.loom_world.specs.Book.{Book, front, stand_at, found_at, found_place, IsStandOf, HasLawfulJournal, IsOfSameRun, setting}
 use Rattle.loom_world.specs.Flags.{IsUnderWay, AreFlagsFor, AreFlags, IsFlaggedNow}
 use Rattle.loom_world.specs.Idle.{IsLive, IsAtFlagBy, IsAtFlag, StandsAtFlag, IsFoundAtFlag, CommandGoesFirst, StaysFound}
-use Rattle.loom_world.specs.Asking.{Asks, forgotten, MakesAnswer}
-use Rattle.loom_world.specs.Threads.{IsBirthOf, HasKeptAway, WaitsFound, HasStrandPart, IsStrandOf, RequestsSo, WaitsFree, IsBehind, KeepsThreads, KeepsOthers}
-use Rattle.loom_world.proofs.Turning.{flags_up, IsItsOwn, keeps_from, its_own, stand_of, asks_of, none_since, none_taken, none_there, runs, all_there, outrun_listed, flags_down}
+use Rattle.loom_world.specs.Asking.{minds_flags, Asks, forgotten, MakesAnswer}
+use Rattle.loom_world.specs.Threads.{IsBirthOf, HasKeptAway, HasPassedNone, WaitsFound, HasStrandPart, IsStrandOf, RequestsSo, WaitsFree, IsBehind, KeepsThreads, KeepsOthers}
+use Rattle.loom_world.proofs.Turning.{flags_up, IsItsOwn, keeps_from, its_own, stand_of, passes_of, asks_of, none_since, none_taken, none_there, runs, all_there, outrun_listed, flags_down}
 use Rattle.loom_strand.specs.InPart.{AreIn}
 use Rattle.loom_world.proofs.LongerBook.{under_way, flags_nowhere}
 use Rattle.loom_world.proofs.InvariantReadings.{not_true}
+use Rattle.loom_world.proofs.MindsFlags.{minds_so, minds_since}
 
 -- A strand that is started
 
@@ -56,6 +58,7 @@ started_so b t x live old new whole unborn same =
         entries = same.entries ∙ sym nothing;
       };
       stands = λ k there. absurd (subst (λ o. WaitsFound old o k) unborn (whole.stands k there));
+      passes = subst (HasPassedNone b t new) (sym same.birth) (λ note some lives places. let no : true ≡ false = sym (ap has_none same.entries) ∙ some in cc);
     }
 
 -- What a run of the strand leaves
@@ -98,18 +101,19 @@ ran_to_request b h t birth first last live s new whole started v flags newest_is
         let waits : WaitsAt s x.birth j = subst (λ o. WaitsFound s o j) x.is (whole.stands j there) in
         stays_so j waits (inr (subst (λ u. IsOutrun s.versions u) newest (subst (λ vs. IsOutrun vs new.newest) same.versions outrun)))
 
-    -- where it made an entry since the command was asked
-    kept : (j : ℕ) → IsUnderWay b j → has_any (entries_of t (since_asked b.entries)) ≡ true → MayPark new new x.birth flags × Parks new x.birth q flags
-    kept j under any =
-        let old : KeepsFrom s x.birth flags =
-        subst (HasKeptAway b t s) x.is k.keeps_away j flags under (are.up j under) any (ap has_ended k.entries ∙ live.not_ended) in
-        parks_so flags (λ i there. there) (inl old)
+    -- where flags bind it
+    kept : (j : ℕ) → IsUnderWay b j → minds_flags b t ≡ true → MayPark new new x.birth flags × Parks new x.birth q flags
+    kept j under minds = parks_so flags (λ i there. there) (inl (by_minds (minds_so b t minds)))
+      where
+        by_minds : (has_any (entries_of t (since_asked b.entries)) ≡ true) ⊎ ((has_none (entries_of t b.entries) ≡ false) × (stand_at b.stands t ≡ None)) → KeepsFrom s x.birth flags
+        by_minds (inl any) = subst (HasKeptAway b t s) x.is k.keeps_away j flags under (are.up j under) any (ap has_ended k.entries ∙ live.not_ended)
+        by_minds (inr h) = subst (HasPassedNone b t s) x.is whole.passes h.1 (ap has_none k.entries ∙ h.0) (ap has_ended k.entries ∙ live.not_ended) flags
 
-    parks_at : (j : ℕ) → IsUnderWay b j → has_any (entries_of t (since_asked b.entries)) ≡ true → (set : List ℕ) × (AreFlagsFor b j set × Parks new x.birth q set)
+    parks_at : (j : ℕ) → IsUnderWay b j → minds_flags b t ≡ true → (set : List ℕ) × (AreFlagsFor b j set × Parks new x.birth q set)
     parks_at j under any = (flags, (are.up j under, (kept j under any).1))
 
     keeps_still : HasKeptAway b t new (Some x.birth)
-    keeps_still j set under flagged any lives = by_park (kept j under any).0
+    keeps_still j set under flagged any lives = by_park (kept j under (minds_since b t any)).0
       where
         by_park : MayPark new new x.birth flags → KeepsFrom new x.birth set
         by_park (inl f) = keeps_from b j flags set new x.birth (same.program ∙ k.program) (are.up j under) flagged f
@@ -142,7 +146,7 @@ pub ran_to_place : (b : Book) (h : HasLawfulJournal b) (t : ℕ) (birth : Birth)
     → (v : Version) (flags : List ℕ) → v ≡ Control.version (front b).control → AreFlags b flags → IsSameThread s s.birth s.versions s.entries new → (j : ℕ)
     → Wants new new.birth flags (want.Place j) → KeepsParking s new new.birth flags (want.Place j) → StaysAt s new new.birth flags v → IsHalted b t j new
 ran_to_place b h t birth first last live s new whole started v flags newest_is are same j wants parks stays = record {
-  at = subst (IsAtFlagBy b t j) (sym running) (record { stand = stand; flagged = now });
+  at = subst (IsAtFlagBy b t j) (sym running) (record { stand = stand; flagged = now; passes = λ free. passes_of j own waits.stands stand (halt.passes (ap ends_blocked (same.entries ∙ k.entries) ∙ free)) });
   runs = (z, running);
   listed = all_at (listed_places t b.entries) refl (h.stands.listed t);
   part = record {

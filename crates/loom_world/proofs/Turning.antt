@@ -24,11 +24,11 @@ use Rattle.loom_version.specs.Plans.{plans_in}
 use Rattle.loom_strand.specs.declared.stage.Birth.{Birth}
 use Rattle.loom_strand.specs.Life.{has_none, asks_cross, IsLastBlockedAt}
 use Rattle.loom_strand.specs.InPart.{ArePassedBy}
-use Rattle.loom_strand.specs.Strand.{Strand, own_of, AsksNext, StandsAt, IsOutrun, CrossesAt, Requests, KeepsFrom, KeepsAwayFrom, StaysFrom, ActsAway, AsksAway, Parks}
+use Rattle.loom_strand.specs.Strand.{Strand, own_of, AsksNext, StandsAt, ComesToPass, IsOutrun, CrossesAt, Requests, KeepsFrom, KeepsAwayFrom, StaysFrom, ActsAway, AsksAway, Parks}
 use Rattle.loom_world.specs.Book.{Book, setting, front, stand_at, found_at, found_place, HasFilterPlans, IsStandOf, HasLawfulJournal}
 use Rattle.loom_world.specs.Flags.{AreFlagsFor, IsUnderWay, AreFlags, IsFlaggedNow}
 use Rattle.loom_world.specs.Idle.{IsLive}
-use Rattle.loom_world.specs.Asking.{KeepsActing, KeepsAsking, CrossesListed, Asks}
+use Rattle.loom_world.specs.Asking.{minds_flags, KeepsActing, KeepsAsking, CrossesListed, Asks}
 use Rattle.loom_world.proofs.OwnVersions.{last_version, IsUpTo, up_to_date}
 
 -- Flags
@@ -152,6 +152,16 @@ stand_of k h st = record {
   comes = carry (λ p ps o. ComesTo p ps o st.place) h st.comes;
 }
 
+one_place : (x y : Place) → ◌≡◌ {A = Option Place} (Some x) (Some y) → x ≡ y
+one_place x y h = cc
+
+-- and what it comes to pass by its strand
+pub passes_of : {b : Book} {t : ℕ} {s : Strand} {x : Birth} {z : ThreadState} (k : ℕ) → IsItsOwn b t s x z → (st : StandsAt s x k) → (o : IsStandOf b t z k)
+    → ComesToPass s.program (plans_in s.filters) (own_of s x) st.place → ComesToPass b.program (plans (setting b)) (own (setting b) b.entries t z) o.place
+passes_of {b} {t} {s} {x} {z} k h st o passes =
+    let same : st.place ≡ o.place = one_place st.place o.place (sym (subst (λ p. place_at p k ≡ Some st.place) h.program st.number) ∙ o.number) in
+    carry (λ p ps own. ComesToPass p ps own o.place) h (subst (ComesToPass s.program (plans_in s.filters) (own_of s x)) same passes)
+
 -- Versions
 
 -- a thread that has made an entry has taken a version
@@ -213,7 +223,7 @@ begun_by live some = record { some = some; running = ap running_thread live.live
 pub asks_of : (b : Book) (h : HasLawfulJournal b) (t : ℕ) (birth : Birth) → 1 ≤ t → t ≤ thread_limit → (live : IsLive b t birth) → (s : Strand) (x : Birth) → IsItsOwn b t s x live.lives.state
     → s.thread ≡ t → s.entries ≡ entries_of t b.entries → s.versions ≡ versions_of b.commands t b.entries → s.newest ≡ Control.version (front b).control → (q : Request) → Requests s x q
     → ((k : ℕ) → stand_at b.stands t ≡ Some k → IsOutrun s.versions s.newest → s.execution.place ≡ k)
-    → ((k : ℕ) → IsUnderWay b k → has_any (entries_of t (since_asked b.entries)) ≡ true → (set : List ℕ) × (AreFlagsFor b k set × Parks s x q set)) → Asks b t q
+    → ((k : ℕ) → IsUnderWay b k → minds_flags b t ≡ true → (set : List ℕ) × (AreFlagsFor b k set × Parks s x q set)) → Asks b t q
 asks_of b h t birth first last live s x same thread entries versions newest q asks stays parks = record {
   state = z;
   there = live.lives.is;

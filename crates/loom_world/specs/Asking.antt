@@ -1,5 +1,5 @@
 -- What a thread of a book asks for, and what it is answered.
-use Rattle.std.specs.Prelude.{ℕ, zero, suc, ◌≡◌, ◌<◌, true, false, not, List, [], ◌∷◌, ◌++◌, Option, Some, None, slice_set}
+use Rattle.std.specs.Prelude.{ℕ, zero, suc, ◌≡◌, ◌<◌, ◌⊎◌, Bool, true, false, not, ◌&&◌, ◌||◌, List, [], ◌∷◌, ◌++◌, Option, Some, None, slice_set}
 use Rattle.std.specs.List.{AllByRecursion}
 use Rattle.loom_lang.specs.Places.{nowhere}
 use Rattle.loom_trace.specs.declared.entry.Entry.{Entry}
@@ -9,14 +9,15 @@ use Rattle.loom_trace.specs.declared.request.Request.TheVariants as r
 use Rattle.loom_event.specs.Answer.{asks_begin, asks_operation, IsBlockedAt, HasNumbers}
 use Rattle.loom_event.specs.Entries.{thread_of, thread_entries}
 use Rattle.loom_event.specs.Replay.{ThreadState, thread_at}
-use Rattle.loom_law.specs.Walk.{Version}
-use Rattle.loom_law.specs.ThreadPart.{Own, walk_of, KeepsAway, AsksToAct, with_entry}
+use Rattle.loom_law.specs.Walk.{Version, PartStep, Walk}
+use Rattle.loom_law.specs.ThreadPart.{Own, walk_of, HasMoved, KeepsAway, AsksToAct, with_entry}
 use Rattle.loom_law.specs.Control.{Control, entries_of, listed_places, since_asked}
-use Rattle.loom_law.specs.Lawful.{Setting, plans, own, has_any, IsFlagged, IsBlocked, StaysAway}
+use Rattle.loom_law.specs.Lawful.{Setting, plans, own, running_thread, has_any, IsFlagged, IsBlocked, StaysAway}
+use Rattle.loom_law.specs.Laws.{own_with}
 use Rattle.loom_law.specs.TurnLaws.{ends_blocked}
 use Rattle.loom_strand.specs.Life.{has_none, awaits_end, asks_cross, IsLastBlockedAt}
 use Rattle.loom_strand.specs.Strand.{AsksNext, IsReplyTo}
-use Rattle.loom_world.specs.Book.{Book, IsOfSameRun, setting, front}
+use Rattle.loom_world.specs.Book.{Book, IsOfSameRun, setting, front, stand_at}
 use Rattle.loom_world.specs.Flags.{IsUnderWay, IsFlaggedNow}
 use Rattle.loom_world.specs.Idle.{IsClosed, CommandGoesFirst}
 use Rattle.loom_world.specs.Threads.{KeepsThreads}
@@ -39,11 +40,19 @@ KeepsAsking s x v (r.Wait l j n) k = StaysAway s (with_entry x (e.Wait x.thread 
 KeepsAsking s x v (r.Cross l y i n) k = StaysAway s (record x { versions = x.versions ++ v ∷ []; entries = x.entries ++ e.Cross x.thread l y i n ∷ [] }) k
 KeepsAsking s x v q k = KeepsActing s x q k
 
--- Where the thread made an entry since the command was asked, what it asks for, and `Blocked` in its place, keeps it away from the flagged places.
+abbrev pub has_note : Option ℕ → Bool
+has_note None = false
+has_note (Some k) = true
+
+-- Flags bind what the thread passed: it made an entry since a command was asked, or it has begun and nothing is noted of it.
+abbrev pub minds_flags : Book → ℕ → Bool
+minds_flags b t = has_any (entries_of t (since_asked b.entries)) || (not (has_none (entries_of t b.entries)) && not (has_note (stand_at b.stands t)))
+
+-- Where flags bind it, what it asks for, and `Blocked` in its place, keeps the thread away from the flagged places.
 pub record KeepsAwayFor (b : Book) (t : ℕ) (x : ThreadState) (q : Request) : Type 0 where
-  pub asks : (k : ℕ) → IsUnderWay b k → has_any (entries_of t (since_asked b.entries)) ≡ true
+  pub asks : (k : ℕ) → IsUnderWay b k → minds_flags b t ≡ true
       → KeepsAsking (setting b) (own (setting b) b.entries t x) (Control.version (front b).control) q k
-  pub blocks : (k : ℕ) → IsUnderWay b k → has_any (entries_of t (since_asked b.entries)) ≡ true → (y : Entry) → IsBlockedAt t q y
+  pub blocks : (k : ℕ) → IsUnderWay b k → minds_flags b t ≡ true → (y : Entry) → IsBlockedAt t q y
       → ends_blocked (entries_of t b.entries) ≡ false → StaysAway (setting b) (with_entry (own (setting b) b.entries t x) y) k
 
 -- a newer version is taken at each place that is listed
@@ -75,6 +84,14 @@ abbrev pub forgotten : List (Option ℕ) → ℕ → List (Option ℕ)
 forgotten xs zero = xs
 forgotten xs (suc i) = slice_set xs i None
 
+-- Of a thread that runs nothing is noted, or its last entry is `Blocked`: then it passes with this entry no place that is flagged now. (It stood behind
+-- its last entry, so all that it passes between the two it passes in this turn.)
+pub record PassesNoFlag (b : Book) (t : ℕ) (x : Entry) : Type 0 where
+  pub passes : (k : ℕ) → IsUnderWay b k → (state : ThreadState) → running_thread (thread_at b.store t) ≡ Some state
+      → (stand_at b.stands t ≡ None) ⊎ (ends_blocked (entries_of t b.entries) ≡ true)
+      → (steps : List PartStep) → HasMoved b.program (plans (setting b)) (own_with (setting b) b.entries t state x) steps
+      → AllByRecursion (λ y. IsFlagged (setting b) k y → ⊥) (Walk.passed (walk_of b.program (plans (setting b)) (own_with (setting b) b.entries t state x) steps))
+
 -- The entry is made that answers what thread t asks for, and the threads that were spawned keep their functions.
 pub record MakesAnswer (old : Book) (t : ℕ) (q : Request) (x : Entry) (new : Book) : Type 0 where
   pub run : IsOfSameRun old new
@@ -87,5 +104,6 @@ pub record MakesAnswer (old : Book) (t : ℕ) (q : Request) (x : Entry) (new : B
   pub goes_on : IsClosed old → ⊥
   pub no_command : CommandGoesFirst old → ⊥
   pub free : IsBlocked (setting old) (front old) t → ⊥
+  pub unflagged : PassesNoFlag old t x
   -- the limit wasn't reached
   pub few : thread_entries old.entries < old.limit

@@ -7,9 +7,11 @@ use Rattle.loom_event.specs.Answer.{IsFunctionWith}
 use Rattle.loom_event.specs.Entries.{thread_of, IsFinished}
 use Rattle.loom_event.specs.Replay.{ThreadState, thread_at, HasEnded}
 use Rattle.loom_law.specs.Control.{Control, entries_of}
-use Rattle.loom_law.specs.Lawful.{running_thread, run_is_over, Lives, IsBlocked, refusal, IsDue}
+use Rattle.loom_law.specs.TurnLaws.{ends_blocked}
+use Rattle.loom_law.specs.Lawful.{plans, own, running_thread, run_is_over, Lives, IsBlocked, refusal, IsDue}
 use Rattle.loom_strand.specs.declared.stage.Birth.{Birth}
 use Rattle.loom_strand.specs.Life.{has_none, has_ended}
+use Rattle.loom_strand.specs.Strand.{ComesToPass}
 use Rattle.loom_world.specs.declared.choice.Choice.{Choice}
 use Rattle.loom_world.specs.declared.choice.Choice.TheVariants as c
 use Rattle.loom_world.specs.declared.choice.Why.{Why}
@@ -42,10 +44,11 @@ pub record IsAskedInVain (b : Book) : Type 0 where
 abbrev pub CommandGoesFirst : Book → Type 0
 CommandGoesFirst b = IsDue (setting b) (front b) ⊎ IsAskedInVain b
 
--- A thread that runs stands at a flagged place.
+-- A thread that runs stands at a flagged place. Where its last entry isn't `Blocked`, that is an entry or back-edge place which it comes to pass.
 pub record StandsAtFlag (b : Book) (t k : ℕ) (state : ThreadState) : Type 0 where
   pub stand : IsStandOf b t state k
   pub flagged : IsFlaggedNow b stand.place
+  pub passes : ends_blocked (entries_of t b.entries) ≡ false → ComesToPass b.program (plans (setting b)) (own (setting b) b.entries t state) stand.place
 
 -- A thread that hasn't begun stands at place 0, which is flagged where any is.
 abbrev pub IsAtFlagBy : Book → ℕ → ℕ → Option ThreadState → Type 0

@@ -9,7 +9,7 @@ use Rattle.loom_law.specs.Lawful.{has_any}
 use Rattle.loom_law.specs.Laws.{with_newest}
 use Rattle.loom_plan.specs.Compiled.{Compiled}
 use Rattle.loom_strand.specs.declared.stage.Birth.{Birth}
-use Rattle.loom_strand.specs.Life.{has_ended}
+use Rattle.loom_strand.specs.Life.{has_none, has_ended}
 use Rattle.loom_tree.specs.Tree.{Source}
 use Rattle.loom_lang.specs.Places.{Place, place_at}
 use Rattle.loom_strand.specs.Strand.{Strand, IsNew, IsStarted, KeepsFrom, WaitsAt, Requests, IsReply}
@@ -27,6 +27,11 @@ abbrev pub HasKeptAway : Book → ℕ → Strand → Option Birth → Type 0
 HasKeptAway b t s None = Unit {0}
 HasKeptAway b t s (Some x) = (k : ℕ) (set : List ℕ) → IsUnderWay b k → AreFlagsFor b k set → has_any (entries_of t (since_asked b.entries)) ≡ true
     → has_ended s.entries ≡ false → KeepsFrom s x set
+
+-- Where nothing is noted of the thread, it has passed no place since its last entry.
+abbrev pub HasPassedNone : Book → ℕ → Strand → Option Birth → Type 0
+HasPassedNone b t s None = Unit {0}
+HasPassedNone b t s (Some x) = stand_at b.stands t ≡ None → has_none s.entries ≡ false → has_ended s.entries ≡ false → (places : List ℕ) → KeepsFrom s x places
 
 -- Where it was found to stand it waits.
 abbrev pub WaitsFound : Strand → Option Birth → ℕ → Type 0
@@ -55,6 +60,7 @@ pub record HasStrandPart (b : Book) (t : ℕ) (s : Strand) : Type 0 where
 pub record IsStrandOf (b : Book) (t : ℕ) (s : Strand) : Type 0 where
   pub part : HasStrandPart b t s
   pub stands : (k : ℕ) → stand_at b.stands t ≡ Some k → WaitsFound s s.birth k
+  pub passes : HasPassedNone b t s s.birth
 
 -- The strand asks for this.
 abbrev pub RequestsSo : Strand → Option Birth → Request → Type 0

@@ -14,7 +14,7 @@ use Rattle.loom_world.specs.declared.choice.Turned.TheVariants as t
 use Rattle.loom_world.specs.Book.{Book, IsStandOf}
 use Rattle.loom_world.specs.Answers.{StandsNext}
 use Rattle.loom_world.specs.Idle.{IsIdle, Hinders, IsFoundAtFlag}
-use Rattle.loom_world.specs.Asking.{forgotten}
+use Rattle.loom_world.specs.Asking.{forgotten, PassesNoFlag}
 
 -- the thread whose turn it is; in a turn of control it is none
 abbrev pub maker : Choice → Option ℕ
@@ -57,11 +57,17 @@ NotesBy old (Some t) blocked new = NotesBehind (forgotten old.stands t) t blocke
 abbrev pub NotesEntry : Book → Entry → Book → Type 0
 NotesEntry old x new = NotesBy old (thread_of x) (is_blocked_entry x) new
 
+-- A thread with no note, or that is blocked, passes no flagged place with its entry. A control entry passes nothing.
+abbrev pub MayPass : Book → Choice → Entry → Type 0
+MayPass old (c.Thread t) x = PassesNoFlag old t x
+MayPass old c.Control x = Unit {0}
+
 -- A turn of control that makes an entry makes the one that stands next. What is noted behind an entry follows from what was noted.
 pub record Moves (old : Book) (x : Choice) (new : Book) : Type 0 where
   pub makes : MakesEntry old new (maker x)
   pub next : IsMadeBy old x makes.entry
   pub notes : NotesEntry old makes.entry new
+  pub unflagged : MayPass old x makes.entry
 
 -- It is noted that the thread stands at the place of this number.
 abbrev pub IsNoted : Book → ℕ → ℕ → Book → Type 0

@@ -220,6 +220,7 @@ impl World {
         requires short { HaveShortTexts text_limit (script_of script.now) }
         requires no_stall { HasNoStall (script_of script.now) }
         ensures new { IfOk result (λ w. (cs : List Command) × (AreCommandsSoFar p.now file.now (script_of script.now) cs × IsNewBook p.now cs limit w)) }
+        ensures lawful { IfOk result (λ w. HasLawfulJournal w) }
     {
         let flow = lower(alloc, p)?;
         let judged = run_commands(alloc, &flow, file, &script.commands.0)?;
@@ -266,7 +267,10 @@ impl World {
     /// A turn of a thread makes an entry unless one of these applies, of which the first is told. `Over`: the limit is reached, or `Finish` stands.
     /// `Ended` and `Unborn`: the thread is over, or nobody spawned it. `Due`: a command is due, or was asked and will be refused. `Flagged`: a
     /// command is asked, and the thread is at a place that is flagged for it; from then on it stands there, and makes no entry while that place is
-    /// flagged. A thread that hasn't begun is at place 0. `Blocked`: the thread was told so last, and it still holds; where it stands isn't flagged.
+    /// flagged. It is a place that it comes to pass, with nothing owed before, unless its last entry is `Blocked`: then it may be the place of its
+    /// request. A thread that hasn't begun is at place 0. `Blocked`: the thread was told so last, and it still holds; where it stands isn't flagged.
+    /// Where no turn noted where a thread stands since its last entry, or that entry is `Blocked`, it passes no place that is flagged now with the entry
+    /// that it makes.
     ///
     /// A turn of control makes the first of these that stands next. Where a command is asked: its refusal; at the limit `Cut`; `Installed` or
     /// `Removed`, where each thread was found at a flagged place; `Stalled`, where each live thread was found at one or is blocked. Where none is

@@ -47,7 +47,7 @@ returns-in-None-clause-strand c =
     let s = c.args.strand.now in
     let waits : WaitsFound s s.birth s.execution.place = waits_here b c.args.t s c.args.request c.requires.strand c.requires.requests c.in-None.ensures.none.0 in
     let noted : IsNoted b c.args.t c.place.result c.note.new.self = subst (λ (y : Book). IsNoted y c.args.t c.place.result c.note.new.self) c.in-None.ensures.none.1 c.note.ensures.noted in
-    strand_noted b c.note.new.self c.args.t c.place.result s c.requires.first noted c.requires.strand (subst (λ k. WaitsFound s s.birth k) (sym c.place.ensures) waits)
+    strand_noted b c.note.new.self c.args.t c.place.result s c.requires.first c.requires.last (subst HasLawfulJournal c.in-None.ensures.none.1 c.answer.ensures.lawful) noted c.requires.strand (subst (λ k. WaitsFound s s.birth k) (sym c.place.ensures) waits)
 
 pub returns-in-None-clause-others : goal.returns-in-None-clause-others
 returns-in-None-clause-others c =

@@ -81,7 +81,7 @@ returns-in-Place-clause-strand c =
     let e = c.in-Place.ensures in
     let x = ran_to_place c.args.book.now c.version.ensures.lawful c.args.t c.args.birth c.requires.first c.requires.last c.requires.live c.wake.new.strand c.run_private.new.self c.wake.ensures.strand
     c.wake.ensures.started c.version.result.now c.flags.result.now c.version.ensures.is c.flags.ensures e.same c.in-Place.place e.wants e.parks e.stays in
-    strand_noted c.args.book.now c.halt.new.book c.args.t c.in-Place.place c.run_private.new.self c.requires.first c.halt.ensures.noted x.part x.waits
+    strand_noted c.args.book.now c.halt.new.book c.args.t c.in-Place.place c.run_private.new.self c.requires.first c.requires.last c.version.ensures.lawful c.halt.ensures.noted x.part x.waits
 
 pub returns-in-Place-clause-threads : goal.returns-in-Place-clause-threads
 returns-in-Place-clause-threads c =

@@ -1,24 +1,10 @@
 //! Runs loom on the command words, the files of the system and standard output, and says on standard error why a call failed, or what was refused.
 #![tactic(auto)]
 
-mod copy;
-mod count_fault;
-mod explanation;
-mod lines;
-mod misfit;
-mod name_fault;
-mod plain;
-mod reading;
-mod reason;
-mod refusal_notes;
-mod report;
-mod statement;
-mod token_fault;
-
-use crate::copy::CopyShelf;
-use crate::refusal_notes::{RefusalNotes, RefusalSink};
-use crate::report::{tell, tell_no_memory};
 use loom_io::adapters::{DirShelf, OutSink};
+use loom_report::copy::CopyShelf;
+use loom_report::refusal_notes::{RefusalNotes, RefusalSink};
+use loom_report::report::{tell, tell_no_memory};
 use loom_top::alone::loom_alone;
 use loom_tree::name::NoMemory;
 use std::env;

@@ -29,7 +29,7 @@ use Rattle.loom_strand.specs.declared.step_result.Stop.{Stop}
 use Rattle.loom_strand.specs.declared.step_result.Stop.TheVariants as stop
 use Rattle.loom_strand.specs.Machine.{Machine, position, with_position, blank}
 use Rattle.loom_strand.specs.Way.{first_frame, next_step}
-use Rattle.loom_strand.specs.InPart.{IsInPart, IsSomewhere, ArePassedBy, HasGone, GoesOn, IsMarkOf, CanPass}
+use Rattle.loom_strand.specs.InPart.{IsInPart, IsSomewhere, PassesUnflagged, HasGone, GoesOn, IsMarkOf, CanPass}
 use Rattle.loom_strand.specs.StrandInvariant.{IsSoundPosition, IsInOwn, HasRoom}
 use Rattle.loom_strand.specs.Halt.{PassesNext, PassesNextFrom, IsHalting, by_request, by_owed}
 use Rattle.loom_strand.specs.PrivateRun.{MayRunFrom, MayRun, Stops, Runs, EntersFirst}
@@ -37,7 +37,7 @@ use Rattle.loom_strand.proofs.FlagRoom.{entry_room}
 use Rattle.loom_strand.proofs.Moves.{with_position_at, with_position_room}
 use Rattle.loom_strand.proofs.Owns.{keeps_functions}
 use Rattle.loom_strand.proofs.PlaceLaws.{names_at_entry}
-use Rattle.loom_strand.proofs.PartSteps.{PassesMark, gone_nowhere, gone_past, can_pass}
+use Rattle.loom_strand.proofs.PartSteps.{PassesMark, passes_both, gone_nowhere, gone_past, can_pass}
 use Rattle.loom_strand.proofs.RunSteps.{TakesMark, same_room, at_rest, somewhere_on}
 use Rattle.loom_strand.proofs.Soundness.{sound_start}
 
@@ -52,7 +52,8 @@ gone_on c cs b flags a d e f g x look steps h =
       looks = λ e. one.looks (two.looks e);
       marks = one.marks ++ two.marks;
       there = subst (IsInPart c cs b x e two.look) same two.there;
-      passes = λ places within k. subst (λ ss. ArePassedBy c.program places (walk_of c.program (plans_in cs) x ss).passed) same (two.passes places within (one.passes places within k));
+      passes = subst (λ ss. PassesUnflagged c.program flags (walk_of c.program (plans_in cs) x steps) (walk_of c.program (plans_in cs) x ss)) same
+          (passes_both c.program flags (walk_of c.program (plans_in cs) x steps) (walk_of c.program (plans_in cs) x (steps ++ one.marks)) (walk_of c.program (plans_in cs) x ((steps ++ one.marks) ++ two.marks)) one.passes two.passes);
     }
 
 -- a thread before its first frame

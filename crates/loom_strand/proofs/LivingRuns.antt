@@ -30,7 +30,7 @@ use Rattle.loom_strand.specs.StepResult.{place_of_entrance, place_here, place_co
 use Rattle.loom_strand.specs.Life.{has_none, asks_cross}
 use Rattle.loom_strand.specs.Way.{Look, looks_for_grant, IsJoining, first_frame, next_step, end_line, IsNextPlace, IsPlaceAhead}
 use Rattle.loom_strand.specs.Halt.{PassesNextFrom, PassesNext, IsStopped, IsHalting, by_request, by_owed}
-use Rattle.loom_strand.specs.InPart.{IsInPart, AreIn, ArePassedBy, HasGone}
+use Rattle.loom_strand.specs.InPart.{IsInPart, AreIn, PassesUnflagged, HasGone}
 use Rattle.loom_strand.specs.Strand.{Strand, plans, own_of, IsOutrun, StandsAt, IsPlaceOfRequest, Requests, ComesToPass, StandsFlagged, WaitsUnflagged, HeedsFlags, StaysAt, KeepsFrom, KeepsAwayFrom, Parks, MayPark, KeepsParking, IsSameWant, request_in}
 use Rattle.loom_strand.specs.StrandInvariant.{IsAsked, AsksIfAny, CrossesIfAny, IsWaiting, LivingInvariant}
 use Rattle.loom_strand.specs.PrivateRun.{MayRunFrom, MayRun, Halts, AsksFree, StandsStill, GoesToHalt}
@@ -38,6 +38,7 @@ use Rattle.loom_strand.proofs.HaltSteps.{IsComing, coming, site_within, ahead_of
 use Rattle.loom_strand.proofs.LastEntries.{last_blocked}
 use Rattle.loom_strand.proofs.NextRequests.{asked_next}
 use Rattle.loom_strand.proofs.Openings.{IsLookedAt}
+use Rattle.loom_strand.proofs.PartSteps.{passed_by, passes_none}
 use Rattle.loom_strand.proofs.Parking.{asked_away, blocked_away, more_blocked}
 use Rattle.loom_strand.proofs.Standings.{looked, something, stands_ahead, passes_ahead, halting_ahead, IsAskedAt, asked_at, IsVersionAsked, version_asked, asked_halts, asked_no_begin, asked_cross_at, next_numbers, asked_numbers, one_asked}
 
@@ -92,8 +93,7 @@ pub record HasCome (s : Strand) (b : Birth) (flags : List ℕ) (e : Execution) (
   pub there : IsInPart (lowered s.program) s.filters b (own_of s b) e look after
   pub grants : look ≡ looks_for_grant → first ≡ looks_for_grant
   pub joins : look ≡ looks_for_grant → IsJoining (next_step (lowered s.program) b e.stage e.machine)
-  pub passes : (places : List ℕ) → AreIn places flags → ArePassedBy s.program places (walk_of s.program (plans s) (own_of s b) steps).passed
-      → ArePassedBy s.program places (walk_of s.program (plans s) (own_of s b) after).passed
+  pub passes : PassesUnflagged s.program flags (walk_of s.program (plans s) (own_of s b) steps) (walk_of s.program (plans s) (own_of s b) after)
   pub same : ends_blocked s.entries ≡ true → after ≡ steps
 
 pub come : (s : Strand) (b : Birth) (flags : List ℕ) (newer : Bool) (v : Version) (e : Execution) (x : Want) (look : Look) (steps : List PartStep) → LivesOn s b flags newer v e x
@@ -118,7 +118,7 @@ come s b flags newer v e x look steps h there joins = by_blocked (ends_blocked s
           there = subst (λ (d : Execution). IsInPart (lowered s.program) s.filters b (own_of s b) d look steps) (sym same) there;
           grants = λ g. g;
           joins = joins_on;
-          passes = λ places within g. g;
+          passes = passes_none s.program flags (walk_of s.program (plans s) (own_of s b) steps) (walk_of s.program (plans s) (own_of s b) steps) refl;
           same = λ g. refl;
         }
     by_blocked false is =
@@ -252,6 +252,8 @@ stands_flagged s b flags newer v e k h =
     let passes : ComesToPass s.program (plans s) (own_of s b) next.place =
     passes_ahead (lowered s.program) (plans s) (own_of s b) w i.look i.steps next.place h.low (looked i.look w (λ g. (i.joins g).1)) (i.there.there.at.owed ∙ h.run.halts.0) next.mark i.there.way in
     record {
+      begun = h.inv.begun;
+      lives = h.inv.lives;
       flagged = h.run.halts.1.1.0;
       waits = record { stands = stands; rests = inl (h.run.halts.0, h.run.halts.1.0) };
       passes = λ free. subst (ComesToPass s.program (plans s) (own_of s b)) same passes;
@@ -268,7 +270,7 @@ keeps_on s b flags newer v e x places h within k =
       look = d.look;
       steps = d.after;
       there = d.there;
-      passed = d.passes places within k.passed;
+      passed = passed_by s.program flags places (walk_of s.program (plans s) (own_of s b) k.steps) (walk_of s.program (plans s) (own_of s b) d.after) d.passes within k.passed;
       joins = d.joins;
       stood = λ is.
           subst (λ ss. place_at s.program e.place ≡ Some (request_place (walk_of s.program (plans s) (own_of s b) ss))) (sym (d.same is))
@@ -518,6 +520,8 @@ blocked_stands s b flags v l may i told flag =
     let a : IsAskedAt s.program z (next_step (lowered s.program) b s.execution.stage s.execution.machine) s.execution.place =
     record { place = request_place z; number = w.place; ahead = halting_ahead (lowered s.program) b s.execution z w.halts i.there.there.at.owed } in
     record {
+      begun = i.begun;
+      lives = i.lives;
       flagged = flag;
       waits = record { stands = stands_at (halted s v) b s.execution.place i.look i.steps l may refl i.there (λ g. (i.joins g).1) a; rests = inr is };
       passes = λ free. no_both (ends_blocked s.entries) is free;

@@ -13,7 +13,7 @@ use Rattle.loom_flow.specs.FlatTrace.{runs}
 use Rattle.loom_law.specs.Walk.{Walk, request_place, place_of_item}
 use Rattle.loom_strand.specs.PositionRequest.{question_request}
 use Rattle.loom_strand.specs.Way.{end_line, thread_with, MayCome, Look, looks_nowhere, looks_ahead, looks_for_grant, IsNoTrap, IsSeen, IsJoining, IsNextPlace, IsNextMark}
-use Rattle.loom_strand.specs.Strand.{IsMarkOf}
+use Rattle.loom_strand.specs.Strand.{IsMarkAt}
 use Rattle.loom_strand.proofs.Steps.{IsNoBegin}
 
 -- Acts
@@ -105,7 +105,7 @@ pub record IsMarkOpening (c : Flow) (f : ℕ) (w : Progress) (y : Place) (look :
   pub item : Item
   pub comes : MayCome c f w 0 (item ∷ []) Open
   pub seen : IsSeen look (item ∷ [])
-  pub passes : IsMarkOf item y
+  pub passes : IsMarkAt item y
 
 pub mark_opens : (c : Flow) (f : ℕ) (w : Progress) (y : Place) (look : Look) → IsLookedAt look w → IsNextMark w y → IsMarkOpening c f w y look
 mark_opens c f (goes None v) y look h e = absurd e

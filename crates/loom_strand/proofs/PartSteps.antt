@@ -32,7 +32,7 @@ use Rattle.loom_strand.specs.declared.step_result.Mark.{Mark}
 use Rattle.loom_strand.specs.declared.step_result.Mark.TheVariants as m
 use Rattle.loom_strand.specs.StepResult.{place_passed}
 use Rattle.loom_strand.specs.Way.{end_line, MayCome, Look, looks_nowhere, next_step, IsWay}
-use Rattle.loom_strand.specs.InPart.{IsThere, IsInPart, IsNoneOf, AreIn, ArePassedBy, HasGone, GoesOn, IsMarkOf, place_behind, CanPass}
+use Rattle.loom_strand.specs.InPart.{IsThere, IsInPart, IsNoneOf, AreIn, ArePassedBy, PassesUnflagged, HasGone, GoesOn, IsMarkOf, place_behind, CanPass}
 use Rattle.loom_strand.proofs.Steps.{items_append, walk_append, IsMark, mark_active}
 use Rattle.loom_strand.proofs.Ways.{one_mark_comes, way_past, way_by}
 use Rattle.loom_strand.proofs.PartLaws.{nested, few_frames, end_frames}
@@ -235,22 +235,41 @@ part_by c cs b x old new y look steps step next same place none lives h = record
 
 -- Places that are passed
 
-none_passed : (c : Flow) (flags places : List ℕ) (k : ℕ) (x : Place) → place_at c.program k ≡ Some x → has_place flags k ≡ false → AreIn places flags → IsNoneOf c.program places x
-none_passed c flags places k x at none within = (k, (at, by_flag (has_place places k) refl))
+none_of : (p : Source) (flags places : List ℕ) (x : Place) → AreIn places flags → IsNoneOf p flags x → IsNoneOf p places x
+none_of p flags places x within h = (h.0, (h.1.0, by_flag (has_place places h.0) refl))
   where
-    by_flag : (o : Bool) → has_place places k ≡ o → has_place places k ≡ false
-    by_flag true e = let no : true ≡ false = sym (within k e) ∙ none in cc
+    by_flag : (o : Bool) → has_place places h.0 ≡ o → has_place places h.0 ≡ false
+    by_flag true e = let no : true ≡ false = sym (within h.0 e) ∙ h.1.1 in cc
     by_flag false e = e
 
-mark_passed : (c : Flow) (plans : Plans) (z : Walk) (y : State) (mark : Mark) (i : Item) (flags places : List ℕ) → IsMarkOf c y mark i
-    → ((k : ℕ) → place_passed (Some mark) ≡ Some k → has_place flags k ≡ false) → AreIn places flags → ArePassedBy c.program places z.passed
-    → ArePassedBy c.program places (Walk.passed (after_item c.program plans z i))
-mark_passed c plans z y (m.Begins k) (begins l env) flags places h free within g = g
-mark_passed c plans z y (m.Done n k) (done l) flags places h free within g = g
-mark_passed c plans z y (m.Edge k) (edge l) flags places h free within g = (none_passed c flags places k (site.back_edge l) h (free k refl) within, g)
-mark_passed c plans z y (m.Enter n k) (enter f env) flags places h free within g = (none_passed c flags places k (site.entry f) h.1.0 (free k refl) within, g)
-mark_passed c plans z y (m.Out n) (out f) flags places h free within g = g
-mark_passed c plans z y _ _ flags places h free within g = absurd h
+none_in : (p : Source) (flags places : List ℕ) (xs ys : List Place) → AreIn places flags → ArePassedBy p flags xs → ArePassedBy p places ys → ArePassedBy p places (xs ++ ys)
+none_in p flags places [] ys within f g = g
+none_in p flags places (x ∷ xs) ys within f g = (none_of p flags places x within f.0, none_in p flags places xs ys within f.1 g)
+
+-- What keeps away from a set of flagged places does so still.
+pub passed_by : (p : Source) (flags places : List ℕ) (old new : Walk) → PassesUnflagged p flags old new → AreIn places flags → ArePassedBy p places old.passed → ArePassedBy p places new.passed
+passed_by p flags places old new h within g = subst (ArePassedBy p places) (sym h.adds) (none_in p flags places h.places old.passed within h.unflagged g)
+
+pub passes_none : (p : Source) (flags : List ℕ) (old new : Walk) → new.passed ≡ old.passed → PassesUnflagged p flags old new
+passes_none p flags old new same = record { places = []; unflagged = tt; adds = same }
+
+-- one way behind another
+pub passes_both : (p : Source) (flags : List ℕ) (old mid new : Walk) → PassesUnflagged p flags old mid → PassesUnflagged p flags mid new → PassesUnflagged p flags old new
+passes_both p flags old mid new f g = record {
+  places = g.places ++ f.places;
+  unflagged = none_in p flags flags g.places f.places (λ k is. is) g.unflagged f.unflagged;
+  adds = g.adds ∙ (ap (λ (xs : List Place). g.places ++ xs) f.adds ∙ sym (append_assoc g.places f.places old.passed));
+}
+
+-- A mark passes the one place that it names, if any.
+mark_passed : (c : Flow) (plans : Plans) (z : Walk) (y : State) (mark : Mark) (i : Item) (flags : List ℕ) → IsMarkOf c y mark i → ((k : ℕ) → place_passed (Some mark) ≡ Some k → has_place flags k ≡ false)
+    → PassesUnflagged c.program flags z (after_item c.program plans z i)
+mark_passed c plans z y (m.Begins k) (begins l env) flags h free = record { places = []; unflagged = tt; adds = refl }
+mark_passed c plans z y (m.Done n k) (done l) flags h free = record { places = []; unflagged = tt; adds = refl }
+mark_passed c plans z y (m.Edge k) (edge l) flags h free = record { places = site.back_edge l ∷ []; unflagged = ((k, (h, free k refl)), tt); adds = refl }
+mark_passed c plans z y (m.Enter n k) (enter f env) flags h free = record { places = site.entry f ∷ []; unflagged = ((k, (h.1.0, free k refl)), tt); adds = refl }
+mark_passed c plans z y (m.Out n) (out f) flags h free = record { places = []; unflagged = tt; adds = refl }
+mark_passed c plans z y _ _ flags h free = absurd h
 
 -- Runs
 
@@ -260,7 +279,7 @@ gone_nowhere c cs b flags e x look steps h = record {
   looks = λ e. e;
   marks = [];
   there = subst (IsInPart c cs b x e look) (sym (append-nil steps)) h;
-  passes = λ places within g. subst (λ ss. ArePassedBy c.program places (walk_of c.program (plans_in cs) x ss).passed) (sym (append-nil steps)) g;
+  passes = passes_none c.program flags (walk_of c.program (plans_in cs) x steps) (walk_of c.program (plans_in cs) x (steps ++ [])) (ap (λ ss. (walk_of c.program (plans_in cs) x ss).passed) (append-nil steps));
 }
 
 pub gone_past : (c : Flow) (cs : List (Option Compiled)) (b : Birth) (flags : List ℕ) (first old new : Execution) (mark : Mark) (i : Item) (y : Position) → IsLowered c → PassesMark c cs b old new mark i y
@@ -275,9 +294,10 @@ gone_past c cs b flags first old new mark i y l p rests free g x look steps h =
       looks = λ e. cc;
       marks = d.marks ++ walk.goes i ∷ [];
       there = subst (IsInPart c cs b x new looks_nowhere) same (part_past c cs b x old new mark i y d.look (steps ++ d.marks) l p none d.there);
-      passes = λ places within k. subst (λ ss. ArePassedBy c.program places (walk_of c.program (plans_in cs) x ss).passed) same
-          (subst (λ (z : Walk). ArePassedBy c.program places z.passed) (sym (walk_append c.program (plans_in cs) (unborn x.versions) (steps ++ d.marks) (walk.goes i ∷ [])))
-          (mark_passed c (plans_in cs) (walk_of c.program (plans_in cs) x (steps ++ d.marks)) new.machine.state mark i flags places p.is free within (d.passes places within k)));
+      passes = subst (λ ss. PassesUnflagged c.program flags (walk_of c.program (plans_in cs) x steps) (walk_of c.program (plans_in cs) x ss)) same
+          (subst (PassesUnflagged c.program flags (walk_of c.program (plans_in cs) x steps)) (sym (walk_append c.program (plans_in cs) (unborn x.versions) (steps ++ d.marks) (walk.goes i ∷ [])))
+          (passes_both c.program flags (walk_of c.program (plans_in cs) x steps) (walk_of c.program (plans_in cs) x (steps ++ d.marks)) (after_item c.program (plans_in cs) (walk_of c.program (plans_in cs) x (steps ++ d.marks)) i)
+          d.passes (mark_passed c (plans_in cs) (walk_of c.program (plans_in cs) x (steps ++ d.marks)) new.machine.state mark i flags p.is free)));
     }
 
 pub gone_by : (c : Flow) (cs : List (Option Compiled)) (b : Birth) (flags : List ℕ) (first old new : Execution) (y : Position) → next_step c b old.stage old.machine ≡ goes None y

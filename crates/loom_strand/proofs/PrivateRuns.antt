@@ -28,11 +28,11 @@ use Rattle.loom_strand.specs.declared.stage.Want.TheVariants as want
 use Rattle.loom_strand.specs.Life.{has_none, has_ended, asks_cross, IsLastBlockedAt}
 use Rattle.loom_strand.specs.Halt.{PassesNextFrom, PassesNext}
 use Rattle.loom_strand.specs.Way.{end_line}
-use Rattle.loom_strand.specs.Strand.{Strand, plans, own_of, CanTake, IsOutrun, Requests, WaitsUnflagged, HeedsFlags, StaysAt, Parks, MayPark, KeepsParking, Wants, IsSameWant, request_in}
+use Rattle.loom_strand.specs.Strand.{Strand, plans, own_of, CanTake, IsOutrun, Requests, WaitsUnflagged, HeedsFlags, GoesUnflagged, StaysAt, Parks, MayPark, KeepsParking, Wants, IsSameWant, request_in}
 use Rattle.loom_strand.specs.StrandInvariant.{HasRoom, MayTake, AsksBegin, WaitingInvariant, LivingInvariant, StageInvariant, IsBlank, IsSound, StrandInvariant}
 use Rattle.loom_strand.specs.PrivateRun.{MayRunFrom, MayRun, GoesToHalt, StaysBlocked, RunsFrom, MayHaltFrom, MayHalt}
 use Rattle.loom_strand.proofs.Entrances.{entrance_within}
-use Rattle.loom_strand.proofs.PartSteps.{flat_tree}
+use Rattle.loom_strand.proofs.PartSteps.{flat_tree, gone_nowhere}
 use Rattle.loom_strand.proofs.Replies.{asks_begin_line}
 use Rattle.loom_strand.proofs.LastEntries.{ended_unblocked}
 use Rattle.loom_strand.proofs.LivingRuns.{went, LivesOn, lives_on, requests_of, stands_flagged, heeds_on, parks_on, stays_on, again_on, halted, blocked_lives, blocked_stands, blocked_keeps}
@@ -240,6 +240,7 @@ pub record HasComeTo (s : Strand) (b : Birth) (flags : List ℕ) (v : Version) (
   pub kept : StrandInvariant (went s v e x)
   pub wants : Wants (went s v e x) (Some b) flags x
   pub heeds : HeedsFlags s (went s v e x) (Some b) flags x
+  pub unflagged : GoesUnflagged s (went s v e x) (Some b) flags
   pub parks : KeepsParking s (went s v e x) (Some b) flags x
   pub stays : StaysAt s (went s v e x) (Some b) flags v
   pub again : (q : Request) → s.want ≡ Some q → v ≡ s.newest → IsSameWant q x
@@ -255,6 +256,7 @@ comes_on s b flags newer v e x i born takes few h = record {
   kept = goes_kept s b v e x i born takes few h.run.may h.run.notes.room (lives_on s b flags newer v e x h);
   wants = wants_living s b flags newer v e x h;
   heeds = heeds_on s b flags newer v e x h;
+  unflagged = h.run.gone;
   parks = parks_on s b flags newer v e x h;
   stays = stays_on s b flags newer v e x h;
   again = λ q is same. again_on s b flags newer v e x i.lawful h q is same;
@@ -272,6 +274,7 @@ comes_blocked s b flags v l i born takes few may h told flag = record {
   kept = stays_kept s b v (want.Place s.execution.place) i born takes few (living_stage s b v s.execution.stage may h);
   wants = blocked_stands s b flags v l may h told flag;
   heeds = tt;
+  unflagged = gone_nowhere (lowered s.program) s.filters b flags s.execution;
   parks = λ places within k. blocked_keeps s b v places k;
   stays = λ k w stops. w.stands.here;
   again = λ q is same. tt;
@@ -296,6 +299,7 @@ by_stage s b flags newer v e x stage.Waits p is h k =
           (subst (λ t. StageInvariant t (begins_so s b v) (Some b)) (sym is) (begin_waits s b v h));
       wants = begin_requests s b v p.low h;
       heeds = (never_begun s b flags is h, never_begun (begins_so s b v) b flags is (begin_waits s b v h));
+      unflagged = gone_nowhere (lowered s.program) s.filters b flags s.execution;
       parks = λ places within f. begin_parks s b v places p.low h;
       stays = λ n w stops. w.stands.here;
       again = λ q asked same. same_begin (end_line s.program b.func) s.want q h.asks asked;
@@ -309,6 +313,7 @@ by_stage s b flags newer v e x stage.Over p is h k =
           (subst (λ t. StageInvariant t (went s v s.execution want.Ended) (Some b)) (sym is) (record { function = h.function; whole = h.whole; ended = h.ended; asks = refl }));
       wants = record { whole = h.whole; ended = h.ended };
       heeds = (never_over s b flags is h.ended, never_over (went s v s.execution want.Ended) b flags is h.ended);
+      unflagged = gone_nowhere (lowered s.program) s.filters b flags s.execution;
       parks = tt;
       stays = λ n w stops. w.stands.here;
       again = λ q asked same. (let no : None ≡ Some q = sym h.asks ∙ asked in cc);

@@ -70,6 +70,13 @@ AreIn places flags = (k : ℕ) → has_place places k ≡ true → has_place fla
 abbrev pub ArePassedBy : Source → List ℕ → List Place → Type 0
 ArePassedBy p places xs = AllByRecursion (IsNoneOf p places) xs
 
+-- From the old walk to the new one no flagged place is passed: the new one has passed what the old one had, and since then these places (the latest is the first), of
+-- which none is flagged.
+pub record PassesUnflagged (p : Source) (flags : List ℕ) (old new : Walk) : Type 0 where
+  pub places : List Place
+  pub unflagged : ArePassedBy p flags places
+  pub adds : new.passed ≡ places ++ old.passed
+
 -- The thread went on past marks of which none is flagged.
 pub record HasGone (c : Flow) (cs : List (Option Compiled)) (b : Birth) (flags : List ℕ) (new : Execution) (x : Own) (first : Look) (steps : List PartStep) : Type 0 where
   pub look : Look
@@ -77,8 +84,7 @@ pub record HasGone (c : Flow) (cs : List (Option Compiled)) (b : Birth) (flags :
   pub looks : look ≡ looks_for_grant → first ≡ looks_for_grant
   pub marks : List PartStep
   pub there : IsInPart c cs b x new look (steps ++ marks)
-  pub passes : (places : List ℕ) → AreIn places flags → ArePassedBy c.program places (walk_of c.program (plans_in cs) x steps).passed
-      → ArePassedBy c.program places (walk_of c.program (plans_in cs) x (steps ++ marks)).passed
+  pub passes : PassesUnflagged c.program flags (walk_of c.program (plans_in cs) x steps) (walk_of c.program (plans_in cs) x (steps ++ marks))
 
 -- Whatever led it to where it was leads on to where it is.
 abbrev pub GoesOn : Flow → List (Option Compiled) → Birth → List ℕ → Execution → Execution → Type 0

@@ -28,7 +28,7 @@ use Rattle.loom_strand.specs.Life.{has_none, has_ended, awaits_end, asks_cross, 
 use Rattle.loom_strand.specs.Way.{Look, looks_for_grant, IsJoining, next_step}
 use Rattle.loom_strand.specs.declared.execution.Execution.{Execution}
 use Rattle.loom_strand.specs.Halt.{PassesNext}
-use Rattle.loom_strand.specs.InPart.{IsInPart, IsNoneOf, AreIn, ArePassedBy}
+use Rattle.loom_strand.specs.InPart.{IsInPart, IsNoneOf, AreIn, ArePassedBy, GoesOn}
 
 pub record Strand : Type 0 where
   pub program : Source
@@ -177,20 +177,22 @@ pub record WaitsAt (s : Strand) (b : Birth) (k : ℕ) : Type 0 where
   pub rests : ((queue s.execution.walk.owed ≡ []) × PassesNext (lowered s.program) b s.execution k) ⊎ (ends_blocked s.entries ≡ true)
 
 -- this mark is put down where the place is passed: an entry place, or a back-edge place
-abbrev pub IsMarkOf : Item → Place → Type 0
-IsMarkOf (enter f env) y = entry f ≡ y
-IsMarkOf (edge l) y = back_edge l ≡ y
-IsMarkOf _ y = ⊥
+abbrev pub IsMarkAt : Item → Place → Type 0
+IsMarkAt (enter f env) y = entry f ≡ y
+IsMarkAt (edge l) y = back_edge l ≡ y
+IsMarkAt _ y = ⊥
 
 -- A begun thread comes to a place that it passes: at a point behind its last entry nothing is owed, and the mark of that place comes next. So it is
 -- the place of an entry or a back edge, and not that of a request.
 pub record ComesToPass (p : Source) (ps : Plans) (x : Own) (y : Place) : Type 0 where
   pub point : Point p ps x
   pub rests : (walk_of p ps x point.steps).owed ≡ []
-  pub passes : IsMarkOf point.next y
+  pub passes : IsMarkAt point.next y
 
--- It waits at a place that is flagged. Where it isn't blocked, that is a place which it comes to pass.
+-- It has begun and lives, and waits at a place that is flagged. Where it isn't blocked, that is a place which it comes to pass.
 pub record StandsFlagged (s : Strand) (b : Birth) (flags : List ℕ) (k : ℕ) : Type 0 where
+  pub begun : has_none s.entries ≡ false
+  pub lives : has_ended s.entries ≡ false
   pub flagged : has_place flags k ≡ true
   pub waits : WaitsAt s b k
   pub passes : ends_blocked s.entries ≡ false → ComesToPass s.program (plans s) (own_of s b) waits.stands.place
@@ -205,6 +207,11 @@ abbrev pub HeedsFlags : Strand → Strand → Option Birth → List ℕ → Want
 HeedsFlags old new None flags x = ⊥
 HeedsFlags old new (Some b) flags (w.Place k) = Unit {0}
 HeedsFlags old new (Some b) flags x = WaitsUnflagged old b flags × WaitsUnflagged new b flags
+
+-- Whatever steps led the thread to where it was, some marks lead it on to where it is, and it passes no flagged place with them.
+abbrev pub GoesUnflagged : Strand → Strand → Option Birth → List ℕ → Type 0
+GoesUnflagged old new None flags = ⊥
+GoesUnflagged old new (Some b) flags = GoesOn (lowered old.program) old.filters b flags old.execution new.execution
 
 -- Where it waits it stays, while the place is flagged or a newer version is to be taken there. Of a thread that wasn't started nothing is said.
 abbrev pub StaysAt : Strand → Strand → Option Birth → List ℕ → Version → Type 0

@@ -8,7 +8,7 @@ ghost use Rattle.loom_law.specs.Laws.{with_newest};
 ghost use Rattle.loom_law.specs.TurnLaws.{is_blocked_entry};
 ghost use Rattle.loom_version.specs.Plans.{AreFiltersOf};
 ghost use Rattle.loom_strand.specs.Reply.{takes_version, versions_behind};
-ghost use Rattle.loom_strand.specs.Strand.{IsNew, IsSameThread, IsStarted, CanTake, HasOwnPart, Wants, KeepsParking, StaysAt, HeedsFlags, PassesAnew, WaitsOn, IsOutrun, IsSameWant, IsReply, request_in};
+ghost use Rattle.loom_strand.specs.Strand.{IsNew, IsSameThread, IsStarted, CanTake, HasOwnPart, Wants, KeepsParking, StaysAt, HeedsFlags, GoesUnflagged, PassesAnew, WaitsOn, IsOutrun, IsSameWant, IsReply, request_in};
 
 use crate::args::args_of;
 use crate::execution::Execution;
@@ -17,6 +17,7 @@ use crate::newer::{VERSION_ROOM, is_newer};
 use crate::reply::{Reply, reply_of, takes_version, want_behind};
 use crate::stage::{Birth, Stage, Want};
 use loom_flow::flow::Flow;
+use loom_history::history::History;
 use loom_lang::program::Program;
 use loom_trace::entry::Entry;
 use loom_trace::places::Places;
@@ -31,9 +32,9 @@ use std::sync::Arc;
 
 /// One thread: what it did so far, and where it is.
 ///
-/// It keeps its entries, with room for as many as it may make, and the versions that it has taken. It shares the program with the flat code that it
-/// runs, and the filters with the other threads.
-#[derive(Debug, Drop)]
+/// It keeps the versions that it has taken, and of its entries only how many it may make: clauses speak of their list, which takes no memory. It
+/// shares the program with the flat code that it runs, and the filters with the other threads.
+#[derive(Drop)]
 pub struct Strand {
     program: Arc<Program>,
     plans: Arc<Plans>,
@@ -44,7 +45,8 @@ pub struct Strand {
     newest: Version,
     want: Option<Request>,
     execution: Execution,
-    entries: Vec<Entry>,
+    limit: u32,
+    entries: History<Entry>,
 }
 
 impl Model for Strand {
@@ -65,7 +67,7 @@ impl Model for Strand {
       program = arc_value s.program;
       filters = arc_value s.plans;
       thread = s.thread;
-      limit = vec_capacity s.entries;
+      limit = s.limit;
       birth = s.birth;
       versions = s.versions.items;
       newest = s.newest;
@@ -78,7 +80,7 @@ impl Model for Strand {
       program = arc_value s.program;
       filters = arc_value s.plans;
       thread = s.thread;
-      limit = vec_capacity s.entries;
+      limit = s.limit;
       birth = s.birth;
       versions = s.versions.items;
       newest = s.newest;
@@ -111,7 +113,7 @@ fn take_version(versions: &mut Vec<Version>, newest: Version, answer: Reply)
 }
 
 impl Strand {
-    /// A thread of this number that wasn't started, with room for 256 frames, 129 versions and so many entries. The filters are those of commands in
+    /// A thread of this number that wasn't started, with room for 256 frames and 129 versions, which makes at most so many entries. The filters are those of commands in
     /// the flat code's program. It takes all of its memory here. An `Err` is want of memory.
     pub fn make(
         alloc: Global,
@@ -127,7 +129,6 @@ impl Strand {
         let machine = Machine::make(alloc, flow.most_values())?;
         let walk = FilterWalk::make(alloc, limit)?;
         let versions = Vec::with_capacity(alloc, VERSION_ROOM)?;
-        let entries = Vec::with_capacity(alloc, limit as usize)?;
         let execution = Execution {
             stage: Stage::Waits,
             machine,
@@ -143,7 +144,8 @@ impl Strand {
             newest: Version::first(),
             want: None,
             execution,
-            entries,
+            limit,
+            entries: History::new(),
         })
     }
 
@@ -185,7 +187,7 @@ impl Strand {
     /// request. At a flagged place it halts in two cases alone: the mark of that place is what it would pass next, or `Blocked` was the last that it
     /// told and the place where it waits is flagged. Flags are looked at before the version. Where its last entry isn't `Blocked`, the place is one
     /// that it comes to pass: nothing is owed and its mark is next, so the place of its request alone is never told. A thread that has made its
-    /// `End` has ended.
+    /// `End` has ended. From where it was to where it is it passes no flagged place.
     ///
     /// The version is the one that it has, or a later one.
     pub fn run_private(&mut self, flow: &Flow, version: &Version, flags: &Places) -> Want
@@ -196,6 +198,7 @@ impl Strand {
         ensures newest { self.new.newest ≡ version.now }
         ensures wants { Wants self.new self.new.birth flags.now result }
         ensures heeds { HeedsFlags self.old self.new self.new.birth flags.now result }
+        ensures unflagged { GoesUnflagged self.old self.new self.new.birth flags.now }
         ensures parks { KeepsParking self.old self.new self.new.birth flags.now result }
         ensures first { IsOutrun self.old.versions version.now → self.new.execution.walk.passed ≡ self.old.execution.walk.passed }
         ensures stays { StaysAt self.old self.new self.new.birth flags.now version.now }
@@ -238,6 +241,6 @@ impl Strand {
         self.execution.take(flow, &self.plans, self.newest, answer);
         take_version(&mut self.versions, self.newest, answer);
         self.want = want_behind(answer, self.want);
-        self.entries.push_reserved(e);
+        self.entries = self.entries.with(&e);
     }
 }

@@ -2,3 +2,4 @@ pub mod Version
 pub mod Laws
 pub mod Plans
 pub mod SlowFunctions
+pub mod LineTable

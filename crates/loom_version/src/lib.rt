@@ -4,6 +4,7 @@
 mod active;
 pub mod laws;
 pub mod limits;
+mod line_table;
 pub mod plans;
 mod slow;
 pub mod version;

@@ -1,11 +1,15 @@
 //! The filters of a run's commands.
-ghost use Rattle.std.specs.Prelude.{◌≡◌, ◌==◌, ◌<◌, ◌≤◌, ℕ, Some, None, IfOk, if◌then◌else◌};
+ghost use Rattle.std.specs.Prelude.{◌≡◌, ◌==◌, ◌<◌, ◌≤◌, ℕ, false, [], Some, None, IfOk, if◌then◌else◌};
 ghost use Rattle.std.specs.Option.{option_copied};
+ghost use Rattle.loom_lang.specs.Trace.{Locals};
 ghost use Rattle.loom_command.specs.Script.{most_commands};
-ghost use Rattle.loom_version.specs.Plans.{compiled_at};
+ghost use Rattle.loom_law.specs.Filter.{statement, matching};
+ghost use Rattle.loom_version.specs.Plans.{compiled_at, plans_in};
 
 use crate::limits::COMMAND_LIMIT;
+use crate::line_table::{entry_of, put_lines};
 use loom_plan::compiled::Compiled;
+use loom_trace::places::Places;
 use loom_tree::name::NoMemory;
 use std::alloc::Global;
 use std::marker::Model;
@@ -14,13 +18,15 @@ use std::marker::Model;
 #[derive(Debug, Drop)]
 pub struct Plans {
     rows: Vec<Option<Compiled>>,
+    // the lines at which they have events, as numbers below 8,192
+    table: Places,
 }
 
 impl Model for Plans {
-    ghost use Rattle.std.specs.Prelude.{◌≡◌, List, Option, length};
+    ghost use Rattle.std.specs.Prelude.{List, Option};
     ghost use Rattle.std.specs.Coded.{coded_list, coded_option};
-    ghost use Rattle.loom_command.specs.Script.{most_commands};
     ghost use Rattle.loom_plan.specs.Compiled.{Compiled, compiled_code};
+    ghost use Rattle.loom_version.specs.LineTable.{KeepsLines};
 
     ghost Value = { List (Option Compiled) };
 
@@ -28,7 +34,7 @@ impl Model for Plans {
 
     ghost view = { λ p. p.rows.items };
 
-    ghost invariant = { λ p. length p.rows.items ≡ most_commands };
+    ghost invariant = { λ p. KeepsLines p.rows.items p.table };
 }
 
 impl Plans {
@@ -41,7 +47,10 @@ impl Plans {
         'rows: for _row in 0..COMMAND_LIMIT {
             rows.push_reserved(None);
         }
-        Ok(Plans { rows })
+        Ok(Plans {
+            rows,
+            table: Places::none(),
+        })
     }
 
     /// The filter of command `k` is this one. It takes no memory.
@@ -50,6 +59,7 @@ impl Plans {
         requires last { k ≤ most_commands }
         ensures { (j : ℕ) → compiled_at self.new j ≡ (if j == k then Some c else compiled_at self.old j) }
     {
+        put_lines(&mut self.table, c.watches());
         self.rows[k as usize - 1] = Some(c);
     }
 
@@ -65,5 +75,13 @@ impl Plans {
             return None;
         }
         self.rows[i].as_ref()
+    }
+
+    /// Whether a filter has an event at the statement of this line. It is a read of one table, and may also say so of a line that is 8,192 lines, or a
+    /// multiple of that, from one with an event.
+    pub fn may_watch(&self, line: u32) -> bool
+        ensures { result ≡ false → (k : ℕ) (env : Locals) → matching (plans_in self.now k) (statement line) env ≡ [] }
+    {
+        self.table.has(entry_of(line))
     }
 }

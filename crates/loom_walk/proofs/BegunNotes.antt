@@ -1,5 +1,5 @@
 -- Notes of the events that began with open statements.
-use Rattle.std.proofs.Common.{ℕ, suc, ◌<◌, ◌≡◌, ◌==◌, Bool, true, false, ◌&&◌, List, [], ◌∷◌, ◌++◌, length, map, if◌then◌else◌, refl, sym, ap, ◌∙◌, append_assoc, arith}
+use Rattle.std.proofs.Common.{ℕ, zero, suc, ◌-◌, ◌<◌, ◌≡◌, ◌==◌, Bool, true, false, ◌&&◌, List, [], ◌∷◌, ◌++◌, length, take, map, slice_get, Option, Some, None, if◌then◌else◌, refl, sym, ap, ◌∙◌, append_assoc, arith}
 use Rattle.std.specs.List.{list_any}
 use Rattle.std.proofs.lemmas.Bool.{ne_eqb, eq-eqb, and_left, and_right, or_parts, or_from}
 use Rattle.std.proofs.lemmas.List.{reverse-append}
@@ -8,7 +8,7 @@ use Rattle.loom_law.specs.Filter.{has}
 use Rattle.loom_law.specs.Walk.{OpenStatement, OpenFrame, Inside, in_frame, close_statement, without_first, begun_with, events_of_filter, note_events}
 use Rattle.loom_plan.specs.Sets.{event_numbers}
 use Rattle.loom_walk.specs.declared.event_notes.EventNote.{EventNote}
-use Rattle.loom_walk.specs.Notes.{IsFirstStatement, IsTopStatement, IsFirstAlone, IsInnermost, BegunEvents, begun_of, begun_by, begun_with_statement, begun_in_frame, begun_in, AreEventNotes, is_of_statement, is_of_frame, events_of_statement, behind_those}
+use Rattle.loom_walk.specs.Notes.{IsFirstStatement, IsTopStatement, IsFirstAlone, IsInnermost, BegunEvents, begun_of, begun_by, begun_with_statement, begun_in_frame, begun_in, AreEventNotes, is_of_statement, is_of_frame, is_first_of, events_of_statement, behind_those}
 
 abbrev begun : ℕ → ℕ → ℕ → List ℕ → BegunEvents
 begun d l k ns = record { depth = d; line = l; filter = k; events = ns }
@@ -134,6 +134,60 @@ events_told notes [] d l k are n h = absurd h
 events_told notes (x ∷ xs) d l k are n h =
     ap (λ (bs : List BegunEvents). events_of_statement d l k bs) are
     ∙ (ap (λ (m : ℕ). events_of_statement m l k (begun_in (x ∷ xs))) (sym n) ∙ events_top xs x.func x.statements x.inside l k h)
+
+-- The newest note is the last one.
+
+no_more : (ns : List EventNote) → length ns ≡ 0 → ns ≡ []
+no_more [] h = refl
+no_more (n ∷ ns) h = absurd (omega arith)
+
+some_same : (a b : EventNote) → Some a ≡ Some b → a ≡ b
+some_same a b e = cc
+
+last_at : (ns : List EventNote) (i : ℕ) (x : EventNote) → suc i ≡ length ns → slice_get ns i ≡ Some x → ns ≡ take i ns ++ x ∷ []
+last_at [] i x h e = absurd (omega arith)
+last_at (n ∷ ns) zero x h e = ap (λ (z : List EventNote). n ∷ z) (no_more ns (omega arith)) ∙ ap (λ (z : EventNote). z ∷ []) (some_same n x e)
+last_at (n ∷ ns) (suc i) x h e = ap (λ (z : List EventNote). n ∷ z) (last_at ns i x (omega arith) e)
+
+last_of : (ns : List EventNote) (x : EventNote) → Some x ≡ slice_get ns (length ns - 1) → ns ≡ take (length ns - 1) ns ++ x ∷ []
+last_of [] x e = cc
+last_of (n ∷ ns) x e = last_at (n ∷ ns) (length (n ∷ ns) - 1) x (omega arith) (sym e)
+
+first_of_last : (notes front : List EventNote) (n : EventNote) (d l : ℕ) → notes ≡ front ++ n ∷ [] → ((n.depth == d) && (n.line == l)) ≡ is_first_of d l (begun_by notes)
+first_of_last notes front n d l e =
+    sym (ap (λ (ns : List EventNote). is_first_of d l (begun_by ns)) e ∙ ap (λ (ns : List EventNote). is_first_of d l (map begun_of ns)) (reverse-append front (n ∷ [])))
+
+pub newest_is : (notes : List EventNote) (n : EventNote) (d l : ℕ) → Some n ≡ slice_get notes (length notes - 1)
+    → ((n.depth == d) && (n.line == l)) ≡ is_first_of d l (begun_by notes)
+newest_is notes n d l e = first_of_last notes (take (length notes - 1) notes) n d l (last_of notes n e)
+
+pub newest_none : (notes : List EventNote) (d l : ℕ) → None ≡ slice_get notes (length notes - 1) → false ≡ is_first_of d l (begun_by notes)
+newest_none [] d l e = refl
+newest_none (n ∷ ns) d l e = absurd (there (n ∷ ns) (length (n ∷ ns) - 1) (omega arith) (sym e))
+  where
+    there : (ms : List EventNote) (i : ℕ) → i < length ms → slice_get ms i ≡ None → ⊥
+    there [] i low e = omega arith
+    there (m ∷ ms) zero low e = cc
+    there (m ∷ ms) (suc i) low e = there ms i (omega arith) e
+
+-- Where the first of all is of another statement, nothing began with this one.
+
+none_of_first : (xs : List OpenFrame) (func l : ℕ) (ss : List OpenStatement) (is : List Inside) → IsFirstAlone l ss
+    → is_first_of (suc (length xs)) l (begun_in_frame (suc (length xs)) ss ++ begun_in xs) ≡ false
+    → begun_with (record { func = func; statements = ss; inside = is } ∷ xs) ≡ []
+none_of_first xs func l [] is alone other = refl
+none_of_first xs func l (s ∷ ss) is alone other = by s.events (ap (λ (bs : List BegunEvents). is_first_of (suc (length xs)) l bs) (sym (first_apart xs s ss l alone.0)) ∙ other)
+  where
+    by : (es : List (ℕ × List ℕ)) → is_first_of (suc (length xs)) l (begun_with_statement (suc (length xs)) l es ++ (begun_in_frame (suc (length xs)) ss ++ begun_in xs)) ≡ false → es ≡ []
+    by [] h = refl
+    by (e ∷ es) h = let clash : true ≡ false = sym (own (suc (length xs)) l) ∙ h in absurd cc
+
+pub none_began : (notes : List EventNote) (fs : List OpenFrame) (d l : ℕ) → AreEventNotes notes fs → length fs ≡ d → IsInnermost l fs → is_first_of d l (begun_by notes) ≡ false
+    → begun_with fs ≡ []
+none_began notes [] d l are n h other = absurd h
+none_began notes (x ∷ xs) d l are n h other =
+    none_of_first xs x.func l x.statements x.inside h
+    (ap (λ (m : ℕ). is_first_of m l (begun_in (x ∷ xs))) n ∙ (ap (λ (bs : List BegunEvents). is_first_of d l bs) (sym are) ∙ other))
 
 -- A frame
 

@@ -4,7 +4,8 @@ use Rattle.loom_tree.specs.Tree.{Source}
 use Rattle.loom_lang.specs.Places.{Place, place_at}
 use Rattle.loom_flow.specs.State.{named}
 use Rattle.loom_law.specs.Filter.{Site, Ruling, Plan, matching, has, clauses}
-use Rattle.loom_law.specs.Walk.{OpenFrame, Inside, Queue, leave, holds, owed_by, owed_past, owed_leaves, is_inside_clause, events_of_filter, begun_with}
+use Rattle.loom_law.specs.Walk.{OpenFrame, Inside, Plans, Queue, leave, holds, owed_by, owed_at, owed_past, owed_behind, owed_leaves, is_inside_clause, events_of_filter, begun_with}
+use Rattle.loom_lang.specs.Trace.{Locals}
 use Rattle.loom_plan.specs.declared.sets.EventSet.{EventSet}
 use Rattle.loom_plan.specs.declared.sets.ClauseSet.{ClauseSet}
 use Rattle.loom_plan.specs.Sets.{event_numbers, clause_numbers}
@@ -39,6 +40,11 @@ begun_there cs c p k n l vs x site hs events old new rest e there px sx match by
 pub nothing_begun : (f : Plan) (k : ℕ) (hs : List (ℕ × ℕ)) (l : ℕ) (ns : List ℕ) (more : Queue) → ns ≡ [] → owed_by f k hs l ns more ≡ more
 nothing_begun f k hs l ns more e = ap (λ (ms : List ℕ). owed_by f k hs l ms more) e
 
+pub none_begun : (plans : Plans) (hs : List (ℕ × ℕ)) (l : ℕ) (site : Site) (env : Locals) (ks : List ℕ) → ((k : ℕ) → matching (plans k) site env ≡ []) → [] ≡ owed_at plans hs l site env ks
+none_begun plans hs l site env [] none = refl
+none_begun plans hs l site env (k ∷ ks) none =
+    none_begun plans hs l site env ks none ∙ sym (nothing_begun (plans k) k hs l (matching (plans k) site env) (owed_at plans hs l site env ks) (none k))
+
 -- behind a statement
 pub complete_there : (cs : List (Option Compiled)) (c : Compiled) (k l : ℕ) (hs : List (ℕ × ℕ)) (fs : List OpenFrame) (events : EventSet) (old new rest : Queue) → compiled_at cs k ≡ Some c
     → event_numbers events ≡ events_of_filter k (begun_with fs) → owed_past c.plan k hs fs l (event_numbers events) old ≡ rest → new ≡ rest
@@ -49,6 +55,12 @@ complete_there cs c k l hs fs events old new rest e these by is =
 
 pub nothing_complete : (f : Plan) (k : ℕ) (hs : List (ℕ × ℕ)) (fs : List OpenFrame) (l : ℕ) (ns ms : List ℕ) (more : Queue) → ms ≡ [] → ms ≡ ns → more ≡ owed_past f k hs fs l ns more
 nothing_complete f k hs fs l ns ms more e g = ap (λ (xs : List ℕ). owed_past f k hs fs l xs more) (sym e ∙ g)
+
+pub none_complete : (plans : Plans) (hs : List (ℕ × ℕ)) (fs : List OpenFrame) (l : ℕ) (xs : List (ℕ × List ℕ)) (ks : List ℕ) → xs ≡ [] → [] ≡ owed_behind plans hs fs l xs ks
+none_complete plans hs fs l xs [] e = refl
+none_complete plans hs fs l xs (k ∷ ks) e =
+    none_complete plans hs fs l xs ks e
+    ∙ nothing_complete (plans k) k hs fs l (events_of_filter k xs) [] (owed_behind plans hs fs l xs ks) refl (sym (ap (events_of_filter k) e))
 
 -- behind a frame
 pub left_there : (cs : List (Option Compiled)) (c : Compiled) (k l : ℕ) (hs : List (ℕ × ℕ)) (is : List Inside) (old new rest : Queue) → compiled_at cs k ≡ Some c

@@ -4,9 +4,9 @@ use Rattle.std.specs.Prelude.{◌==◌}
 use Rattle.std.specs.List.{AllByRecursion, filter}
 use Rattle.std.proofs.lemmas.List.{length-append, length-map, map-append}
 use Rattle.loom_tree.specs.Tree.{Source}
-use Rattle.loom_lang.specs.Places.{Place, place_at, line_of_place}
+use Rattle.loom_lang.specs.Places.{Place, inside, place_at, line_of_place}
 use Rattle.loom_flow.specs.State.{named}
-use Rattle.loom_law.specs.Filter.{Site, has}
+use Rattle.loom_law.specs.Filter.{Site, statement, has}
 use Rattle.loom_law.specs.Laws.{HasOneNumber}
 use Rattle.loom_law.specs.Walk.{Version, Plans, Inside, OpenFrame, Spot, Queue, tick, tick_after, with_tick, with_back, begun_with, owed_at, owed_behind, all_leaves, still_owed, new_filters, owed_fresh, owed_behind_cross}
 use Rattle.loom_plan.specs.Compiled.{Compiled}
@@ -84,6 +84,18 @@ queue_begun p cs vs rows ks active n i l x site hs a o e g line same all there h
     ∙ (f p x site hs i (there_all p cs ks active same all) there here held
     ∙ (ap (λ (js : List ℕ). owed_at (plans_in cs) hs i site (named (names_at p n) vs) js) same
     ∙ ap (λ (j : ℕ). owed_at (plans_in cs) hs j site (named (names_at p n) vs) active) line))
+
+-- at the beginning of a statement
+pub queue_statement : (p : Source) (cs : List (Option Compiled)) (vs : List ℤ) (rows : List ClauseRow) (ks active : List ℕ) (n i l : ℕ) (hs : List (ℕ × ℕ)) (a o : Owed)
+    → a ≡ nothing_on i → GrowsByAll ks a o → i ≡ l → ks ≡ active → AreThere p cs active → place_at p n ≡ Some (inside l) → AreHoldings rows hs
+    → ((q : Source) (gs : List (ℕ × ℕ)) (j : ℕ) → AreThere q cs ks → place_at q n ≡ Some (inside i) → AreHoldings rows gs
+    → rows_queue j o.rows [] ≡ owed_at (plans_in cs) gs j (statement i) (named (names_at q n) vs) ks)
+    → queue o ≡ owed_at (plans_in cs) hs l (statement l) (named (names_at p n) vs) active
+queue_statement p cs vs rows ks active n i l hs a o e g line same all there held f =
+    grown_queue ks i a o e g
+    ∙ (f p hs i (there_all p cs ks active same all) (subst (λ (m : ℕ). place_at p n ≡ Some (inside m)) (sym line) there) held
+    ∙ (ap (λ (js : List ℕ). owed_at (plans_in cs) hs i (statement i) (named (names_at p n) vs) js) same
+    ∙ ap (λ (j : ℕ). owed_at (plans_in cs) hs j (statement j) (named (names_at p n) vs) active) line))
 
 pub queue_behind_statement : (plans : Plans) (ks active : List ℕ) (i : ℕ) (fs : List OpenFrame) (hs : List (ℕ × ℕ)) (a o : Owed) → a ≡ nothing_on i → GrowsByAll ks a o → ks ≡ active
     → ((j : ℕ) → rows_queue j o.rows [] ≡ owed_behind plans hs fs j (begun_with fs) ks) → queue o ≡ owed_behind plans hs fs i (begun_with fs) active

@@ -74,6 +74,11 @@ is_of_statement d l b = (b.depth == d) && (b.line == l)
 abbrev pub is_of_frame : ℕ → BegunEvents → Bool
 is_of_frame d b = b.depth == d
 
+-- the first of them is of that statement
+abbrev pub is_first_of : ℕ → ℕ → List BegunEvents → Bool
+is_first_of d l [] = false
+is_first_of d l (b ∷ bs) = is_of_statement d l b
+
 -- the events of filter k in those at the front that are of that statement
 abbrev pub events_of_statement : ℕ → ℕ → ℕ → List BegunEvents → List ℕ
 events_of_statement d l k [] = []

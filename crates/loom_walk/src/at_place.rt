@@ -1,9 +1,9 @@
 //! What filters make a thread do at a place, before it goes on.
 ghost use Rattle.std.specs.Prelude.{◌≡◌, ◌<◌, ◌≤◌, ℕ, true, [], List, length, Some};
 ghost use Rattle.loom_tree.specs.Tree.{Source};
-ghost use Rattle.loom_lang.specs.Places.{Place, places, place_at};
+ghost use Rattle.loom_lang.specs.Places.{Place, inside, places, place_at};
 ghost use Rattle.loom_flow.specs.State.{named};
-ghost use Rattle.loom_law.specs.Filter.{Site, has, matching};
+ghost use Rattle.loom_law.specs.Filter.{Site, statement, has, matching};
 ghost use Rattle.loom_law.specs.Lawful.{filter_limit};
 ghost use Rattle.loom_law.specs.Walk.{owed_by, owed_at};
 ghost use Rattle.loom_plan.specs.PlaceEvents.{names_at, site_at};
@@ -61,4 +61,26 @@ pub(crate) fn add_all_before(
         n -= 1;
         add_before(owed, clauses, plans, ks[n], place, locals);
     }
+}
+
+/// The same at the beginning of a statement of this line, which costs a read of one table where no filter has an event on the line.
+pub(crate) fn add_all_at_statement(
+    owed: &mut Owed,
+    clauses: &ClauseRows,
+    plans: &Plans,
+    ks: &[u8],
+    line: u32,
+    place: u16,
+    locals: &[i64],
+)
+    requires nothing { owed.old.rows ≡ [] }
+    requires few { length ks.now ≤ filter_limit }
+    requires there { (k : ℕ) → has ks.now k ≡ true → HasPlace plans.now k place }
+    ensures grows { GrowsByAll ks.now owed.old owed.new }
+    ensures queue { (p : Source) (hs : List (ℕ × ℕ)) (l : ℕ) → AreThere p plans.now ks.now → place_at p place ≡ Some (inside line) → AreHoldings clauses.now hs → rows_queue l owed.new.rows [] ≡ owed_at (plans_in plans.now) hs l (statement line) (named (names_at p place) locals.now) ks.now }
+{
+    if !plans.may_watch(line) {
+        return;
+    }
+    add_all_before(owed, clauses, plans, ks, place, locals);
 }

@@ -45,7 +45,7 @@ fn add_behind(
     }
 }
 
-/// What these filters make the thread do there is owed, in their order.
+/// What these filters make the thread do there is owed, in their order. Where no event began with the statement, one note is read.
 pub(crate) fn add_all_behind(
     owed: &mut Owed,
     clauses: &ClauseRows,
@@ -63,6 +63,9 @@ pub(crate) fn add_all_behind(
     ensures grows { GrowsByAll ks.now owed.old owed.new }
     ensures queue { (fs : List OpenFrame) (hs : List (ℕ × ℕ)) (l : ℕ) → AreEventNotes events.now.notes fs → AreRegionNotes (plans_in plans.now) regions.now.notes fs → length fs ≡ depth → IsInnermost line fs → AreHoldings clauses.now hs → rows_queue l owed.new.rows [] ≡ owed_behind (plans_in plans.now) hs fs l (begun_with fs) ks.now }
 {
+    if !events.has_statement(depth, line) {
+        return;
+    }
     let mut n = ks.len();
     'down: while n > 0 {
         n -= 1;

@@ -1,8 +1,8 @@
 //! The events that began with open statements.
-ghost use Rattle.std.specs.Prelude.{◌≡◌, ◌==◌, ◌<◌, ◌≤◌, ◌&&◌, [], ◌∷◌, ◌++◌, List, IfOk, length, take};
+ghost use Rattle.std.specs.Prelude.{◌≡◌, ◌==◌, ◌<◌, ◌≤◌, ◌&&◌, [], ◌∷◌, ◌++◌, List, IfOk, false, length, take};
 ghost use Rattle.loom_law.specs.Walk.{OpenFrame, in_frame, close_statement, without_first, begun_with, events_of_filter};
 ghost use Rattle.loom_plan.specs.Sets.{event_numbers};
-ghost use Rattle.loom_walk.specs.Notes.{begun_by, AreEventNotes, IsInnermost, is_of_statement, is_of_frame, events_of_statement, behind_those};
+ghost use Rattle.loom_walk.specs.Notes.{begun_by, AreEventNotes, IsInnermost, is_of_statement, is_of_frame, is_first_of, events_of_statement, behind_those};
 
 use loom_plan::sets::EventSet;
 use loom_tree::name::NoMemory;
@@ -47,6 +47,16 @@ impl EventNote {
         ensures { result ≡ ((self.depth == depth) && (self.line == line)) }
     {
         self.depth == depth && self.line == line
+    }
+}
+
+// Whether the newest note is of the statement of this line, in the frame of this depth.
+fn is_newest(notes: &[EventNote], depth: u16, line: u32) -> bool
+    ensures { result ≡ is_first_of depth line (begun_by notes.now) }
+{
+    match notes.last() {
+        None => false,
+        Some(note) => note.is_of(depth, line),
     }
 }
 
@@ -113,6 +123,13 @@ impl EventNotes {
         ensures { self.new ≡ record self.old { notes = self.old.notes ++ note ∷ [] } }
     {
         self.notes.push_reserved(note);
+    }
+
+    /// Whether events began with the innermost statement, which has this line, of the top frame, which has this depth. Only the newest note is asked.
+    pub(crate) fn has_statement(&self, depth: u16, line: u32) -> bool
+        ensures { (fs : List OpenFrame) → AreEventNotes self.now.notes fs → length fs ≡ depth → IsInnermost line fs → result ≡ false → begun_with fs ≡ [] }
+    {
+        is_newest(self.notes.as_slice(), depth, line)
     }
 
     /// The events of filter `k` that began with the innermost statement, which has this line, of the top frame, which has this depth.

@@ -17,7 +17,7 @@ ghost use Rattle.loom_walk.specs.Owed.{HasOperations, queue, IsFirstOf};
 ghost use Rattle.loom_walk.specs.Notes.{IsInnermost};
 ghost use Rattle.loom_walk.specs.FilterWalk.{first_walk, IsAt, HasFilters, HasLocalsAt, HasNewBehind, IsInstructionAct, IsOnlyMade, IsFirstOperation, KeepsRoom, NotesOneMore};
 
-use crate::at_place::add_all_before;
+use crate::at_place::{add_all_at_statement, add_all_before};
 use crate::behind_frame::add_all_leaves;
 use crate::behind_statement::add_all_behind;
 use crate::clause_rows::ClauseRows;
@@ -172,11 +172,12 @@ impl FilterWalk {
         let line = place_line(flow, place);
         self.spot = Spot::Beginning(line, place);
         self.owed.restart(line);
-        add_all_before(
+        add_all_at_statement(
             &mut self.owed,
             &self.clauses,
             plans,
             self.version.active(),
+            line,
             place,
             locals,
         );

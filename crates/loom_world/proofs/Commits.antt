@@ -1,5 +1,5 @@
 -- A turn of a thread: what its entry, or a note of where it stands, leaves of strands.
-use Rattle.std.proofs.Common.{ℕ, ◌≤◌, ◌≡◌, ◌⊎◌, inl, inr, ◌==◌, Bool, true, false, not, ◌&&◌, List, [], ◌∷◌, ◌++◌, length, Option, Some, None, refl, sym, ap, ◌∙◌, subst, arith, if◌then◌else◌}
+use Rattle.std.proofs.Common.{ℕ, ◌≤◌, ◌≡◌, inl, inr, ◌==◌, Bool, true, false, not, ◌&&◌, List, [], ◌∷◌, ◌++◌, length, Option, Some, None, refl, sym, ap, ◌∙◌, subst, arith, if◌then◌else◌}
 use Rattle.std.proofs.lemmas.Bool.{eq-eqb}
 use Rattle.loom_lang.specs.Places.{Place, nowhere, place_at}
 use Rattle.loom_trace.specs.Limits.{thread_limit}
@@ -23,9 +23,9 @@ use Rattle.loom_world.specs.declared.choice.Why.TheVariants as why
 use Rattle.loom_world.specs.declared.choice.Choice.TheVariants as c
 use Rattle.loom_world.specs.Book.{Book, IsOfSameRun, setting, front, stand_at, IsStandOf, HasLawfulJournal}
 use Rattle.loom_world.specs.Idle.{CanTurn, HindersThread, IsFoundAtFlag, IsKeptByFlag, StandsAtFlag, IsAtFlagBy, IsAtFlag}
-use Rattle.loom_world.specs.Turned.{StandsAtPlace, NotesBehind, NotesBy, IsNoted, Moves, noted}
-use Rattle.loom_world.specs.Flags.{IsUnderWay, IsFlaggedNow}
-use Rattle.loom_world.specs.Asking.{Asks, forgotten, MakesAnswer}
+use Rattle.loom_world.specs.Turned.{StandsAtPlace, NotesBehind, NotesBy, IsNoted, Moves}
+use Rattle.loom_world.specs.Flags.{IsFlaggedNow}
+use Rattle.loom_world.specs.Asking.{Asks, MakesAnswer}
 use Rattle.loom_world.specs.Threads.{IsBirthOf, HasKeptAway, HasPassedNone, WaitsFound, WaitsFree, HasStrandPart, IsStrandOf, RequestsSo, IsBehind, KeepsOthers}
 use Rattle.loom_world.proofs.ControlState.{thread_keeps}
 use Rattle.loom_world.proofs.OwnVersions.{version_stays}
@@ -35,7 +35,6 @@ use Rattle.loom_world.proofs.Strands.{entries_few, birth_kept}
 use Rattle.loom_world.proofs.StandsBehind.{forgotten_here, forgotten_other, noted_other, noted_here, some_noted, book_noted}
 use Rattle.loom_world.proofs.Turning.{its_own, stand_of}
 use Rattle.loom_world.proofs.OneStand.{one_stand}
-use Rattle.loom_world.proofs.ThreadTurns.{IsAwake, awake}
 
 differ : (u t : ℕ) → (u == t) ≡ false → t ≡ u → ⊥
 differ u t other same = let yes : (u == t) ≡ true = eq-eqb u t (sym same) in let no : true ≡ false = sym yes ∙ other in cc

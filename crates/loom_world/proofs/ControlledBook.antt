@@ -18,7 +18,7 @@ use Rattle.loom_law.specs.Filter.{Plan, has}
 use Rattle.loom_law.specs.Walk.{Version}
 use Rattle.loom_law.specs.Control.{Command, command_at, install, remove, means, have_one_name, Control, first_control, control, listed_places}
 use Rattle.loom_law.specs.TurnLaws.{is_blocked_entry}
-use Rattle.loom_law.specs.Lawful.{plans, running_thread, run_is_over, is_installed, is_name_used, refusal, IsBlocked, IsBlockedBy, IsDue, Ends, EndsSo, MayControl}
+use Rattle.loom_law.specs.Lawful.{plans, run_is_over, is_installed, is_name_used, refusal, IsDue, Ends, EndsSo, MayControl}
 use Rattle.loom_law.specs.Laws.{IsUnfinished}
 use Rattle.loom_law.proofs.Lawful.{beginning}
 use Rattle.loom_law.proofs.NoCommands.{none_unfinished}

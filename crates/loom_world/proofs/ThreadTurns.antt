@@ -12,14 +12,13 @@ use Rattle.loom_law.specs.TurnLaws.{ends_blocked}
 use Rattle.loom_strand.specs.declared.stage.Birth.{Birth}
 use Rattle.loom_strand.specs.declared.stage.Want.TheVariants as want
 use Rattle.loom_strand.specs.Life.{has_none, has_ended}
-use Rattle.loom_strand.specs.Strand.{Strand, IsSameThread, IsStarted, IsOutrun, Requests, WaitsAt, StandsFlagged, StaysAt, KeepsFrom, Parks, MayPark, KeepsParking, Wants, IsOver, own_of, HeedsFlags, WaitsOn, PassesAnew}
-use Rattle.loom_world.specs.Book.{Book, front, stand_at, found_at, found_place, IsStandOf, HasLawfulJournal, IsOfSameRun, setting}
+use Rattle.loom_strand.specs.Strand.{Strand, IsSameThread, IsStarted, IsOutrun, Requests, WaitsAt, StandsFlagged, StaysAt, KeepsFrom, Parks, MayPark, KeepsParking, Wants, IsOver, HeedsFlags}
+use Rattle.loom_world.specs.Book.{Book, front, stand_at, found_at, found_place, IsStandOf, HasLawfulJournal}
 use Rattle.loom_world.specs.Flags.{IsUnderWay, AreFlagsFor, AreFlags, IsFlaggedNow}
-use Rattle.loom_world.specs.Idle.{IsLive, IsAtFlagBy, IsAtFlag, StandsAtFlag, IsFoundAtFlag, CommandGoesFirst, StaysFound}
-use Rattle.loom_world.specs.Asking.{minds_flags, Asks, forgotten, MakesAnswer}
-use Rattle.loom_world.specs.Threads.{IsBirthOf, HasKeptAway, HasPassedNone, WaitsFound, HasStrandPart, IsStrandOf, RequestsSo, WaitsFree, IsBehind, KeepsThreads, KeepsOthers}
+use Rattle.loom_world.specs.Idle.{IsLive, IsAtFlagBy, IsAtFlag, IsFoundAtFlag, StaysFound}
+use Rattle.loom_world.specs.Asking.{minds_flags, Asks}
+use Rattle.loom_world.specs.Threads.{IsBirthOf, HasKeptAway, HasPassedNone, WaitsFound, HasStrandPart, IsStrandOf, RequestsSo, WaitsFree}
 use Rattle.loom_world.proofs.Turning.{flags_up, IsItsOwn, keeps_from, its_own, stand_of, passes_of, asks_of, none_since, none_taken, none_there, runs, all_there, outrun_listed, flags_down}
-use Rattle.loom_strand.specs.InPart.{AreIn}
 use Rattle.loom_world.proofs.LongerBook.{under_way, flags_nowhere}
 use Rattle.loom_world.proofs.InvariantReadings.{not_true}
 use Rattle.loom_world.proofs.MindsFlags.{minds_so, minds_since}

@@ -45,7 +45,7 @@ use std::marker::Model;
 use std::sync::Arc;
 
 /// A run of a program, as far as it is: its journal, its store and its threads.
-#[derive(Debug, Drop)]
+#[derive(Drop)]
 pub struct World {
     flow: Flow,
     book: Book,

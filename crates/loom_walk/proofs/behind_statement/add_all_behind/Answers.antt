@@ -1,9 +1,20 @@
-use Rattle.std.proofs.Common.{ℕ, ◌-◌, List, length, refl, subst, ◌∙◌, ap, arith}
+use Rattle.std.proofs.Common.{ℕ, ◌-◌, List, [], length, refl, subst, ◌∙◌, ap, arith}
 use Rattle.loom_law.specs.Walk.{Queue, begun_with, events_of_filter, owed_past, owed_behind}
 use Rattle.loom_version.specs.Plans.{plans_in}
+use Rattle.loom_walk.specs.declared.owed.OwedRow.{OwedRow}
+use Rattle.loom_walk.specs.Owed.{rows_queue}
 use Rattle.loom_walk.specs.Growth.{GrowsByAll}
+use Rattle.loom_walk.proofs.FilterQueues.{none_complete}
 use Rattle.loom_walk.proofs.GrowthSteps.{nothing_grows, grows_down, owed_down, has_at, room_left, queue_of_none, drop_none}
 use Rattle.loom_walk.proofs.behind_statement.add_all_behind.Goals as goal
+
+pub returns-then-not-has_statement-clause-grows : goal.returns-then-not-has_statement-clause-grows
+returns-then-not-has_statement-clause-grows c = nothing_grows c.args.ks.now c.args.owed.now c.requires.nothing
+
+pub returns-then-not-has_statement-clause-queue : goal.returns-then-not-has_statement-clause-queue
+returns-then-not-has_statement-clause-queue c fs hs l es rs deep inner held =
+    ap (λ (rows : List OwedRow). rows_queue l rows []) c.requires.nothing
+    ∙ none_complete (plans_in c.args.plans.now) hs fs l (begun_with fs) c.args.ks.now (c.has_statement.ensures fs es deep inner c.if-not-has_statement.true)
 
 pub down-init : goal.down-init
 down-init c = record {

@@ -1,6 +1,4 @@
-use Rattle.std.proofs.Common.{◌≡◌, refl, sym, ap, ◌∙◌, subst}
-use Rattle.loom_event.specs.Replay.{ThreadState, thread_at}
-use Rattle.loom_law.specs.Lawful.{running_thread}
+use Rattle.std.proofs.Common.{refl, sym, ap, ◌∙◌, subst}
 use Rattle.loom_world.specs.Book.{Book, IsStandOf}
 use Rattle.loom_world.specs.Turned.{StandsAtPlace, NotesBehind}
 use Rattle.loom_world.specs.Threads.{WaitsFound, HasStrandPart}

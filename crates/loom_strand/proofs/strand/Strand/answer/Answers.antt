@@ -57,15 +57,15 @@ invariant_of-self c =
     subst (λ d. Takes d s.filters s.newest s.execution c.take.new.self c.in-Some.answer) flat
     (subst (λ cs. Takes c.args.flow.now cs s.newest s.execution c.take.new.self c.in-Some.answer) c.deref.ensures c.take.ensures) in
     let kept : IsKept s h.birth c.args.e c.take.new.self = taken_kept s c.args.e c.in-Some.answer c.take.new.self h is takes in
-    let view : IsView s c.args.e c.take_version.new.versions.items c.push_reserved.new.self.items c.want_behind-self-inside.result (vec_capacity c.push_reserved.new.self) = record {
+    let view : IsView s c.args.e c.take_version.new.versions.items c.with-self-inside.result.items c.want_behind-self-inside.result s.limit = record {
       versions = c.take_version.ensures.versions ∙ newest_same c.args.e c.in-Some.answer s.newest s.versions is;
-      entries = c.push_reserved.ensures.items;
+      entries = c.with-self-inside.ensures;
       want = c.want_behind-self-inside.ensures ∙ ap (λ o. want_behind o s.want) (sym is);
-      limit = c.push_reserved.ensures.capacity;
+      limit = refl;
     } in
-    let new : StrandInvariant (view_with s c.take_version.new.versions.items c.push_reserved.new.self.items c.want_behind-self-inside.result (vec_capacity c.push_reserved.new.self) c.take.new.self) =
-    by_view (λ (z : Strand). StrandInvariant z) s c.args.e c.take.new.self c.take_version.new.versions.items c.push_reserved.new.self.items c.want_behind-self-inside.result
-    (vec_capacity c.push_reserved.new.self) view kept.kept in
+    let new : StrandInvariant (view_with s c.take_version.new.versions.items c.with-self-inside.result.items c.want_behind-self-inside.result s.limit c.take.new.self) =
+    by_view (λ (z : Strand). StrandInvariant z) s c.args.e c.take.new.self c.take_version.new.versions.items c.with-self-inside.result.items c.want_behind-self-inside.result
+    s.limit view kept.kept in
     record { versions = c.take_version.ensures.room ∙ c.self.invariant.versions; kept = new }
 
 pub returns-clause-same : goal.returns-clause-same
@@ -75,16 +75,16 @@ returns-clause-same c =
     let few : length s.entries < s.limit = subst (λ (z : Strand). length z.entries < z.limit) (sym c.self.view_is) c.requires.room in
     let h : HasTaken s c.args.e = has_taken s c.args.e c.self.invariant.kept few reply in
     let is : reply_of c.args.e ≡ Some c.in-Some.answer = sym c.reply_of.ensures ∙ c.in-Some.is in
-    let view : IsView s c.args.e c.take_version.new.versions.items c.push_reserved.new.self.items c.want_behind-self-inside.result (vec_capacity c.push_reserved.new.self) = record {
+    let view : IsView s c.args.e c.take_version.new.versions.items c.with-self-inside.result.items c.want_behind-self-inside.result s.limit = record {
       versions = c.take_version.ensures.versions ∙ newest_same c.args.e c.in-Some.answer s.newest s.versions is;
-      entries = c.push_reserved.ensures.items;
+      entries = c.with-self-inside.ensures;
       want = c.want_behind-self-inside.ensures ∙ ap (λ o. want_behind o s.want) (sym is);
-      limit = c.push_reserved.ensures.capacity;
+      limit = refl;
     } in
     subst (λ (z : Strand). IsSameThread z z.birth (with_newest c.args.e z.newest z.versions) (z.entries ++ c.args.e ∷ [])
-    (view_with s c.take_version.new.versions.items c.push_reserved.new.self.items c.want_behind-self-inside.result (vec_capacity c.push_reserved.new.self) c.take.new.self)) c.self.view_is
+    (view_with s c.take_version.new.versions.items c.with-self-inside.result.items c.want_behind-self-inside.result s.limit c.take.new.self)) c.self.view_is
     (by_view (λ (z : Strand). IsSameThread s s.birth (with_newest c.args.e s.newest s.versions) (s.entries ++ c.args.e ∷ []) z) s c.args.e c.take.new.self c.take_version.new.versions.items
-    c.push_reserved.new.self.items c.want_behind-self-inside.result (vec_capacity c.push_reserved.new.self) view
+    c.with-self-inside.result.items c.want_behind-self-inside.result s.limit view
     (record { program = refl; filters = refl; thread = refl; limit = refl; birth = refl; versions = refl; entries = refl }))
 
 pub returns-clause-part : goal.returns-clause-part
@@ -100,15 +100,15 @@ returns-clause-part c =
     subst (λ d. Takes d s.filters s.newest s.execution c.take.new.self c.in-Some.answer) flat
     (subst (λ cs. Takes c.args.flow.now cs s.newest s.execution c.take.new.self c.in-Some.answer) c.deref.ensures c.take.ensures) in
     let kept : IsKept s h.birth c.args.e c.take.new.self = taken_kept s c.args.e c.in-Some.answer c.take.new.self h is takes in
-    let view : IsView s c.args.e c.take_version.new.versions.items c.push_reserved.new.self.items c.want_behind-self-inside.result (vec_capacity c.push_reserved.new.self) = record {
+    let view : IsView s c.args.e c.take_version.new.versions.items c.with-self-inside.result.items c.want_behind-self-inside.result s.limit = record {
       versions = c.take_version.ensures.versions ∙ newest_same c.args.e c.in-Some.answer s.newest s.versions is;
-      entries = c.push_reserved.ensures.items;
+      entries = c.with-self-inside.ensures;
       want = c.want_behind-self-inside.ensures ∙ ap (λ o. want_behind o s.want) (sym is);
-      limit = c.push_reserved.ensures.capacity;
+      limit = refl;
     } in
-    subst (λ o. HasOwnPart (view_with s c.take_version.new.versions.items c.push_reserved.new.self.items c.want_behind-self-inside.result (vec_capacity c.push_reserved.new.self) c.take.new.self) o) (sym h.is)
-    (by_view (λ (z : Strand). HasOwnPart z (Some h.birth)) s c.args.e c.take.new.self c.take_version.new.versions.items c.push_reserved.new.self.items c.want_behind-self-inside.result
-    (vec_capacity c.push_reserved.new.self) view kept.part)
+    subst (λ o. HasOwnPart (view_with s c.take_version.new.versions.items c.with-self-inside.result.items c.want_behind-self-inside.result s.limit c.take.new.self) o) (sym h.is)
+    (by_view (λ (z : Strand). HasOwnPart z (Some h.birth)) s c.args.e c.take.new.self c.take_version.new.versions.items c.with-self-inside.result.items c.want_behind-self-inside.result
+    s.limit view kept.part)
 
 pub returns-clause-waits : goal.returns-clause-waits
 returns-clause-waits c told =
@@ -129,17 +129,17 @@ returns-clause-stands c told =
     subst (λ d. Takes d s.filters s.newest s.execution c.take.new.self c.in-Some.answer) flat
     (subst (λ cs. Takes c.args.flow.now cs s.newest s.execution c.take.new.self c.in-Some.answer) c.deref.ensures c.take.ensures) in
     let kept : IsKept s h.birth c.args.e c.take.new.self = taken_kept s c.args.e c.in-Some.answer c.take.new.self h is takes in
-    let view : IsView s c.args.e c.take_version.new.versions.items c.push_reserved.new.self.items c.want_behind-self-inside.result (vec_capacity c.push_reserved.new.self) = record {
+    let view : IsView s c.args.e c.take_version.new.versions.items c.with-self-inside.result.items c.want_behind-self-inside.result s.limit = record {
       versions = c.take_version.ensures.versions ∙ newest_same c.args.e c.in-Some.answer s.newest s.versions is;
-      entries = c.push_reserved.ensures.items;
+      entries = c.with-self-inside.ensures;
       want = c.want_behind-self-inside.ensures ∙ ap (λ o. want_behind o s.want) (sym is);
-      limit = c.push_reserved.ensures.capacity;
+      limit = refl;
     } in
-    subst (λ o. WaitsOn c.args.self.now (view_with s c.take_version.new.versions.items c.push_reserved.new.self.items c.want_behind-self-inside.result (vec_capacity c.push_reserved.new.self) c.take.new.self) o)
+    subst (λ o. WaitsOn c.args.self.now (view_with s c.take_version.new.versions.items c.with-self-inside.result.items c.want_behind-self-inside.result s.limit c.take.new.self) o)
     (sym h.is) (
       c.take.ensures.place ∙ ap (λ (z : Strand). z.execution.place) c.self.view_is,
-      by_view (λ (z : Strand). WaitsAt z h.birth z.execution.place) s c.args.e c.take.new.self c.take_version.new.versions.items c.push_reserved.new.self.items c.want_behind-self-inside.result
-          (vec_capacity c.push_reserved.new.self) view (waits_behind s h.birth c.args.e c.take.new.self kept told),
+      by_view (λ (z : Strand). WaitsAt z h.birth z.execution.place) s c.args.e c.take.new.self c.take_version.new.versions.items c.with-self-inside.result.items c.want_behind-self-inside.result
+          s.limit view (waits_behind s h.birth c.args.e c.take.new.self kept told),
     )
 
 pub returns-clause-passes : goal.returns-clause-passes
@@ -155,12 +155,12 @@ returns-clause-passes c =
     subst (λ d. Takes d s.filters s.newest s.execution c.take.new.self c.in-Some.answer) flat
     (subst (λ cs. Takes c.args.flow.now cs s.newest s.execution c.take.new.self c.in-Some.answer) c.deref.ensures c.take.ensures) in
     let kept : IsKept s h.birth c.args.e c.take.new.self = taken_kept s c.args.e c.in-Some.answer c.take.new.self h is takes in
-    let view : IsView s c.args.e c.take_version.new.versions.items c.push_reserved.new.self.items c.want_behind-self-inside.result (vec_capacity c.push_reserved.new.self) = record {
+    let view : IsView s c.args.e c.take_version.new.versions.items c.with-self-inside.result.items c.want_behind-self-inside.result s.limit = record {
       versions = c.take_version.ensures.versions ∙ newest_same c.args.e c.in-Some.answer s.newest s.versions is;
-      entries = c.push_reserved.ensures.items;
+      entries = c.with-self-inside.ensures;
       want = c.want_behind-self-inside.ensures ∙ ap (λ o. want_behind o s.want) (sym is);
-      limit = c.push_reserved.ensures.capacity;
+      limit = refl;
     } in
-    subst (λ o. PassesAnew (view_with s c.take_version.new.versions.items c.push_reserved.new.self.items c.want_behind-self-inside.result (vec_capacity c.push_reserved.new.self) c.take.new.self) o) (sym h.is)
-    (by_view (λ (z : Strand). PassesAnew z (Some h.birth)) s c.args.e c.take.new.self c.take_version.new.versions.items c.push_reserved.new.self.items c.want_behind-self-inside.result
-    (vec_capacity c.push_reserved.new.self) view kept.passes)
+    subst (λ o. PassesAnew (view_with s c.take_version.new.versions.items c.with-self-inside.result.items c.want_behind-self-inside.result s.limit c.take.new.self) o) (sym h.is)
+    (by_view (λ (z : Strand). PassesAnew z (Some h.birth)) s c.args.e c.take.new.self c.take_version.new.versions.items c.with-self-inside.result.items c.want_behind-self-inside.result
+    s.limit view kept.passes)

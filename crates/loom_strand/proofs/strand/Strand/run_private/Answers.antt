@@ -1,6 +1,6 @@
 use Rattle.std.proofs.Common.{◌≡◌, ◌≤◌, ◌∙◌, sym, ap, subst}
 use Rattle.loom_version.specs.Version.{version_limit}
-use Rattle.loom_strand.specs.Strand.{Strand, CanTake, Wants, KeepsParking, HeedsFlags, StaysAt}
+use Rattle.loom_strand.specs.Strand.{Strand, CanTake, Wants, KeepsParking, HeedsFlags, GoesUnflagged, StaysAt}
 use Rattle.loom_strand.specs.StrandInvariant.{StrandInvariant}
 use Rattle.loom_strand.specs.PrivateRun.{MayHalt}
 use Rattle.loom_strand.specs.contracts.strand.Strand.{the_view}
@@ -59,6 +59,21 @@ returns-clause-heeds c =
     subst (λ (z : Strand). HeedsFlags z (record (went s c.args.version.now c.halt-want.new.self c.halt-want.result) { want = c.request_in-self-inside.result }) c.self.inside.birth c.args.flags.now c.halt-want.result) c.self.view_is
     (subst (λ o. HeedsFlags s (record (went s c.args.version.now c.halt-want.new.self c.halt-want.result) { want = o }) c.self.inside.birth c.args.flags.now c.halt-want.result) (sym c.request_in-self-inside.ensures)
     (subst (λ b. HeedsFlags s (went s c.args.version.now c.halt-want.new.self c.halt-want.result) b c.args.flags.now c.halt-want.result) (sym c.in-Some.is) h.heeds))
+
+pub returns-clause-unflagged : goal.returns-clause-unflagged
+returns-clause-unflagged c =
+    let s : Strand = the_view c.self.inside in
+    let program : c.args.flow.now.program ≡ s.program = c.requires.program ∙ ap (λ (z : Strand). z.program) (sym c.self.view_is) in
+    let flat = flat_of c.args.flow.now s.program c.code.ensures.lowered program in
+    let takes : CanTake s c.args.version.now = subst (λ (z : Strand). CanTake z c.args.version.now) (sym c.self.view_is) c.requires.version in
+    let few : c.args.version.now.number ≤ version_limit = subst (λ n. n ≤ version_limit) c.number.ensures.is c.number.ensures.most in
+    let ran : IsPrivateRun s c.in-Some.birth c.args.flags.now c.is_newer-newer.result c.args.version.now c.halt-want.new.self c.halt-want.result =
+    private_run c.args.flow.now c.deref-2.result.now c.deref.result.now s c.in-Some.birth c.args.flags.now c.is_newer-newer.result c.args.version.now c.halt-want.new.self c.halt-want.result flat c.deref-2.ensures c.deref.ensures.value
+    c.code.ensures.lowered c.self.invariant.kept c.in-Some.is takes few c.is_newer-newer.ensures c.halt-want.ensures in
+    let h : HasComeTo s c.in-Some.birth c.args.flags.now c.args.version.now c.halt-want.new.self c.halt-want.result = come_to s c.in-Some.birth c.args.flags.now c.is_newer-newer.result c.args.version.now c.halt-want.new.self c.halt-want.result ran in
+    subst (λ (z : Strand). GoesUnflagged z (record (went s c.args.version.now c.halt-want.new.self c.halt-want.result) { want = c.request_in-self-inside.result }) c.self.inside.birth c.args.flags.now) c.self.view_is
+    (subst (λ o. GoesUnflagged s (record (went s c.args.version.now c.halt-want.new.self c.halt-want.result) { want = o }) c.self.inside.birth c.args.flags.now) (sym c.request_in-self-inside.ensures)
+    (subst (λ b. GoesUnflagged s (went s c.args.version.now c.halt-want.new.self c.halt-want.result) b c.args.flags.now) (sym c.in-Some.is) h.unflagged))
 
 pub returns-clause-parks : goal.returns-clause-parks
 returns-clause-parks c =

@@ -1,9 +1,7 @@
 //! What runs with scripts write, row by row.
 
-use crate::alone::shelf_of;
 use crate::filters::{CALL, INC, REC};
-use crate::rows::SUM;
-use loom_io::memory::{MemShelf, MemSink};
+use loom_io::memory::{Calls, Files, MemShelf, MemSink};
 use loom_top::alone::loom_alone;
 use loom_tree::name::{Name, NoMemory};
 use std::alloc::Global;
@@ -19,10 +17,16 @@ pub(crate) struct Row {
     pub(crate) text: &'static [u8],
 }
 
+// A sum, printed.
+const SUM: &[u8] = b"fn main() {\n  print 2 + 3;\n}\n";
+
 const SUM_TEXT: &[u8] = b"5\n---\n1:1 begin\n1:2 print 5\n1:1 end\nfinish done\n";
 
 // A thread locks its own mutex again.
 const TWICE: &[u8] = b"mutex m;\nfn main() {\nlock m;\nlock m;\n}\n";
+
+/// A loop with no end.
+pub(crate) const LOOP: &[u8] = b"fn main() {\nwhile (1) {\nskip;\n}\n}\n";
 
 const ROWS: [Row; 14] = [
     Row {
@@ -126,28 +130,47 @@ const ROWS: [Row; 14] = [
 ];
 
 /// The same with a limit.
-const LIMIT_ROWS: [Row; 3] = [
-    Row {
-        name: "a command that is due at the limit",
-        program: SUM,
-        script: b"at 3 remove a\n",
-        status: 8,
-        text: b"5\n---\n1:1 begin\n1:2 print 5\n1:1 end\nunreached 1\nfinish limit\n",
-    },
-    Row {
-        name: "a command before the limit",
-        program: SUM,
-        script: b"at 2 remove a\n",
-        status: 8,
-        text: b"5\n---\n1:1 begin\n1:2 print 5\nasked 1\nrefused 1 12 0\n1:1 end\nfinish limit\n",
-    },
-    Row {
-        name: "a loop with no end",
-        program: b"fn main() {\nwhile (1) {\nskip;\n}\n}\n",
-        script: b"at 0 install a main() <> *\nat 9 remove a",
-        status: 8,
-        text: b"---\nasked 1\nrefused 1 15 1\n1:1 begin\n1:2 tick 3\n1:2 tick 3\nunreached 2\nfinish limit\n",
-    },
+const LIMIT_ROWS: [(Row, &str); 4] = [
+    (
+        Row {
+            name: "a command that is due at the limit",
+            program: SUM,
+            script: b"at 3 remove a\n",
+            status: 8,
+            text: b"5\n---\n1:1 begin\n1:2 print 5\n1:1 end\nunreached 1\nfinish limit\n",
+        },
+        "3",
+    ),
+    (
+        Row {
+            name: "a command before the limit",
+            program: SUM,
+            script: b"at 2 remove a\n",
+            status: 8,
+            text: b"5\n---\n1:1 begin\n1:2 print 5\nasked 1\nrefused 1 12 0\n1:1 end\nfinish limit\n",
+        },
+        "3",
+    ),
+    (
+        Row {
+            name: "a loop with no end",
+            program: LOOP,
+            script: b"at 0 install a main() <> *\nat 9 remove a",
+            status: 8,
+            text: b"---\nasked 1\nrefused 1 15 1\n1:1 begin\n1:2 tick 3\n1:2 tick 3\nunreached 2\nfinish limit\n",
+        },
+        "3",
+    ),
+    (
+        Row {
+            name: "one command, behind the limit",
+            program: LOOP,
+            script: b"at 9 remove a",
+            status: 8,
+            text: b"---\n1:1 begin\n1:2 tick 3\n1:2 tick 3\n1:2 tick 3\n1:2 tick 3\nunreached 1\nfinish limit\n",
+        },
+        "5",
+    ),
 ];
 
 /// Filters of the program with two threads, and how each is refused.
@@ -182,10 +205,15 @@ pub(crate) fn shelf_with(
     program: &[u8],
     script: &[u8],
 ) -> Result<MemShelf, NoMemory> {
-    let mut shelf = shelf_of(alloc, name, program)?;
-    let file = (Name::copied(alloc, b"s.txt")?, Name::copied(alloc, script)?);
-    shelf.files.0.push(file)?;
-    Ok(shelf)
+    let mut files = Vec::new(alloc);
+    files.push((Name::copied(alloc, name)?, Name::copied(alloc, program)?))?;
+    files.push((Name::copied(alloc, b"s.txt")?, Name::copied(alloc, script)?))?;
+    Ok(MemShelf {
+        files: Files(files),
+        failing: Calls(Vec::new(alloc)),
+        calls: 0,
+        faults: 0,
+    })
 }
 
 /// Runs the program and the script of a row.
@@ -215,10 +243,21 @@ pub(crate) fn run_rows<R: Abort + AllocGlobal>(
     Ok(())
 }
 
+/// The same with the limit of each.
+pub(crate) fn run_limit_rows<R: Abort + AllocGlobal>(
+    rt: &R,
+    rows: &[(Row, &str)],
+) -> Result<(), Fail> {
+    for (row, steps) in rows {
+        run_row(rt, row, &["run", "p.lm", "s.txt", "--steps", *steps])?;
+    }
+    Ok(())
+}
+
 #[test]
 fn runs_scripts(rt: HostRuntime) -> Result<(), Fail> {
     run_rows(&rt, &ROWS, &["run", "p.lm", "s.txt"])?;
-    run_rows(&rt, &LIMIT_ROWS, &["run", "p.lm", "s.txt", "--steps", "3"])
+    run_limit_rows(&rt, &LIMIT_ROWS)
 }
 
 // The name of a file is what stands behind the last `/` of its word.

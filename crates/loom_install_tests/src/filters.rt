@@ -1,6 +1,6 @@
 //! What `show` writes of filters, row by row.
 
-use crate::alone::shelf_of;
+use crate::scripts::shelf_with;
 use loom_io::memory::MemSink;
 use loom_top::alone::loom_alone;
 use std::process::Abort;
@@ -129,7 +129,7 @@ fn show_rows<R: Abort + AllocGlobal>(
 ) -> Result<(), Fail> {
     for row in rows {
         let filter = row.filter;
-        let mut shelf = shelf_of(rt.alloc(), file.as_bytes(), program)?;
+        let mut shelf = shelf_with(rt.alloc(), file.as_bytes(), program, b"")?;
         let mut sink = MemSink::make(rt.alloc(), 4096, 4096)?;
         let words = ["show", file, filter];
         let status = loom_alone(rt.alloc(), &words, &mut shelf, &mut sink);
@@ -168,7 +168,7 @@ fn takes_long_filters(rt: HostRuntime) -> Result<(), Fail> {
         for word in &texts {
             words.push(word.as_str())?;
         }
-        let mut shelf = shelf_of(rt.alloc(), b"inc.lm", INC)?;
+        let mut shelf = shelf_with(rt.alloc(), b"inc.lm", INC, b"")?;
         let mut sink = MemSink::make(rt.alloc(), 4096, 4096)?;
         let status = loom_alone(rt.alloc(), &words, &mut shelf, &mut sink);
         assert_eq!(rt; status, wanted, "with {length} bytes");
@@ -195,7 +195,7 @@ fn shows_the_most_places(rt: HostRuntime) -> Result<(), Fail> {
     }
     program.extend_from_slice(b"}\n")?;
     wanted.extend_from_slice(b"unsafe 8194 line 1\n")?;
-    let mut shelf = shelf_of(rt.alloc(), b"p.lm", &program)?;
+    let mut shelf = shelf_with(rt.alloc(), b"p.lm", &program, b"")?;
     let mut sink = MemSink::make(rt.alloc(), 262_144, 262_144)?;
     let words = ["show", "p.lm", "main() <> *"];
     let status = loom_alone(rt.alloc(), &words, &mut shelf, &mut sink);

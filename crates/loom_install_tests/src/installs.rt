@@ -1,12 +1,16 @@
 //! What runs write into which scripts put filters of exclusions.
 
 use crate::filters::{CALL, INC};
-use crate::scripts::{Row, run_row, run_rows};
+use crate::scripts::{LOOP, Row, run_limit_rows, run_rows};
 use std::test::Fail;
 
 // A function that is left with a value.
 const RET: &[u8] =
     b"shared x;\nfn f() {\nx = 1;\nreturn x;\n}\nfn main() {\nlet v = f();\nprint v;\n}\n";
+
+// A function in which the first thread that comes divides by 0, and the second one doesn't.
+const TRAP: &[u8] =
+    b"shared x;\nfn f() {\nx = x + 1;\nprint 6 / (x - 1);\n}\nfn main() {\nlet t = spawn f();\nf();\njoin t;\n}\n";
 
 // Two threads at one semaphore.
 const HOLD: &[u8] =
@@ -17,7 +21,7 @@ const PARK: &[u8] =
     b"mutex m;\nshared x;\nfn w() {\nlock m;\nx = 1;\nunlock m;\n}\nfn main() {\nlock m;\nlet t = spawn w();\nlet i = 0;\nwhile (i < 2) {\nprint i;\ni = i + 1;\n}\nunlock m;\njoin t;\n}\n";
 
 /// Filters that go in, and one that comes out.
-const FIRST_ROWS: [Row; 7] = [
+const FIRST_ROWS: [Row; 9] = [
     Row {
         name: "a lost update that is bypassed",
         program: INC,
@@ -38,6 +42,20 @@ const FIRST_ROWS: [Row; 7] = [
         script: b"at 0 install r f()\n",
         status: 0,
         text: b"1\n---\nasked 1\ninstalled 1 1 0 0 0 0 0 0 0 0\n1:6 begin\n1:2 enter 1 1\n1:2 at 1 1\n1:3 write 0 1\n1:4 read 0 1\n1:2 back\n1:2 leave 1 1\n1:8 print 1\n1:6 end\nfinish done\n",
+    },
+    Row {
+        name: "a trap inside a region",
+        program: b"shared x;\nfn main() {\nx = 1;\nprint 1 / 0;\n}\n",
+        script: b"at 0 install r {p.lm:3; p.lm:4}\n",
+        status: 0,
+        text: b"---\nasked 1\ninstalled 1 1 0 0 0 0 0 0 0 0\n1:2 begin\n1:3 enter 1 1\n1:3 at 1 1\n1:3 write 0 1\n1:3 past 1 1\n1:4 at 1 2\n1:4 trap 1\n1:4 leave 1 1\n1:2 end\nfinish done\n",
+    },
+    Row {
+        name: "a trap inside a region, for which another thread waits",
+        program: TRAP,
+        script: b"at 0 install r {p.lm:3; p.lm:4}\n",
+        status: 0,
+        text: b"6\n---\nasked 1\ninstalled 1 1 0 0 0 0 0 0 0 0\n1:6 begin\n1:7 spawn 2 0\n2:2 begin\n1:3 enter 1 1\n2:3 blocked enter 1 1\n1:3 at 1 1\n1:3 read 0 0\n1:3 write 0 1\n1:3 past 1 1\n1:4 at 1 2\n1:4 read 0 1\n1:4 trap 1\n1:4 leave 1 1\n2:3 enter 1 1\n1:6 end\n2:3 at 1 1\n2:3 read 0 1\n2:3 write 0 2\n2:3 past 1 1\n2:4 at 1 2\n2:4 read 0 2\n2:4 print 6\n2:4 past 1 2\n2:4 leave 1 1\n2:2 end\nfinish done\n",
     },
     Row {
         name: "a filter that comes out while threads are inside and blocked",
@@ -151,7 +169,7 @@ const LATER_ROWS: [Row; 11] = [
 ];
 
 /// Runs with a limit.
-const LIMIT_ROWS: [(Row, &str); 7] = [
+const LIMIT_ROWS: [(Row, &str); 8] = [
     (
         Row {
             name: "a command that isn't reached",
@@ -215,12 +233,22 @@ const LIMIT_ROWS: [(Row, &str); 7] = [
     (
         Row {
             name: "a limit inside a region",
-            program: b"fn main() {\nwhile (1) {\nskip;\n}\n}\n",
+            program: LOOP,
             script: b"at 1 install f {p.lm:3; p.lm:3}\nat 9 remove f\n",
             status: 8,
             text: b"---\n1:1 begin\nasked 1\ninstalled 1 1 1 0 0 0 0 0 0 0\n1:1 cross 1 1 0\n1:3 enter 1 1\n1:3 at 1 1 2\n1:3 past 1 1 2\nunreached 2\nfinish limit\n",
         },
         "5",
+    ),
+    (
+        Row {
+            name: "a limit where each thread stands for a removal, with an install of the same name behind it",
+            program: INC,
+            script: b"at 0 install fix {p.lm:3; p.lm:3} <> {p.lm:7; p.lm:7}\nat 5 remove fix\nat 6 install fix {p.lm:3; p.lm:3} <> {p.lm:7; p.lm:7}\n",
+            status: 8,
+            text: b"---\nasked 1\ninstalled 1 1 0 0 0 0 0 0 0 0\n1:5 begin\n1:6 spawn 2 0\n2:2 begin\n1:7 enter 1 1\n2:3 blocked enter 1 1\nasked 2\n1:7 at 1 3 4\n1:7 read 0 0\n1:7 write 0 1\n1:7 past 1 3 4\n1:7 leave 1 1\n1:8 blocked join 2\ncut 2\nunreached 3\nfinish limit\n",
+        },
+        "11",
     ),
 ];
 
@@ -236,8 +264,5 @@ fn takes_filters_out_and_in(rt: HostRuntime) -> Result<(), Fail> {
 
 #[test]
 fn keeps_filters_to_the_limit(rt: HostRuntime) -> Result<(), Fail> {
-    for (row, steps) in &LIMIT_ROWS {
-        run_row(&rt, row, &["run", "p.lm", "s.txt", "--steps", *steps])?;
-    }
-    Ok(())
+    run_limit_rows(&rt, &LIMIT_ROWS)
 }

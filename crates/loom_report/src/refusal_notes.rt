@@ -1,12 +1,13 @@
 //! A sink that notes which filters and commands are refused.
-ghost use Rattle.std.specs.Prelude.{◌≡◌, ◌≤◌, ◌<◌, IfOk, OnOk, OnErr, length};
+ghost use Rattle.std.specs.Prelude.{ℕ, ◌≡◌, ◌≤◌, ◌<◌, ◌++◌, ◌∷◌, [], List, true, IfOk, OnOk, OnErr, length};
+ghost use Rattle.loom_report.specs.OpenLine.{HasLine, line_behind};
 
 use crate::reason::number_text;
 use loom_io::sink::{Sink, SinkFailed};
 use std::alloc::Global;
 use std::fmt;
 
-/// How many bytes of a line are looked at: with its LF, `refused 64 15 9` has fewer.
+/// How many bytes a line has at most that is looked at: with its LF, `refused 64 15 9` has fewer.
 const MOST_BYTES: usize = 32;
 
 /// What a line `refused ..` of standard output says.
@@ -60,19 +61,21 @@ impl fmt::Display for RefusalNote {
     }
 }
 
-/// What lines of a text say that something is refused, those for which memory is wanting aside.
+/// What lines of a text say that something is refused. A line for which memory is wanting is left out as a whole.
 #[derive(Drop)]
 pub struct RefusalNotes {
-    // the beginning of the line that isn't at its end yet
+    // the line that isn't at its end yet, where it is looked at
     line: Vec<u8>,
-    // that line begins like no such one, and isn't looked at
+    // that line isn't looked at: it begins like no such one, has too many bytes, or memory for one of them was wanting
     is_other: bool,
     notes: Vec<RefusalNote>,
 }
 
 impl RefusalNotes {
     /// Of no text.
-    pub fn new(alloc: Global) -> RefusalNotes {
+    pub fn new(alloc: Global) -> RefusalNotes
+        ensures { HasLine [] result }
+    {
         RefusalNotes {
             line: Vec::new(alloc),
             is_other: false,
@@ -85,30 +88,35 @@ impl RefusalNotes {
         self.notes.as_slice()
     }
 
-    // Notes the line that is at its end.
-    fn end_line(&mut self) {
+    // Notes the line that is at its end. The next one is looked at.
+    fn end_line(&mut self)
+        ensures anew { HasLine [] self.new }
+        ensures other { self.old.is_other ≡ true → self.new.notes.items ≡ self.old.notes.items }
+    {
         if self.is_other {
             self.is_other = false;
-            return;
-        }
-        if let Some(note) = note_of(self.line.as_slice()) {
+        } else if let Some(note) = note_of(self.line.as_slice()) {
             let _ = self.notes.push(note);
         }
         self.line.clear();
     }
 
-    // Goes on with a byte of a line.
-    fn add_byte(&mut self, b: u8) {
-        if self.line.is_empty() && b != b'r' {
+    // Goes on with a byte of a line. A line that can't be had whole isn't looked at.
+    fn add_byte(&mut self, b: u8)
+        ensures { HasLine (self.old.line.items ++ b ∷ []) self.new }
+    {
+        let is_other = self.line.is_empty() && b != b'r' || self.line.len() >= MOST_BYTES;
+        if is_other || self.line.push(b).is_err() {
+            self.line.clear();
             self.is_other = true;
-        } else if self.line.len() < MOST_BYTES {
-            let _ = self.line.push(b);
         }
     }
 
-    /// Goes on with more of the text.
-    pub fn add(&mut self, text: &[u8]) {
-        for b in text {
+    /// Goes on with more of the text. What the notes have of a line is all of it, or the line is none of theirs.
+    pub fn add(&mut self, text: &[u8])
+        ensures { (line : List ℕ) → HasLine line self.old → HasLine (line_behind line text.now) self.new }
+    {
+        'bytes: for b in text {
             if *b == b'\n' {
                 self.end_line();
             } else if !self.is_other {

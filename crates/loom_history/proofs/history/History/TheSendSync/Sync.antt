@@ -1,0 +1,8 @@
+-- a history owns nothing, so any thread may share it.
+use denote.RattleType.{RattleType}
+use denote.Param.Send.{IsSync, part_keyless}
+use Rattle.loom_history.specs.contracts.history.History.{the_row}
+use Rattle.loom_history.proofs.history.History.TheSendSync.Send.{send}
+
+pub sync : (A : RattleType) → IsSync (the_row A)
+sync A = record { shared = λ d b o κ q. part_keyless (the_row A) (send A) q d b o }

@@ -1,0 +1,4 @@
+//! Lists that only clauses read.
+#![tactic(auto)]
+
+pub mod history;
